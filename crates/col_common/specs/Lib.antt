@@ -1,0 +1,6 @@
+pub mod Reading
+pub mod VInt
+pub mod Causes
+pub mod Outside
+pub mod Refused
+pub mod Memory

@@ -1,0 +1,31 @@
+pub mod OnLiterals
+mod Rows
+mod RunForms
+mod Runs
+mod RefusedRuns
+mod FirstRuns
+mod Gen
+mod Calls
+mod Lines
+mod StackForms
+mod Stacks
+mod LeftStacks
+mod RightStacks
+mod Files
+mod OldColumns
+mod OldTermColumns
+pub mod StatsLaws
+pub mod WidthLaws
+pub mod U64ListLaws
+pub mod ReadingLaws
+pub mod FileLaws
+pub mod MergeLaws
+pub mod KeyLaws
+pub mod SlotLaws
+pub mod CollectLaws
+pub mod StackLaws
+pub mod RecordLaws
+pub mod FullLaws
+pub mod ScriptLaws
+pub mod OneFormLaws
+pub mod PackedBitLaws
