@@ -1,3 +1,4 @@
 pub mod BufferLemmas
 pub mod TellingLemmas
+pub mod SerializingLemmas
 pub mod VIntLemmas

@@ -35,5 +35,6 @@ pub mod Codes
 pub mod SortOrder
 pub mod Sound
 pub mod GenScript
+pub mod FullColumns
 pub mod FirstScript
 pub mod FirstTable

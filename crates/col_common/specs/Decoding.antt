@@ -1,0 +1,15 @@
+-- What decoders answer.
+use Rattle.std.specs.Prelude.{◌≡◌, Option, Some, None, Result, Ok, Err}
+use Rattle.col_common.specs.declared.error.ColumnarError.{ColumnarError}
+use Rattle.col_common.specs.declared.error.ColumnarError.TheVariants.{OutOfMemory, InvalidData}
+
+-- Want of memory says nothing of the bytes, and InvalidData that they stand for nothing; a decoder refuses by no other answer.
+abbrev pub Refuses : {V : Type 0} → ColumnarError → Option V → Type 0
+Refuses OutOfMemory expected = Unit {0}
+Refuses InvalidData expected = expected ≡ None
+Refuses _ expected = ⊥
+
+-- What a decoder returned, seen by view, is what is expected of the bytes, unless memory ran out.
+abbrev pub Decodes : {T V : Type 0} → (T → V) → Result T ColumnarError → Option V → Type 0
+Decodes view (Ok value) expected = expected ≡ Some (view value)
+Decodes view (Err e) expected = Refuses e expected
