@@ -1,10 +1,9 @@
 -- Calls that serialize, one behind another.
-use Rattle.std.proofs.Common.{◌≡◌, ◌≤◌, ◌⊎◌, ℕ, List, [], ◌++◌, Result, Ok, Err, Some, None, IfErr, OnOk, refl, ap, sym, ◌∙◌, append_assoc, append-nil, arith, inl, inr, option_map}
-use Rattle.col_common.specs.Causes.{Rose}
+use Rattle.std.proofs.Common.{ℕ, List, [], ◌++◌, Result, Ok, Err, Some, None, refl, ap, sym, ◌∙◌, append_assoc, append-nil, arith, inl, option_map}
 use Rattle.col_common.specs.Outside.{Told, Appends, Grows}
 use Rattle.col_common.specs.Serializing.{Serializes}
 use Rattle.col_common.specs.declared.error.ColumnarError.{ColumnarError}
-use Rattle.col_common.specs.declared.error.ColumnarError.TheVariants.{OutOfMemory, WriteFault}
+use Rattle.col_common.specs.declared.error.ColumnarError.TheVariants.{OutOfMemory}
 
 -- nothing was added
 pub appends_none : (told : Told) → Appends told told []

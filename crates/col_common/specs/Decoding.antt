@@ -1,5 +1,5 @@
 -- What decoders answer.
-use Rattle.std.specs.Prelude.{◌≡◌, Option, Some, None, Result, Ok, Err}
+use Rattle.std.specs.Prelude.{◌≡◌, ℕ, List, Option, Some, None, Result, Ok, Err}
 use Rattle.col_common.specs.declared.error.ColumnarError.{ColumnarError}
 use Rattle.col_common.specs.declared.error.ColumnarError.TheVariants.{OutOfMemory, InvalidData}
 
@@ -13,3 +13,8 @@ Refuses _ expected = ⊥
 abbrev pub Decodes : {T V : Type 0} → (T → V) → Result T ColumnarError → Option V → Type 0
 Decodes view (Ok value) expected = expected ≡ Some (view value)
 Decodes view (Err e) expected = Refuses e expected
+
+-- What was taken, seen by view, and the bytes behind it are what is expected of the bytes; where nothing is, they stay.
+abbrev pub TakesFront : {T V E : Type 0} → (T → V) → Result T E → Option (V × List ℕ) → List ℕ → List ℕ → Type 0
+TakesFront view (Ok value) expected old new = expected ≡ Some (view value, new)
+TakesFront view (Err e) expected old new = (expected ≡ None) × (new ≡ old)

@@ -6,3 +6,4 @@ pub mod Refused
 pub mod Decoding
 pub mod Serializing
 pub mod Memory
+pub mod Walks

@@ -1,5 +1,5 @@
--- Whole numbers in groups of seven bits.
-use Rattle.std.specs.Prelude.{ℕ, zero, suc, ◌+◌, ◌-◌, ◌*◌, ◌/◌, ◌%◌, ◌^◌, nat_lt, nat_le, List, [], ◌∷◌, if◌then◌else◌, Option, Some, None}
+-- Whole numbers in groups of seven bits. States docs/FORMAT.md, section 1.
+use Rattle.std.specs.Prelude.{ℕ, zero, suc, ◌+◌, ◌-◌, ◌*◌, ◌/◌, ◌%◌, ◌^◌, ◌<◌, slice_index, nat_lt, nat_le, List, [], ◌∷◌, if◌then◌else◌, Option, Some, None}
 use Rattle.col_common.specs.Reading.{◌>>=◌, only_if}
 
 -- The number at the front, and the bytes behind it. Each byte has seven bits, the lowest group first; the last byte alone has its top bit set.
@@ -32,3 +32,7 @@ group_bytes (suc k) n = let longer = n % 128 ∷ group_bytes k (n / 128) in if n
 -- the bytes of a number below 2 ^ 128
 abbrev pub vint_bytes : ℕ → List ℕ
 vint_bytes n = group_bytes 19 n
+
+-- below place i each byte goes on
+abbrev pub GoesOn : List ℕ → ℕ → Type 0
+GoesOn bytes i = (k : ℕ) → k < i → slice_index bytes k < 128
