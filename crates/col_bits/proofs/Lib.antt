@@ -1,2 +1,6 @@
 pub mod PackedLemmas
 pub mod WindowLemmas
+pub mod WordLemmas
+pub mod WidthLemmas
+pub mod WriteLemmas
+pub mod PackingLemmas

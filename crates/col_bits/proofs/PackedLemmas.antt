@@ -1,5 +1,5 @@
 -- Numbers and their digits in a base.
-use Rattle.std.proofs.Common.{◌≡◌, ℕ, zero, suc, ◌+◌, ◌*◌, ◌/◌, ◌%◌, ◌^◌, ◌<◌, ◌≤◌, List, [], ◌∷◌, length, Some, refl, sym, ◌∙◌, ap, arith, zero-add, pow-suc, mod-lt, mul_comm, lit<, mod-eq_of_lt, get_or, div-one, lt_of_lt_of_le, suc-mul, zero-mul}
+use Rattle.std.proofs.Common.{◌≡◌, ℕ, zero, suc, ◌+◌, ◌*◌, ◌/◌, ◌%◌, ◌^◌, ◌<◌, ◌≤◌, List, [], ◌∷◌, ◌++◌, length, Some, refl, sym, ◌∙◌, ap, arith, zero-add, pow-suc, mod-lt, mul_comm, lit<, mod-eq_of_lt, get_or, div-one, lt_of_lt_of_le, suc-mul, zero-mul}
 use native.Mathlib.Nat.{mod-add-div, add-mul-mod_self_left, add-mul-div_left, div-eq_of_lt, pow-zero, div-div-eq-div-mul, pow-le-pow_right}
 use Rattle.std.proofs.lemmas.Nat.{div_below, mul-add-lt, pow_pos, pow-add}
 use Rattle.std.specs.List.{AllByRecursion}
@@ -39,7 +39,7 @@ digits-at base zero n i p h = absurd (omega arith)
 digits-at base (suc k) n zero p h = rw (pow-zero base, div-one)
 digits-at base (suc k) n (suc i) p h = digits-at base k (n / base) i p (omega arith) ∙ ap (λ m. m % base) (div-div-eq-div-mul n base (base ^ i) ∙ ap (λ d. n / d) (mul_comm base (base ^ i) ∙ sym (pow-suc base i)))
 
-all_digits : (base k n : ℕ) → 0 < base → AllByRecursion (λ d. d < base) (digits base k n)
+pub all_digits : (base k n : ℕ) → 0 < base → AllByRecursion (λ d. d < base) (digits base k n)
 all_digits base zero n p = tt
 all_digits base (suc k) n p = (mod-lt n p, all_digits base k (n / base) p)
 
@@ -59,3 +59,21 @@ packed-packed_bytes w xs all =
     let below : n < 2 ^ (length xs * w) = rw (← pow-pow w (length xs)) (number_of-below (2 ^ w) xs (pow_pos w) all) in
     let back : number_of 256 (packed_bytes w xs) ≡ n = number_of-digits 256 (div_ceil (length xs * w) 8) n (lit< tt) (lt_of_lt_of_le below (fits_bytes (length xs * w))) in
     rw (length-digits 256 (div_ceil (length xs * w) 8) n, back, eq-eqb (div_ceil (length xs * w) 8) (div_ceil (length xs * w) 8) refl, lt-ltb n (2 ^ (length xs * w)) below) (ap Some (digits-number_of (2 ^ w) xs (pow_pos w) all))
+
+-- digits behind digits
+pub number_of-append : (base : ℕ) (xs ys : List ℕ) → number_of base (xs ++ ys) ≡ number_of base xs + number_of base ys * base ^ length xs
+number_of-append base [] ys = rw (pow-zero base) (omega arith)
+number_of-append base (x ∷ xs) ys =
+    let power : base ^ suc (length xs) ≡ base ^ length xs * base = pow-suc base (length xs) in
+    let high : number_of base ys * base ^ suc (length xs) ≡ number_of base ys * (base ^ length xs * base) = ap (λ p. number_of base ys * p) power in
+    let later : base * number_of base (xs ++ ys) ≡ base * (number_of base xs + number_of base ys * base ^ length xs) = ap (λ m. base * m) (number_of-append base xs ys) in
+    omega (arith, high, later)
+
+-- one digit more
+pub number_of-push : (base : ℕ) (xs : List ℕ) (x : ℕ) → number_of base (xs ++ x ∷ []) ≡ number_of base xs + x * base ^ length xs
+number_of-push base xs x = number_of-append base xs (x ∷ []) ∙ ap (λ m. number_of base xs + m * base ^ length xs) (omega arith)
+
+-- bytes are the packed list where they are as many, and as one number the same
+pub packed_bytes-closed : (w : ℕ) (xs out : List ℕ) → AllByRecursion (λ b. b < 256) out → length out ≡ div_ceil (length xs * w) 8 → number_of 256 out ≡ number_of (2 ^ w) xs → out ≡ packed_bytes w xs
+packed_bytes-closed w xs out all long same =
+    sym (digits-number_of 256 out (lit< tt) all) ∙ (ap (λ k. digits 256 k (number_of 256 out)) long ∙ ap (digits 256 (div_ceil (length xs * w) 8)) same)

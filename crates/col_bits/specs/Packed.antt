@@ -1,4 +1,4 @@
--- Numbers of a fixed count of bits, one after another.
+-- Numbers of a fixed count of bits, one after another. States docs/FORMAT.md, section 2.
 use Rattle.std.specs.Prelude.{ℕ, zero, suc, ◌+◌, ◌*◌, ◌/◌, ◌%◌, ◌^◌, ◌==◌, ◌&&◌, ◌||◌, nat_lt, nat_le, Bool, List, [], ◌∷◌, length, if◌then◌else◌, Option, Some, None}
 use Rattle.std.specs.Int.{div_ceil}
 
@@ -17,6 +17,10 @@ digits base (suc k) n = n % base ∷ digits base k (n / base)
 unfoldable pub packed : List ℕ → ℕ → ℕ → Option (List ℕ)
 packed bytes w n =
     if (length bytes == div_ceil (n * w) 8) && nat_lt (number_of 256 bytes) (2 ^ (n * w)) then Some (digits (2 ^ w) n (number_of 256 bytes)) else None
+
+-- item i of w bits: bits i * w to i * w + w - 1 of the bytes, as one number
+abbrev pub item : List ℕ → ℕ → ℕ → ℕ
+item bytes w i = number_of 256 bytes / 2 ^ (i * w) % 2 ^ w
 
 -- the bytes of items of w bits
 abbrev pub packed_bytes : ℕ → List ℕ → List ℕ

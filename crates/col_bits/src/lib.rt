@@ -1,11 +1,10 @@
-//! Numbers of a fixed width in bits, one after another.
+//! Numbers of a fixed width in bits, one after another: their width, their packing and their reading.
+//! A contract sees a reader as its width, and a packer as the bits that it holds.
 #![tactic(auto)]
 
-ghost use Rattle.std.specs.Prelude.{◌≡◌};
-ghost use Rattle.col_bits.specs.Packed.{width};
+mod bitpacker;
 
-pub fn zero_width() -> u8
-    ensures { result ≡ width 0 }
-{
-    0
-}
+pub use bitpacker::{BitPacker, BitUnpacker, compute_num_bits, pack};
+
+#[cfg(test)]
+mod tests;

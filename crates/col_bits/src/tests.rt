@@ -1,0 +1,98 @@
+//! Widths, packed lists whose bytes are worked out by hand, and lists that are read back.
+ghost use Rattle.std.specs.Prelude.{◌<◌, ◌^◌, IsTrue};
+ghost use Rattle.std.specs.List.{AllByRecursion};
+ghost use Rattle.col_bits.specs.Packed.{is_width};
+
+use crate::{BitPacker, BitUnpacker, compute_num_bits, pack};
+use std::alloc::Global;
+use std::process::Abort;
+use std::test::Fail;
+
+// Packs five numbers and reads each.
+fn reads_back(rt: &impl Abort, alloc: Global, values: &[u64; 5], width: u8) -> Result<(), Fail>
+    requires width { IsTrue (is_width width) }
+    requires small { AllByRecursion (λ v. v < 2 ^ width) values.now }
+{
+    let bytes = pack(alloc, values, width)?;
+    let reader = BitUnpacker::new(width);
+    assert_eq!(rt; reader.bit_width(), width);
+    for idx in 0..5u32 {
+        assert_eq!(rt;
+            reader.get(idx, &bytes),
+            values[idx as usize],
+            "item {idx} of width {width}"
+        );
+    }
+    assert_eq!(rt;
+        reader.get(u32::MAX, &bytes),
+        0,
+        "past the end of width {width}"
+    );
+    Ok(())
+}
+
+#[test]
+fn a_width_is_the_digits_up_to_56_and_else_64(rt: HostRuntime) -> Result<(), Fail> {
+    let widths = [
+        (0, 0),
+        (1, 1),
+        (255, 8),
+        (256, 9),
+        ((1 << 56) - 1, 56),
+        (1 << 56, 64),
+        (u64::MAX, 64),
+    ];
+    for (n, width) in widths {
+        assert_eq!(rt; compute_num_bits(n), width, "the width of {n}");
+    }
+    Ok(())
+}
+
+#[test]
+fn packed_bytes_are_those_worked_out_by_hand(rt: HostRuntime) -> Result<(), Fail> {
+    let alloc = rt.alloc();
+    // Bits 0 and 1, the second above the first.
+    assert_eq!(rt; pack(alloc, &[0, 1], 1)?.as_slice(), [0b10].as_slice());
+    assert_eq!(rt;
+        pack(alloc, &[1, 2, 3], 2)?.as_slice(),
+        [0b11_10_01].as_slice()
+    );
+    assert_eq!(rt; pack(alloc, &[5, 6], 3)?.as_slice(), [0b110_101].as_slice());
+    // The second number begins in the first byte's highest bit.
+    assert_eq!(rt;
+        pack(alloc, &[1, 3], 7)?.as_slice(),
+        [0x81, 0x01].as_slice()
+    );
+    assert_eq!(rt;
+        pack(alloc, &[0x0102_0304_0506_0708], 64)?.as_slice(),
+        [8, 7, 6, 5, 4, 3, 2, 1].as_slice()
+    );
+    assert_eq!(rt; pack(alloc, &[0, 0], 0)?.len(), 0);
+    Ok(())
+}
+
+#[test]
+fn what_is_packed_is_read_back(rt: HostRuntime) -> Result<(), Fail> {
+    let alloc = rt.alloc();
+    reads_back(&rt, alloc, &[0, 0, 0, 0, 0], 0)?;
+    reads_back(&rt, alloc, &[1, 0, 1, 1, 0], 1)?;
+    reads_back(&rt, alloc, &[5, 0, 7, 1, 4], 3)?;
+    reads_back(&rt, alloc, &[127, 1, 0, 64, 99], 7)?;
+    reads_back(&rt, alloc, &[0x1ffff, 0, 0x10000, 1, 0xfedc], 17)?;
+    reads_back(
+        &rt,
+        alloc,
+        &[0xff_ffff_ffff_ffff, 0, 0x80_0000_0000_0001, 1, 77],
+        56,
+    )?;
+    reads_back(&rt, alloc, &[u64::MAX, 0, 0x8000_0000_0000_0001, 1, 77], 64)?;
+    Ok(())
+}
+
+#[test]
+fn closing_a_packer_that_holds_nothing_adds_nothing(rt: HostRuntime) -> Result<(), Fail> {
+    let mut output = b"ab".to_vec(rt.alloc())?;
+    BitPacker::new().close(&mut output)?;
+    assert_eq!(rt; output.as_slice(), b"ab".as_slice());
+    Ok(())
+}
