@@ -82,11 +82,11 @@ keys-parts body ps n all h e t k s =
 
 -- ---- files
 
-total_length-keyed_lengths : (ps : List (Key × List ℕ)) → total_length (keyed_lengths ps) ≡ length (joined_lists (map (λ p. p.1) ps))
+pub total_length-keyed_lengths : (ps : List (Key × List ℕ)) → total_length (keyed_lengths ps) ≡ length (joined_lists (map (λ p. p.1) ps))
 total_length-keyed_lengths [] = refl
 total_length-keyed_lengths (p ∷ ps) = sum_by-cons (λ (q : Key × ℕ). q.1) (p.0, length p.1) (keyed_lengths ps) ∙ ap (λ m. length p.1 + m) (total_length-keyed_lengths ps) ∙ sym (length-append p.1 (joined_lists (map (λ p. p.1) ps)))
 
-slice-middle : (before part rest : List ℕ) → slice_range (before ++ (part ++ rest)) (length before) (length before + length part) ≡ part
+pub slice-middle : (before part rest : List ℕ) → slice_range (before ++ (part ++ rest)) (length before) (length before + length part) ≡ part
 slice-middle before part rest = let m : length before + length part - length before ≡ length part = omega arith in rw (drop-front before (part ++ rest), m) (take-front part rest)
 
 -- a key with its column's bytes, as a part's column
@@ -105,7 +105,7 @@ part_columns-from before (p ∷ ps) tail k v =
     ∙ ap (λ m. map (part_column ((before ++ p.1) ++ (rest ++ tail)) k) (entries_from m (keyed_lengths ps))) (sym (length-append before p.1))
     ∙ part_columns-from (before ++ p.1) ps tail k v)
 
-keys_of-keyed_lengths : (ps : List (Key × List ℕ)) → map (λ p. p.0) (keyed_lengths ps) ≡ map (λ p. p.0) ps
+pub keys_of-keyed_lengths : (ps : List (Key × List ℕ)) → map (λ p. p.0) (keyed_lengths ps) ≡ map (λ p. p.0) ps
 keys_of-keyed_lengths [] = refl
 keys_of-keyed_lengths (p ∷ ps) = ap (λ r. p.0 ∷ r) (keys_of-keyed_lengths ps)
 

@@ -26,6 +26,8 @@ pub mod CollectLaws
 pub mod StackLaws
 pub mod RecordLaws
 pub mod FullLaws
+pub mod NumberFileLaws
+pub mod OpenedLaws
 pub mod ScriptLaws
 pub mod OneFormLaws
 pub mod PackedBitLaws

@@ -1,4 +1,4 @@
--- Lists of numbers below 2 ^ 128, by codes.
+-- Lists of numbers below 2 ^ 128, by codes. States docs/FORMAT.md, section 5.
 use Rattle.std.specs.Prelude.{ℕ, ◌+◌, ◌-◌, ◌^◌, ◌==◌, ◌&&◌, ◌||◌, nat_lt, nat_le, max, Bool, true, List, [], ◌∷◌, map, length, fold, sum_by, if◌then◌else◌, Option, Some}
 use Rattle.std.specs.Int.{w64, is_in_range}
 use Rattle.std.specs.List.{list_all}

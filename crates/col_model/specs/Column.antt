@@ -1,4 +1,4 @@
--- What the bytes of a column stand for.
+-- What the bytes of a column stand for. States docs/FORMAT.md, section 9.
 use Rattle.std.specs.Prelude.{ℕ, ℤ, pos, ◌-ℤ◌, ◌^◌, ◌==◌, ◌&&◌, nat_lt, Bool, true, List, [], map, length, sum, slice_get, unwrap_or, Option, Some, if◌then◌else◌}
 use Rattle.std.specs.Int.{w32, w64}
 use Rattle.std.specs.List.{list_all}

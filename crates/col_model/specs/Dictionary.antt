@@ -1,4 +1,4 @@
--- Sorted terms.
+-- Sorted terms. States docs/FORMAT.md, section 6.
 use Rattle.std.specs.Prelude.{ℕ, ◌==◌, ◌&&◌, List, [], ◌∷◌, length, sum, Option, take, drop}
 use Rattle.std.specs.Int.{w32}
 use Rattle.col_common.specs.Reading.{◌>>=◌, only_if, le_number, items}

@@ -1,10 +1,11 @@
--- The table that a file stands for.
-use Rattle.std.specs.Prelude.{ℕ, List, [], ◌∷◌, map, slice_range, Option, Some}
+-- The table that a file stands for. States docs/FORMAT.md, section 11.
+use Rattle.std.specs.Prelude.{◌≡◌, ℕ, List, [], ◌∷◌, map, slice_range, Option, Some}
 use Rattle.col_common.specs.Reading.{◌>>=◌}
 use Rattle.col_model.specs.ColumnType.{ColumnType}
 use Rattle.col_model.specs.Column.{column}
 use Rattle.col_model.specs.Table.{Content, Column, Table}
 use Rattle.col_model.specs.Keys.{Entry, FileKeys, keys}
+use Rattle.col_model.specs.Version.{current_version}
 
 -- a column whose bytes may stand for nothing
 pub record PartColumn : Type 0 where
@@ -45,3 +46,12 @@ table_of bytes = parts_of bytes >>= table_of_part
 -- a table as a part
 abbrev pub part_of_table : Table → Part
 part_of_table t = record { row_count = t.row_count; columns = map (λ c. record { name = c.name; column_type = c.column_type; content = Some c.content }) t.columns }
+
+-- the version of a file
+abbrev pub file_version : List ℕ → Option ℕ
+file_version bytes = keys bytes >>= λ k. Some k.version
+
+-- a file that stands for the table, of the version that is written
+pub record StandsFor (table : Table) (file : List ℕ) : Type 0 where
+  pub content : table_of file ≡ Some table
+  pub version : file_version file ≡ Some current_version

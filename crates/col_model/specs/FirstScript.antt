@@ -1,4 +1,4 @@
--- Scripts of the first form: at most one segment, u64 columns whose type is forced, lookups of u64.
+-- Scripts of the first form: at most one segment, u64 columns whose type is forced, lookups of u64. States docs/RULES.md, Scripts.
 use Rattle.std.specs.Prelude.{ℕ, ◌==◌, ◌&&◌, not, nat_le, Bool, true, false, List, [], ◌∷◌, length, filter_map, codes, bytes_eq, Option, None, is_none}
 use Rattle.std.specs.Bool.{nat_eq}
 use Rattle.std.specs.List.{list_all, list_any, range_with_len}

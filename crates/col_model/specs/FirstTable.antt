@@ -1,4 +1,4 @@
--- The table and the outcome of a script of the first form, in short: there merging and writing come to this.
+-- The table and the outcome of a script of the first form, in short: there merging and writing come to this. States docs/RULES.md, Tables and Statuses.
 use Rattle.std.specs.Prelude.{ℕ, ◌==◌, ◌&&◌, not, nat_lt, false, List, [], ◌∷◌, map, filter_map, length, bytes_eq, if◌then◌else◌, Option, Some, None}
 use Rattle.std.specs.Ordering.{nat_cmp}
 use Rattle.std.specs.Cmp.Lexicographic.{slice_cmp}

@@ -1,4 +1,4 @@
--- Full columns of u64 under Bitpacked, and the files and tables of such columns alone.
+-- Full columns of u64 under Bitpacked, and the files and tables of such columns alone. States docs/FORMAT.md, sections 4, 8, 9 and 11.
 use Rattle.std.specs.Prelude.{◌≡◌, ℕ, ◌^◌, ◌<◌, ◌==◌, pos, true, List, [], ◌∷◌, map, length, slice_range, bytes_eq, Option, Some, None}
 use Rattle.std.specs.List.{AllByRecursion}
 use Rattle.std.specs.Int.{w64}

@@ -1,4 +1,4 @@
--- Numbers that stand for a value of a narrower type.
+-- Numbers that stand for a value of a narrower type. States docs/FORMAT.md, section 4.
 use Rattle.std.specs.Prelude.{ℕ, ◌^◌, nat_lt, Bool, List, Option}
 use Rattle.std.specs.List.{list_all}
 use Rattle.col_common.specs.Reading.{◌>>=◌, only_if}

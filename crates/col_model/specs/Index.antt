@@ -1,4 +1,4 @@
--- How many values each row of a column has.
+-- How many values each row of a column has. States docs/FORMAT.md, sections 7 and 8.
 use Rattle.std.specs.Prelude.{ℕ, zero, suc, ◌+◌, ◌-◌, ◌^◌, ◌==◌, ◌&&◌, nat_lt, Bool, List, [], ◌∷◌, length, map, replicate, find, zip, unwrap_or, option_map, Option, Some, None}
 use Rattle.std.specs.Int.{w64}
 use Rattle.std.specs.List.{list_all, range_with_len, starts_with}

@@ -1,4 +1,4 @@
--- The key table and the footer of a file.
+-- The key table and the footer of a file. States docs/FORMAT.md, sections 10 and 11.
 use Rattle.std.specs.Prelude.{ℕ, ◌+◌, ◌==◌, ◌&&◌, not, Bool, List, [], ◌∷◌, ◌++◌, map, length, filter, sum_by, slice_index, Option, Some}
 use Rattle.std.specs.Int.{w32, w64}
 use Rattle.std.specs.List.{list_all}

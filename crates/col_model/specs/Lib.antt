@@ -38,3 +38,4 @@ pub mod GenScript
 pub mod FullColumns
 pub mod FirstScript
 pub mod FirstTable
+pub mod Laws

@@ -1,4 +1,4 @@
--- A line through positions, in whole numbers.
+-- A line through positions, in whole numbers. States docs/FORMAT.md, section 4.
 use Rattle.std.specs.Prelude.{ℕ, ◌+◌, ◌-◌, ◌*◌, ◌/◌, ◌%◌, ◌^◌, nat_lt, List, if◌then◌else◌, Option, Some}
 use Rattle.col_common.specs.Reading.{◌>>=◌}
 use Rattle.col_common.specs.VInt.{vint}

@@ -1,4 +1,4 @@
--- The table that a merge makes.
+-- The table that a merge makes. States docs/RULES.md, Merged tables.
 use Rattle.std.specs.Prelude.{ℕ, ℤ, ◌^◌, ◌==◌, ◌&&◌, not, nat_lt, nat_le, Bool, List, [], ◌∷◌, ◌++◌, map, filter_map, find, length, fold, slice_get, unwrap_or, option_map, is_some, is_none, if◌then◌else◌, Option, Some, None, Result, Ok, ⊤, option_and_then}
 use Rattle.std.specs.List.{list_all, list_any, enumerate_from}
 use Rattle.std.specs.Ordering.{nat_cmp}

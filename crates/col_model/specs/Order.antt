@@ -1,4 +1,4 @@
--- Which rows a merge takes, in which order.
+-- Which rows a merge takes, in which order. States docs/RULES.md, Merged tables.
 use Rattle.std.specs.Prelude.{ℕ, ◌&&◌, nat_lt, Bool, false, List, map, slice_get, unwrap_or, option_map, flat_map, Option}
 use Rattle.std.specs.Bool.{nat_eq}
 use Rattle.std.specs.List.{list_all, range_with_len, enumerate_from}

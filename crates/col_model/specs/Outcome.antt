@@ -1,8 +1,9 @@
--- What the program answers.
+-- What the program answers. States docs/RULES.md, The command line and Statuses.
 use Rattle.std.specs.Prelude.{ℕ, ◌^◌, ◌==◌, ◌&&◌, ◌||◌, not, nat_lt, nat_le, Bool, true, false, List, [], ◌∷◌, ◌++◌, map, length, slice_index, codes, bytes_eq, if◌then◌else◌, Option, Some, None, Result, Ok, Err}
 use Rattle.std.specs.Str.{all_ascii_digits}
 use Rattle.std.specs.Str.Parse.{digits_value}
 use Rattle.col_common.specs.Reading.{only_if}
+use Rattle.col_model.specs.declared.limits.TheConstants.{MAX_SCRIPT_LEN}
 use Rattle.col_model.specs.GenScript.{gen_script}
 use Rattle.col_model.specs.Table.{Table}
 use Rattle.col_model.specs.File.{parts_of, part_of_table}
@@ -18,6 +19,16 @@ use Rattle.col_model.specs.Refusal.{Refusal, ◌>>=◌, or_refuse, each_ok, inva
 pub data Outcome : Type 0 where
   done : Table → List ℕ → Outcome
   refused : ℕ → Outcome
+
+-- The outcome is a table and a report, of which P holds.
+abbrev pub IsDone : Outcome → (Table → List ℕ → Type 0) → Type 0
+IsDone (done table lines) P = P table lines
+IsDone (refused status) P = ⊥
+
+-- the status that a program ends with, where nothing fails
+abbrev pub outcome_status : Outcome → ℕ
+outcome_status (done table lines) = 0
+outcome_status (refused status) = status
 
 -- the table of a script's segment, or its first refusal
 abbrev pub segment_table : Segment → Result Table Refusal
@@ -43,7 +54,7 @@ with_report short s (Err e) = refused (status_of e)
 
 -- the greatest length of a script
 abbrev pub max_script_length : ℕ
-max_script_length = 16777216
+max_script_length = MAX_SCRIPT_LEN
 
 -- what a script comes to; none is a bad one
 abbrev pub script_outcome : Bool → List (List ℕ) → Option Script → Outcome

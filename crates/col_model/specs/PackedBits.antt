@@ -1,4 +1,4 @@
--- Packed lists, bit by bit.
+-- Packed lists, bit by bit. States docs/FORMAT.md, section 2.
 use Rattle.std.specs.Prelude.{◌≡◌, ℕ, ◌+◌, ◌*◌, ◌/◌, ◌%◌, ◌<◌, List, slice_index, Some}
 use Rattle.std.specs.Int.{bit_at}
 use Rattle.col_common.specs.Reading.{IsBytes}

@@ -1,4 +1,4 @@
--- When a table is sound.
+-- When a table is sound. States docs/RULES.md, Sound tables.
 use Rattle.std.specs.Prelude.{◌≡◌, ℕ, ◌<◌, ◌^◌, ◌==◌, nat_le, IsTrue, Bool, true, false, List, [], map, filter, length, bytes_eq, Some}
 use Rattle.std.specs.List.{list_all, list_any, AllByRecursion}
 use Rattle.col_common.specs.Reading.{IsBytes}

@@ -1,4 +1,4 @@
--- How the parts of a file are spelled, whichever bytes its columns have.
+-- How the parts of a file are spelled, whichever bytes its columns have. States docs/FORMAT.md, sections 9 to 11.
 use Rattle.std.specs.Prelude.{ℕ, List, ◌++◌, map, length, flat_map}
 use Rattle.std.specs.Int.{w32, w64, to_le_bytes}
 use Rattle.col_common.specs.VInt.{vint_bytes}

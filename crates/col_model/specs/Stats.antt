@@ -1,4 +1,4 @@
--- What is said of a list of numbers before it.
+-- What is said of a list of numbers before it. States docs/FORMAT.md, section 3.
 use Rattle.std.specs.Prelude.{ℕ, zero, suc, ◌+◌, ◌-◌, ◌*◌, ◌/◌, ◌%◌, ◌^◌, ◌==◌, ◌&&◌, ◌||◌, nat_lt, nat_le, min, max, Bool, List, [], ◌∷◌, length, map, fold, ◌++◌, if◌then◌else◌, Option}
 use Rattle.col_common.specs.Reading.{◌>>=◌, only_if}
 use Rattle.col_common.specs.VInt.{vint, vint_bytes}

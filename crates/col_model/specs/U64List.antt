@@ -1,4 +1,4 @@
--- Lists of numbers below 2 ^ 64.
+-- Lists of numbers below 2 ^ 64. States docs/FORMAT.md, section 4.
 use Rattle.std.specs.Prelude.{ℕ, zero, suc, ◌+◌, ◌-◌, ◌*◌, ◌/◌, ◌%◌, ◌^◌, List, [], ◌∷◌, ◌++◌, map, min, Option, Some, None}
 use Rattle.std.specs.Int.{w64, div_ceil}
 use Rattle.std.specs.List.{enumerate_from}
