@@ -1,0 +1,143 @@
+-- Parts that are serialized one behind another, and what they are together.
+use Rattle.std.proofs.Common.{◌≡◌, ℕ, suc, ◌+◌, ◌^◌, ◌<◌, List, [], ◌∷◌, ◌++◌, length, map, flat_map, Result, Ok, Err, Some, IfErr, String, Vec, string_bytes, refl, sym, ap, ap₂, ◌∙◌, subst, append_assoc, append-nil, length-append, inl}
+use Rattle.std.specs.List.{AllByRecursion}
+use Rattle.std.specs.Int.{w32, w64, to_le_bytes}
+use Rattle.std.specs.declared.alloc.Global.{Global}
+use Rattle.std.proofs.lemmas.List.Concat.{flat_map-cons}
+use Rattle.std.proofs.lemmas.Option.{same_Some}
+use Rattle.col_common.specs.Outside.{Told}
+use Rattle.col_common.specs.VInt.{vint_bytes}
+use Rattle.col_common.specs.Serializing.{Serializes}
+use Rattle.col_common.specs.declared.error.ColumnarError.{ColumnarError}
+use Rattle.col_common.specs.declared.error.ColumnarError.TheVariants.{OutOfMemory}
+use Rattle.col_common.proofs.SerializingLemmas.{serializes-then, serializes-stopped, serializes-nothing}
+use Rattle.col_model.specs.U64List.{bitpacked_bytes, joined_lists}
+use Rattle.col_model.specs.ColumnType as types
+use Rattle.col_model.specs.Version.{version_bytes}
+use Rattle.col_model.specs.Spelling.{column_bytes, keyed_length_bytes, keyed_lengths, key_table_bytes, footer_bytes, file_bytes}
+use Rattle.col_model.specs.FullColumns.{full_column_bytes, full_columns, u64_columns, number_file, NamedNumbers}
+
+-- the same bytes in other words
+pub serializes_as : (a b : Told) (k m : ℕ) (result : Result (Unit {0}) ColumnarError) (xs ys : List ℕ) → xs ≡ ys → Serializes a b k m result xs → Serializes a b k m result ys
+serializes_as a b k m result xs ys e first = subst (λ bytes. Serializes a b k m result bytes) e first
+
+-- a refusal behind what was added, whatever was to come
+pub refused_later : (a b c : Told) (k m n : ℕ) (done : Unit {0}) (e : ColumnarError) (xs ys zs : List ℕ) → Serializes a b k m (Ok done) xs → Serializes b c m n (Err e) ys → Serializes a c k n (Err e) zs
+refused_later a b c k m n done e xs ys zs first second = serializes-stopped a c k n e (xs ++ ys) zs (serializes-then a b c k m n done (Err e) xs ys first second)
+
+-- a step behind it wrote nothing, and can want memory alone
+pub serialized_unless_memory : (a b : Told) (k m : ℕ) (done : Unit {0}) (result : Result (Unit {0}) ColumnarError) (xs : List ℕ) → Serializes a b k m (Ok done) xs → IfErr result (λ e. e ≡ OutOfMemory) → Serializes a b k m result xs
+serialized_unless_memory a b k m done (Ok end) xs first h = record {
+  ok = first.ok;
+  grown = first.grown;
+  later = first.later;
+  write_fault = λ e. absurd (cc);
+  causes = tt;
+}
+serialized_unless_memory a b k m done (Err e) xs first h = record {
+  ok = tt;
+  grown = first.grown;
+  later = first.later;
+  write_fault = λ f. absurd (cc);
+  causes = inl h;
+}
+
+-- ---- the parts of a file
+
+pub footer-parts : (table_length row_count : ℕ) (a b : List ℕ) → a ≡ to_le_bytes w64 table_length → b ≡ to_le_bytes w32 row_count → (a ++ b) ++ version_bytes ≡ footer_bytes table_length row_count
+unfolding footer_bytes
+footer-parts table_length row_count a b e f = append_assoc a b version_bytes ∙ ap₂ (λ x y. x ++ (y ++ version_bytes)) e f
+
+pub full_column-parts : (xs end : List ℕ) → end ≡ to_le_bytes w64 1 → ((0 ∷ []) ++ bitpacked_bytes xs) ++ end ≡ full_column_bytes xs
+unfolding column_bytes
+full_column-parts xs end e = ap (λ t. ((0 ∷ []) ++ bitpacked_bytes xs) ++ t) e
+
+keyed-regroup : (v name end w : List ℕ) (m : ℕ) → vint_bytes m ≡ v → length (name ++ end) ≡ m → ((v ++ name) ++ end) ++ w ≡ vint_bytes (length (name ++ end)) ++ ((name ++ end) ++ w)
+keyed-regroup v name end w m e h = ap (λ r. r ++ w) (append_assoc v name end) ∙ append_assoc v (name ++ end) w ∙ ap (λ r. r ++ ((name ++ end) ++ w)) (sym e ∙ ap vint_bytes (sym h))
+
+pub keyed_length-parts : (name text : List ℕ) (code n : ℕ) → text ≡ name → code ≡ 1 → ((vint_bytes (length name + 2) ++ text) ++ (0 ∷ code ∷ [])) ++ vint_bytes n ≡ keyed_length_bytes (record { name = name; column_type = types.u64 }, n)
+unfolding keyed_length_bytes
+keyed_length-parts name text code n e f =
+    ap₂ (λ t c. ((vint_bytes (length name + 2) ++ t) ++ (0 ∷ c ∷ [])) ++ vint_bytes n) e f
+    ∙ keyed-regroup (vint_bytes (length name + 2)) name (0 ∷ 1 ∷ []) (vint_bytes n) (length name + 2) refl (length-append name (0 ∷ 1 ∷ []))
+
+-- ---- columns one after another
+
+-- a column of a map
+abbrev pub Entry : Type 0
+Entry = String Global × Vec ℕ Global
+
+abbrev pub named : List Entry → List NamedNumbers
+named es = map (λ p. (string_bytes p.0, p.1.items)) es
+
+-- the bytes of all columns
+abbrev pub bodies : List Entry → List ℕ
+bodies es = joined_lists (map (λ p. p.1) (full_columns (u64_columns (named es))))
+
+-- their keys, each with its column's length
+abbrev pub keyed_bodies : List Entry → List ℕ
+keyed_bodies es = flat_map keyed_length_bytes (keyed_lengths (full_columns (u64_columns (named es))))
+
+-- what was written of all columns, and what is left to write
+pub record WritesFrom (a b : Told) (k m : ℕ) (old table : List ℕ) (left all : List Entry) : Type 0 where
+  pub bytes : List ℕ
+  pub serialized : Serializes a b k m (Ok tt) bytes
+  pub whole : bytes ++ bodies left ≡ bodies all
+  pub keyed : table ++ keyed_bodies left ≡ old ++ keyed_bodies all
+  pub short : AllByRecursion (λ p. length p.1 < 2 ^ 32) (named left)
+
+pub writes-init : (a : Told) (k : ℕ) (old : List ℕ) (all : List Entry) → AllByRecursion (λ p. length p.1 < 2 ^ 32) (named all) → WritesFrom a a k k old old all all
+writes-init a k old all short = record { bytes = []; serialized = serializes-nothing a k tt; whole = refl; keyed = refl; short = short }
+
+-- the next column's key and length
+abbrev next_keyed : Entry → List ℕ
+next_keyed x = keyed_length_bytes (record { name = string_bytes x.0; column_type = types.u64 }, length (full_column_bytes x.1.items))
+
+regroup_keyed : (table more rest total : List ℕ) → table ++ (more ++ rest) ≡ total → (table ++ more) ++ rest ≡ total
+regroup_keyed table more rest total e = append_assoc table more rest ∙ e
+
+keyed_bodies-cons : (x : Entry) (left : List Entry) → keyed_bodies (x ∷ left) ≡ next_keyed x ++ keyed_bodies left
+keyed_bodies-cons x left = flat_map-cons keyed_length_bytes (record { name = string_bytes x.0; column_type = types.u64 }, length (full_column_bytes x.1.items)) (keyed_lengths (full_columns (u64_columns (named left))))
+
+pub writes-goes_on : (a b c : Told) (k m n : ℕ) (old table more : List ℕ) (x : Entry) (left all : List Entry) (done : Unit {0}) → WritesFrom a b k m old table (x ∷ left) all
+    → Serializes b c m n (Ok done) (full_column_bytes x.1.items) → more ≡ table ++ next_keyed x → WritesFrom a c k n old more left all
+writes-goes_on a b c k m n old table more x left all done was one e = record {
+  bytes = was.bytes ++ full_column_bytes x.1.items;
+  serialized = serializes-then a b c k m n tt (Ok tt) was.bytes (full_column_bytes x.1.items) was.serialized one;
+  whole = regroup_keyed was.bytes (full_column_bytes x.1.items) (bodies left) (bodies all) was.whole;
+  keyed = ap (λ t. t ++ keyed_bodies left) e ∙ regroup_keyed table (next_keyed x) (keyed_bodies left) (old ++ keyed_bodies all) (ap (λ r. table ++ r) (sym (keyed_bodies-cons x left)) ∙ was.keyed);
+  short = was.short.1;
+}
+
+pub writes-refused : (a b c : Told) (k m n : ℕ) (old table : List ℕ) (left all : List Entry) (e : ColumnarError) (ys : List ℕ) → WritesFrom a b k m old table left all → Serializes b c m n (Err e) ys → Serializes a c k n (Err e) (bodies all)
+writes-refused a b c k m n old table left all e ys was one = refused_later a b c k m n tt e was.bytes ys (bodies all) was.serialized one
+
+pub writes-done : (a b : Told) (k m : ℕ) (old table : List ℕ) (left all : List Entry) → left ≡ [] → WritesFrom a b k m old table left all → Serializes a b k m (Ok tt) (bodies all) × (table ≡ old ++ keyed_bodies all)
+writes-done a b k m old table left all e was =
+    let last = subst (λ es. WritesFrom a b k m old table es all) e was in
+    (serializes_as a b k m (Ok tt) last.bytes (bodies all) (sym (append-nil last.bytes) ∙ last.whole) last.serialized, sym (append-nil table) ∙ last.keyed)
+
+-- the same, where the name and the numbers are told in other words
+pub writes-step : (a b c : Told) (k m n : ℕ) (old table more name xs : List ℕ) (x : Entry) (left all : List Entry) (done : Unit {0}) → name ≡ string_bytes x.0 → xs ≡ x.1.items → WritesFrom a b k m old table (x ∷ left) all
+    → Serializes b c m n (Ok done) (full_column_bytes xs) → more ≡ table ++ keyed_length_bytes (record { name = name; column_type = types.u64 }, length (full_column_bytes xs)) → WritesFrom a c k n old more left all
+writes-step a b c k m n old table more name xs x left all done e f was one h =
+    writes-goes_on a b c k m n old table more x left all done was (serializes_as b c m n (Ok done) (full_column_bytes xs) (full_column_bytes x.1.items) (ap full_column_bytes f) one)
+    (h ∙ ap₂ (λ s v. table ++ keyed_length_bytes (record { name = s; column_type = types.u64 }, length (full_column_bytes v))) e f)
+
+-- ---- the whole file
+
+-- what a buffer has after a call
+pub in_memory : (a b : List ℕ) (k m : ℕ) (done : Unit {0}) (xs : List ℕ) → Serializes (Some a) (Some b) k m (Ok done) xs → b ≡ a ++ xs
+in_memory a b k m done xs first = same_Some b (a ++ xs) first.ok
+
+length-columns : (es : List Entry) → length es ≡ length (keyed_lengths (full_columns (u64_columns (named es))))
+length-columns [] = refl
+length-columns (e ∷ es) = ap suc (length-columns es)
+
+pub key_table-parts : (es : List Entry) (count : ℕ) (made table : List ℕ) → count ≡ length es → made ≡ [] ++ vint_bytes count → table ≡ made ++ keyed_bodies es → table ≡ key_table_bytes (keyed_lengths (full_columns (u64_columns (named es))))
+unfolding key_table_bytes
+key_table-parts es count made table e f g = g ∙ ap (λ m. m ++ keyed_bodies es) (f ∙ ap vint_bytes (e ∙ length-columns es))
+
+pub file-parts : (n : ℕ) (es : List Entry) (a b : List ℕ) → a ≡ key_table_bytes (keyed_lengths (full_columns (u64_columns (named es)))) → b ≡ key_table_bytes (keyed_lengths (full_columns (u64_columns (named es)))) → (bodies es ++ a) ++ footer_bytes (length b) n ≡ number_file n (named es)
+unfolding file_bytes
+file-parts n es a b e f = ap₂ (λ x y. (bodies es ++ x) ++ footer_bytes (length y) n) e f

@@ -1,0 +1,131 @@
+//! Columns of an open file.
+ghost use Rattle.std.specs.Prelude.{◌≡◌, ◌+◌, ◌^◌, ◌<◌, ◌≤◌, true, length, map, find, option_map, bytes_eq, string_bytes};
+ghost use Rattle.std.specs.Int.{w64, from_le_bytes};
+ghost use Rattle.col_common.specs.Reading.{parts_by_first};
+ghost use Rattle.col_common.specs.Decoding.{Decodes};
+ghost use Rattle.col_model.specs.Ascending.{is_ascending};
+ghost use Rattle.col_model.specs.File.{for_each};
+ghost use Rattle.col_model.specs.FullColumns.{full_numbers, entry_numbers};
+ghost use Rattle.col_model.specs.Keys.{entries_from, total_length};
+ghost use Rattle.col_tool.specs.KeyTables.{key_seen, all_keyed};
+ghost use Rattle.col_tool.specs.Opened.{opened};
+
+use crate::column_key::ColumnKey;
+use crate::column_type::ColumnType;
+use crate::column_values::{BitpackedReader, load_u64_based_column_values};
+use crate::key_table::KeyedLength;
+use bytes::Bytes;
+use col_common::ColumnarError;
+use std::alloc::Global;
+
+/// The index of a Full column.
+pub const FULL_INDEX: [u8; 1] = [0];
+
+// How many bytes the length of an index takes.
+const INDEX_LEN_NUM_BYTES: usize = 8;
+
+/// A column of an open file.
+#[derive(Drop)]
+pub struct NamedColumn {
+    pub name: String,
+    pub values: BitpackedReader,
+}
+
+/// Opens columns that follow one another from the file's front on.
+pub fn open_columns(
+    alloc: Global,
+    file: &Bytes,
+    num_docs: u32,
+    entries: Vec<KeyedLength>,
+) -> Result<Vec<NamedColumn>, ColumnarError>
+    requires fits { total_length (all_keyed entries.items) < 2 ^ 64 }
+    requires within { total_length (all_keyed entries.items) ≤ length file.now }
+    ensures { Decodes (λ columns. map opened columns.items) result
+        (for_each (entry_numbers file.now num_docs) (entries_from 0 (all_keyed entries.items))) }
+{
+    let mut columns = Vec::new(alloc);
+    let mut start = 0;
+    for entry in entries {
+        let end = start + entry.num_bytes as usize;
+        let column = open_entry(file, num_docs, start, entry)?;
+        columns.push(column)?;
+        start = end;
+    }
+    Ok(columns)
+}
+
+/// The column of a name, among columns whose names ascend.
+pub fn find_column<'a>(columns: &'a [NamedColumn], name: &str) -> Option<&'a NamedColumn>
+    requires { is_ascending (map (λ c. string_bytes c.name) columns.now) ≡ true }
+    ensures { option_map (λ c. c.now) result ≡ find (λ c. bytes_eq (string_bytes c.name) name.now) columns.now }
+{
+    match columns.binary_search_by(|column| column.name.as_str().cmp(name)) {
+        Ok(at) => Some(&columns[at]),
+        Err(_) => None,
+    }
+}
+
+#[tactic(auto, unfolding(col_model::specs::FullColumns::entry_numbers))]
+fn open_entry(
+    file: &Bytes,
+    num_docs: u32,
+    start: usize,
+    entry: KeyedLength,
+) -> Result<NamedColumn, ColumnarError>
+    requires fits { start + entry.num_bytes < 2 ^ 64 }
+    requires within { start + entry.num_bytes ≤ length file.now }
+    ensures { Decodes opened result (entry_numbers file.now num_docs
+        (record { key = key_seen entry.key; start = start; «end» = start + entry.num_bytes })) }
+{
+    let KeyedLength { key, num_bytes } = entry;
+    let ColumnKey { name, column_type } = key;
+    if column_type.to_code() != ColumnType::U64.to_code() {
+        return Err(ColumnarError::InvalidData);
+    }
+    let column = file.slice(start..start + num_bytes as usize)?;
+    let values = open_column_u64(column, num_docs)?;
+    Ok(NamedColumn { name, values })
+}
+
+/// Opens a Full column of so many numbers.
+#[tactic(auto, unfolding(col_model::specs::FullColumns::full_numbers))]
+pub fn open_column_u64(column: Bytes, num_docs: u32) -> Result<BitpackedReader, ColumnarError>
+    ensures { Decodes (λ list. list) result (full_numbers column num_docs) }
+{
+    let (index, values) = index_and_values(column)?;
+    if index.as_slice() != FULL_INDEX.as_slice() {
+        return Err(ColumnarError::InvalidData);
+    }
+    let list = load_u64_based_column_values(values)?;
+    if list.num_vals() != num_docs {
+        return Err(ColumnarError::InvalidData);
+    }
+    Ok(list)
+}
+
+// The two parts of a column, behind which the length of the first stands.
+#[tactic(auto, unfolding(col_common::specs::Reading::parts_by_first))]
+fn index_and_values(column: Bytes) -> Result<(Bytes, Bytes), ColumnarError>
+    ensures { Decodes (λ p. (p.0, p.1)) result (parts_by_first w64 column) }
+{
+    let mut parts = column;
+    if parts.len() < INDEX_LEN_NUM_BYTES {
+        return Err(ColumnarError::InvalidData);
+    }
+    let index_len = parts.split_off(parts.len() - INDEX_LEN_NUM_BYTES)?;
+    let index_len = whole_number(index_len.as_slice());
+    if index_len as usize > parts.len() {
+        return Err(ColumnarError::InvalidData);
+    }
+    let index = parts.split_to(index_len as usize)?;
+    Ok((index, parts))
+}
+
+// The number that eight bytes spell, the lowest first.
+fn whole_number(bytes: &[u8]) -> u64
+    requires { length bytes.now ≡ INDEX_LEN_NUM_BYTES }
+    ensures { result ≡ from_le_bytes w64 bytes.now }
+{
+    let n = bytes;
+    u64::from_le_bytes([n[0], n[1], n[2], n[3], n[4], n[5], n[6], n[7]])
+}

@@ -1,0 +1,71 @@
+//! The footer of a file.
+ghost use Rattle.std.specs.Prelude.{◌≡◌, option_map};
+ghost use Rattle.col_common.specs.Serializing.{Serializes};
+ghost use Rattle.col_model.specs.Version.{version_of};
+ghost use Rattle.col_model.specs.Keys.{file_footer};
+ghost use Rattle.col_model.specs.Spelling.{footer_bytes};
+ghost use Rattle.col_tool.specs.Footers.{footer_of};
+
+use crate::reading::{u32_at, u64_at};
+use col_common::{ColumnarError, Sink, serialize_bytes};
+use col_model::CURRENT_VERSION;
+
+/// How many bytes the version and the magic bytes take.
+pub const VERSION_FOOTER_NUM_BYTES: usize = 8;
+
+// The version that is written, and the magic bytes.
+const VERSION_FOOTER: [u8; VERSION_FOOTER_NUM_BYTES] = [2, 0, 0, 0, 2, 0x71, 0x77, 0x42];
+
+/// How many bytes a footer takes.
+pub const FOOTER_NUM_BYTES: u64 = 20;
+
+const MAGIC_BYTES: [u8; 4] = [2, 0x71, 0x77, 0x42];
+
+/// What the last bytes of a file say.
+#[derive(Clone, Copy, Debug)]
+pub struct Footer {
+    pub key_table_len: u64,
+    pub num_docs: u32,
+    pub version: u32,
+}
+
+/// The footer that all the bytes spell.
+#[tactic(auto, unfolding(col_model::specs::Keys::file_footer))]
+pub fn parse_footer(bytes: &[u8]) -> Option<Footer>
+    ensures { option_map footer_of result ≡ file_footer bytes.now }
+{
+    let (key_table_len, rest) = u64_at(bytes)?;
+    let (num_docs, rest) = u32_at(rest)?;
+    let version = parse_version(rest)?;
+    Some(Footer {
+        key_table_len,
+        num_docs,
+        version,
+    })
+}
+
+// The version that the last bytes of a footer spell.
+fn parse_version(bytes: &[u8]) -> Option<u32>
+    ensures { result ≡ version_of bytes.now }
+{
+    let (version, magic) = u32_at(bytes)?;
+    if magic == MAGIC_BYTES.as_slice() && version == CURRENT_VERSION {
+        Some(version)
+    } else {
+        None
+    }
+}
+
+/// Writes the footer of a file of the current version.
+pub fn serialize_footer<K: Sink>(
+    key_table_len: u64,
+    num_docs: u32,
+    sink: &mut K,
+) -> Result<(), ColumnarError>
+    ensures { Serializes (K.written sink.old) (K.written sink.new) (K.faults sink.old) (K.faults sink.new)
+        result (footer_bytes key_table_len num_docs) }
+{
+    serialize_bytes(sink, &key_table_len.to_le_bytes())?;
+    serialize_bytes(sink, &num_docs.to_le_bytes())?;
+    serialize_bytes(sink, &VERSION_FOOTER)
+}

@@ -1,0 +1,29 @@
+//! The merge of a script's segments into the bytes of one file.
+ghost use Rattle.std.specs.Prelude.{◌≡◌, ◌<◌, ◌^◌, IfOk, length};
+ghost use Rattle.col_model.specs.FullColumns.{number_file, AreNumberColumns};
+
+use crate::script::Script;
+use bytes::Bytes;
+use col_common::VecSink;
+use std::alloc::{AllocError, Global};
+
+/// The file of the only segment, or of a table without rows.
+pub fn merge_columnar(alloc: Global, script: &Script) -> Result<Bytes, AllocError>
+    requires { AreNumberColumns script.now.num_docs script.now.columns }
+    ensures file { IfOk result (λ file. file ≡ number_file script.now.num_docs script.now.columns) }
+    ensures rows { script.now.num_docs < 2 ^ 32 }
+    ensures fits { IfOk result (λ file. length file < 2 ^ 64) }
+{
+    let mut sink = VecSink::new(Vec::new(alloc), Vec::new(alloc));
+    // No call of this sink is to fail, so a refusal is want of memory.
+    if script
+        .columns
+        .serialize(alloc, script.num_docs, &mut sink)
+        .is_err()
+    {
+        return Err(AllocError);
+    }
+    let file = Bytes::from_vec(sink.into_bytes())?;
+    let _len = file.len();
+    Ok(file)
+}

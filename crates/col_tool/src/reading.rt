@@ -1,0 +1,48 @@
+//! Parts of bytes, each taken exactly or none.
+ghost use Rattle.std.specs.Prelude.{◌≡◌, option_map};
+ghost use Rattle.std.specs.Int.{w32, w64};
+ghost use Rattle.col_common.specs.Reading.{front, back, le_number};
+
+/// The first bytes, so many, and the others.
+pub fn front_of(count: u64, bytes: &[u8]) -> Option<(&[u8], &[u8])>
+    ensures { option_map (λ p. (p.0.now, p.1.now)) result ≡ front count bytes.now }
+{
+    if count as usize > bytes.len() {
+        return None;
+    }
+    Some(bytes.split_at(count as usize))
+}
+
+/// The others, and the last bytes, so many.
+pub fn back_of(count: u64, bytes: &[u8]) -> Option<(&[u8], &[u8])>
+    ensures { option_map (λ p. (p.0.now, p.1.now)) result ≡ back count bytes.now }
+{
+    if count as usize > bytes.len() {
+        return None;
+    }
+    Some(bytes.split_at(bytes.len() - count as usize))
+}
+
+/// The number in the first four bytes, the lowest first, and the other bytes.
+pub fn u32_at(bytes: &[u8]) -> Option<(u32, &[u8])>
+    ensures { option_map (λ p. (p.0, p.1.now)) result ≡ le_number w32 bytes.now }
+{
+    if bytes.len() < 4 {
+        return None;
+    }
+    let (number, rest) = bytes.split_at(4);
+    let number = u32::from_le_bytes([number[0], number[1], number[2], number[3]]);
+    Some((number, rest))
+}
+
+/// The number in the first eight bytes, the lowest first, and the other bytes.
+pub fn u64_at(bytes: &[u8]) -> Option<(u64, &[u8])>
+    ensures { option_map (λ p. (p.0, p.1.now)) result ≡ le_number w64 bytes.now }
+{
+    if bytes.len() < 8 {
+        return None;
+    }
+    let (n, rest) = bytes.split_at(8);
+    let number = u64::from_le_bytes([n[0], n[1], n[2], n[3], n[4], n[5], n[6], n[7]]);
+    Some((number, rest))
+}
