@@ -1,10 +1,9 @@
 -- Items of a packed list, read through a window of eight bytes.
-use Rattle.std.proofs.Common.{◌≡◌, ℕ, zero, suc, ◌+◌, ◌-◌, ◌*◌, ◌/◌, ◌%◌, ◌^◌, ◌<◌, ◌≤◌, List, [], ◌∷◌, length, take, drop, get_or, slice_index, Some, refl, sym, ◌∙◌, ap, arith, zero-add, mul_comm, mul_assoc, pow-suc, div-one, div-add-mod', mul-add, mul-pos, lit<}
+use Rattle.std.proofs.Common.{◌≡◌, ℕ, zero, suc, ◌+◌, ◌*◌, ◌/◌, ◌%◌, ◌^◌, ◌<◌, List, [], ◌∷◌, take, drop, get_or, slice_index, Some, refl, sym, ◌∙◌, ap, arith, zero-add, mul_comm, mul_assoc, pow-suc, div-one, div-add-mod', mul-add, mul-pos, lit<}
 use Rattle.std.specs.List.{AllByRecursion}
-use Rattle.std.specs.Int.{w64, from_le_bytes, ◌∣◌}
 use Rattle.std.proofs.lemmas.Option.{cond_some}
-use Rattle.std.proofs.lemmas.Nat.{pow_pos, pow-add, shr-shr, field_of, mod-mul-add, mod_below}
-use native.Mathlib.Nat.{pow-zero, add-mul-div_left, div-eq_of_lt, div-div-eq-div-mul, mod-mod_of_dvd, dvd-mul_left, zero-div, zero-mod, mod-one}
+use Rattle.std.proofs.lemmas.Nat.{pow_pos, mod-mul-add, mod_below}
+use native.Mathlib.Nat.{pow-zero, add-mul-div_left, div-eq_of_lt, div-div-eq-div-mul, zero-div, zero-mod, mod-one}
 use Rattle.col_bits.specs.Packed.{number_of, digits, packed}
 use Rattle.col_bits.proofs.PackedLemmas.{digits-at, pow-pow, mul-add-lt-digit}
 
@@ -42,18 +41,3 @@ unfolding packed
 packed-at bytes w n i xs e h =
     let parts = cond_some _ (digits (2 ^ w) n (number_of 256 bytes)) xs e in
     ap (λ ys. get_or ys i 0) (sym parts.1) ∙ digits-at (2 ^ w) n (number_of 256 bytes) i (pow_pos w) h ∙ ap (λ m. number_of 256 bytes / m % 2 ^ w) (pow-pow w i)
-
--- the part is seen in a window of 64 bits
-pub window : (n a s w : ℕ) → s + w ≤ 64 → n / 256 ^ a % 256 ^ 8 / 2 ^ s % 2 ^ w ≡ n / 2 ^ (a * 8 + s) % 2 ^ w
-window n a s w h =
-    let m = n / 256 ^ a in
-    let whole : 64 - s + s ≡ 64 = omega arith in
-    let cut : m % 2 ^ 64 / 2 ^ s ≡ m / 2 ^ s % 2 ^ (64 - s) = ap (λ k. m % 2 ^ k / 2 ^ s) (sym whole) ∙ field_of m (64 - s) s in
-    let wide : 64 - s ≡ (64 - s - w) + w = omega arith in
-    let divides : 2 ^ w ∣ 2 ^ (64 - s) = rw (wide, pow-add 2 (64 - s - w) w) (dvd-mul_left (2 ^ w) (2 ^ (64 - s - w))) in
-    ap (λ k. k % 2 ^ w) cut ∙ mod-mod_of_dvd (2 ^ w) (m / 2 ^ s) divides ∙ ap (λ k. n / k / 2 ^ s % 2 ^ w) (pow-pow 8 a) ∙ ap (λ k. k % 2 ^ w) (shr-shr n (a * 8) s)
-
--- at most eight bytes as std reads them
-pub from_le_bytes-number_of : (bytes : List ℕ) → length bytes ≤ 8 → from_le_bytes w64 bytes ≡ number_of 256 bytes
-from_le_bytes-number_of (a ∷ b ∷ c ∷ d ∷ e ∷ f ∷ g ∷ h ∷ []) l = omega arith
-from_le_bytes-number_of _ l = omega arith

@@ -63,17 +63,6 @@ each-goes_on f front x xs y total h so_far =
     let one : with_items front (for_each f (x ∷ xs)) ≡ with_items (front ++ y ∷ []) (for_each f xs) = rw h (regroup_items front y (for_each f xs)) in
     sym one ∙ so_far
 
-each-ends : {A B : Type 0} (f : A → Option B) (front : List B) (x : A) (xs : List A) (total : Option (List B)) → with_items front (for_each f (x ∷ xs)) ≡ total → f x ≡ None → total ≡ None
-each-ends f front x xs total so_far h =
-    let one : with_items front (for_each f (x ∷ xs)) ≡ None = rw h refl in
-    sym so_far ∙ one
-
-pub each-refused : {A B : Type 0} (e : ColumnarError) (f : A → Option B) (front : List B) (x : A) (xs : List A) (total : Option (List B)) → with_items front (for_each f (x ∷ xs)) ≡ total → Refuses e (f x) → Refuses e total
-each-refused e f front x xs total so_far h = refuses_as e (f x) total (each-ends f front x xs total so_far) h
-
-pub each-done : {A B : Type 0} (f : A → Option B) (front : List B) (total : Option (List B)) → with_items front (for_each f []) ≡ total → total ≡ Some front
-each-done f front total so_far = sym so_far ∙ ap Some (append-nil front)
-
 pub each-init : {B : Type 0} (made : Option (List B)) → with_items [] made ≡ made
 each-init (Some xs) = refl
 each-init None = refl

@@ -4,7 +4,7 @@ use Rattle.std.specs.List.{list_all}
 use Rattle.std.specs.Str.{IsUtf8, is_utf8}
 use Rattle.std.specs.Ordering.{nat_cmp, is_lt, ordering_then}
 use Rattle.std.specs.Cmp.Lexicographic.{slice_cmp}
-use Rattle.std.proofs.lemmas.Bool.{and_from, and_left, and_right, and_parts}
+use Rattle.std.proofs.lemmas.Bool.{and_from, and_left, and_parts}
 use Rattle.std.proofs.lemmas.Str.{is_utf8-from_IsUtf8, IsUtf8-from_is_utf8}
 use Rattle.col_common.specs.Reading.{only_if}
 use Rattle.col_model.specs.ColumnType.{type_code, is_numerical}
@@ -30,9 +30,6 @@ name_of-text bytes z u = ap (λ b. only_if b bytes) (and_from _ _ (is_utf8-from_
 
 pub name_of-no_text : (bytes : List ℕ) → (IsUtf8 bytes → ⊥) → only_if (is_name bytes) bytes ≡ None
 name_of-no_text bytes n = ap (λ b. only_if b bytes) (and_left (is_utf8 bytes) (has_no_zero bytes) (not_true (is_utf8 bytes) (λ e. n (IsUtf8-from_is_utf8 bytes e))))
-
-pub name_of-zero : (bytes : List ℕ) → has_no_zero bytes ≡ false → only_if (is_name bytes) bytes ≡ None
-name_of-zero bytes z = ap (λ b. only_if b bytes) (and_right (is_utf8 bytes) (has_no_zero bytes) z)
 
 -- ---- order
 

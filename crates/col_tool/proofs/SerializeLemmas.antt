@@ -1,5 +1,5 @@
 -- Parts that are serialized one behind another, and what they are together.
-use Rattle.std.proofs.Common.{◌≡◌, ℕ, suc, ◌+◌, ◌^◌, ◌<◌, List, [], ◌∷◌, ◌++◌, length, map, flat_map, Result, Ok, Err, Some, IfErr, String, Vec, string_bytes, refl, sym, ap, ap₂, ◌∙◌, subst, append_assoc, append-nil, length-append, inl}
+use Rattle.std.proofs.Common.{◌≡◌, ℕ, suc, ◌+◌, ◌^◌, ◌<◌, List, [], ◌∷◌, ◌++◌, length, map, flat_map, Result, Ok, Err, Some, IfErr, String, Vec, string_bytes, refl, sym, ap, ap₂, ◌∙◌, subst, append_assoc, length-append, inl}
 use Rattle.std.specs.List.{AllByRecursion}
 use Rattle.std.specs.Int.{w32, w64, to_le_bytes}
 use Rattle.std.specs.declared.alloc.Global.{Global}
@@ -112,12 +112,7 @@ writes-goes_on a b c k m n old table more x left all done was one e = record {
 pub writes-refused : (a b c : Told) (k m n : ℕ) (old table : List ℕ) (left all : List Entry) (e : ColumnarError) (ys : List ℕ) → WritesFrom a b k m old table left all → Serializes b c m n (Err e) ys → Serializes a c k n (Err e) (bodies all)
 writes-refused a b c k m n old table left all e ys was one = refused_later a b c k m n tt e was.bytes ys (bodies all) was.serialized one
 
-pub writes-done : (a b : Told) (k m : ℕ) (old table : List ℕ) (left all : List Entry) → left ≡ [] → WritesFrom a b k m old table left all → Serializes a b k m (Ok tt) (bodies all) × (table ≡ old ++ keyed_bodies all)
-writes-done a b k m old table left all e was =
-    let last = subst (λ es. WritesFrom a b k m old table es all) e was in
-    (serializes_as a b k m (Ok tt) last.bytes (bodies all) (sym (append-nil last.bytes) ∙ last.whole) last.serialized, sym (append-nil table) ∙ last.keyed)
-
--- the same, where the name and the numbers are told in other words
+-- one more column, where the name and the numbers are told in other words
 pub writes-step : (a b c : Told) (k m n : ℕ) (old table more name xs : List ℕ) (x : Entry) (left all : List Entry) (done : Unit {0}) → name ≡ string_bytes x.0 → xs ≡ x.1.items → WritesFrom a b k m old table (x ∷ left) all
     → Serializes b c m n (Ok done) (full_column_bytes xs) → more ≡ table ++ keyed_length_bytes (record { name = name; column_type = types.u64 }, length (full_column_bytes xs)) → WritesFrom a c k n old more left all
 writes-step a b c k m n old table more name xs x left all done e f was one h =

@@ -106,13 +106,6 @@ same_stats-above s bytes w i whole e h p =
     let top : s.least + s.divisor * steps_of s ≡ s.greatest = whole.top in
     same_stats-greatest (stats_of (items_in s bytes)) s (ne_eqb (stats_of (items_in s bytes)).greatest s.greatest (omega (arith, more, top, item-within s bytes w i e h)))
 
--- an item up to the steps
-pub item-fits : (s : Stats) (k : ℕ) → IsWhole s → k ≤ steps_of s → s.greatest < 2 ^ 64 → s.least + s.divisor * k < 2 ^ 64
-item-fits s k whole h fits = lt_of_le_of_lt (let more : s.divisor * k ≤ s.divisor * steps_of s = mul_le s.divisor k (steps_of s) h in let top : s.least + s.divisor * steps_of s ≡ s.greatest = whole.top in omega (arith, more, top)) fits
-  where
-    mul_le : (d m n : ℕ) → m ≤ n → d * m ≤ d * n
-    mul_le d m n h = grind arith
-
 -- items with these statistics
 pub IsReader-same : (s : Stats) (bytes : List ℕ) (w : ℕ) → w ≡ width (steps_of s) → s.greatest < 2 ^ 64 → same_stats (stats_of (items_in s bytes)) s ≡ true → IsReader s w bytes
 IsReader-same s bytes w e fits same =
