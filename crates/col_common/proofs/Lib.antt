@@ -4,3 +4,6 @@ pub mod SerializingLemmas
 pub mod VIntLemmas
 pub mod VIntReadingLemmas
 pub mod VIntSpellingLemmas
+pub mod OctetLemmas
+pub mod FlagLemmas
+pub mod MemberLemmas

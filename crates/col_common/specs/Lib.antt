@@ -4,6 +4,9 @@ pub mod Causes
 pub mod Outside
 pub mod Refused
 pub mod Decoding
+pub mod Replacing
 pub mod Serializing
 pub mod Memory
 pub mod Walks
+pub mod Octets
+pub mod Flags

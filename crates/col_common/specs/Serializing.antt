@@ -12,3 +12,8 @@ pub record Serializes (old new : Told) (before now : ℕ) (result : Result (Unit
   pub later : before ≤ now
   pub write_fault : result ≡ Err WriteFault → Rose before now
   pub causes : IfErr result (λ e. (e ≡ OutOfMemory) ⊎ (e ≡ WriteFault))
+
+-- A call was stopped before the first byte: the sink is as it was, and the answer is this refusal, or want of memory.
+pub record Stopped {S : Type 0} (old new : S) (result : Result (Unit {0}) ColumnarError) (refusal : ColumnarError) : Type 0 where
+  pub same : new ≡ old
+  pub refused : (result ≡ Err refusal) ⊎ (result ≡ Err OutOfMemory)
