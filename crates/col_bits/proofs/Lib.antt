@@ -4,3 +4,5 @@ pub mod WordLemmas
 pub mod WidthLemmas
 pub mod WriteLemmas
 pub mod PackingLemmas
+pub mod ExtremeLemmas
+pub mod ItemLemmas

@@ -8,7 +8,7 @@ use lib.Count.{count_leading_zeros}
 use Rattle.col_bits.specs.Packed.{binary_digits, width}
 
 -- the count of binary digits, where at most k are asked for
-binary_digits-is : (k n j : ℕ) → j ≤ k → n < 2 ^ j → 2 ^ j ≤ 2 * n + 1 → binary_digits k n ≡ j
+pub binary_digits-is : (k n j : ℕ) → j ≤ k → n < 2 ^ j → 2 ^ j ≤ 2 * n + 1 → binary_digits k n ≡ j
 binary_digits-is zero n j short below above = omega arith
 binary_digits-is (suc k) n zero short below above =
     let none : n ≡ 0 = let b = rw (pow-zero 2) at below in omega (arith, b) in

@@ -1,6 +1,7 @@
 -- Numbers of a fixed count of bits, one after another. States docs/FORMAT.md, section 2.
-use Rattle.std.specs.Prelude.{ℕ, zero, suc, ◌+◌, ◌*◌, ◌/◌, ◌%◌, ◌^◌, ◌==◌, ◌&&◌, ◌||◌, nat_lt, nat_le, Bool, List, [], ◌∷◌, length, if◌then◌else◌, Option, Some, None}
-use Rattle.std.specs.Int.{div_ceil}
+use Rattle.std.specs.Prelude.{ℕ, zero, suc, ◌+◌, ◌*◌, ◌/◌, ◌%◌, ◌^◌, ◌==◌, ◌&&◌, ◌||◌, nat_lt, nat_le, Bool, List, [], ◌∷◌, length, map, filter, if◌then◌else◌, Option, Some, None}
+use Rattle.std.specs.Int.{div_ceil, is_in_range}
+use Rattle.std.specs.List.{range_with_len}
 
 -- the number with these digits in a base, the lowest digit first
 abbrev pub number_of : ℕ → List ℕ → ℕ
@@ -21,6 +22,14 @@ packed bytes w n =
 -- item i of w bits: bits i * w to i * w + w - 1 of the bytes, as one number
 abbrev pub item : List ℕ → ℕ → ℕ → ℕ
 item bytes w i = number_of 256 bytes / 2 ^ (i * w) % 2 ^ w
+
+-- n items of w bits, from item a on
+abbrev pub items : List ℕ → ℕ → ℕ → ℕ → List ℕ
+items bytes w a n = map (item bytes w) (range_with_len a n)
+
+-- which of the n ids from a on have an item from low to high, ascending
+unfoldable pub ids_between : List ℕ → ℕ → ℕ → ℕ → ℕ → ℕ → List ℕ
+ids_between bytes w low high a n = filter (λ id. is_in_range low high (item bytes w id)) (range_with_len a n)
 
 -- the bytes of items of w bits
 abbrev pub packed_bytes : ℕ → List ℕ → List ℕ

@@ -1,14 +1,16 @@
 //! Packs and reads numbers of one width in bits, the lowest bits first.
 
 ghost use Rattle.std.specs.Prelude.{◌≡◌, ℕ, ◌+◌, ◌-◌, ◌*◌, ◌/◌, ◌%◌, ◌^◌, ◌<◌, ◌≤◌, List, length, slice_index};
-ghost use Rattle.std.specs.Prelude.{IsTrue, IfOk, OnOk, OnErr};
-ghost use Rattle.std.specs.List.{AllByRecursion};
-ghost use Rattle.std.specs.Int.{div_ceil};
-ghost use Rattle.col_bits.specs.Packed.{number_of, width, is_width, item, packed, packed_bytes};
+ghost use Rattle.std.specs.Prelude.{◌↔◌, ◌++◌, [], IsTrue, OnOk, OnErr, take};
+ghost use Rattle.std.specs.Int.{div_ceil, is_in_range};
+ghost use Rattle.std.specs.List.Sorted.{IsStrictlyIncreasing};
+ghost use Rattle.std.specs.Range.{range_inclusive_start, range_inclusive_end};
+ghost use Rattle.col_bits.specs.Packed.{number_of, width, is_width, item, items, ids_between, packed};
 ghost use Rattle.col_bits.specs.Packing.{Held, nothing_held, bits_of, count_of, AddsBytes};
 
-use std::alloc::{AllocError, Global};
+use std::alloc::AllocError;
 use std::marker::Model;
+use std::ops::{Range, RangeInclusive};
 
 /// The widest numbers that are always read by one load of eight bytes.
 const MAX_SMALL_WIDTH: u32 = 56;
@@ -18,6 +20,12 @@ const WORD_BITS: u32 = 64;
 
 /// The bits of a byte.
 const BYTE_BITS: u32 = 8;
+
+/// The bytes of a word.
+const WORD_BYTES: usize = 8;
+
+/// How many ids are tested before the room that is left over is given back.
+const BLOCK_LEN: u32 = 1024;
 
 /// The width of numbers up to `n`: its binary digits where these are at most 56, else 64.
 pub fn compute_num_bits(n: u64) -> u8
@@ -107,22 +115,6 @@ impl BitPacker {
     }
 }
 
-/// The packed list of these numbers.
-pub fn pack(alloc: Global, values: &[u64], num_bits: u8) -> Result<Vec<u8>, AllocError>
-    requires width { IsTrue (is_width num_bits) }
-    requires small { AllByRecursion (λ v. v < 2 ^ num_bits) values.now }
-    ensures { IfOk result (λ bytes. bytes.items ≡ packed_bytes num_bits values.now) }
-{
-    let bits = values.len().saturating_mul(usize::from(num_bits));
-    let mut output = Vec::with_capacity(alloc, bits.div_ceil(BYTE_BITS as usize))?;
-    let mut packer = BitPacker::new();
-    for value in values {
-        packer.write(*value, num_bits, &mut output)?;
-    }
-    packer.close(&mut output)?;
-    Ok(output)
-}
-
 /// Reads numbers of one width.
 #[derive(Clone, Copy)]
 pub struct BitUnpacker {
@@ -170,9 +162,158 @@ impl BitUnpacker {
         ensures packed { (n : ℕ) (items : List ℕ) → idx < n → packed «data».now self.now n ≡ Some items →
             slice_index items idx ≡ result }
     {
-        let from = idx as usize * self.num_bits as usize;
-        (word_from(data, from / 8) >> (from % 8)) & self.mask
+        self.item_at::<false>(idx, data)
     }
+
+    /// Writes the numbers from an index on, where what is past the end of the bytes counts as 0.
+    pub fn get_range(&self, start: u32, data: &[u8], output: &mut [u64])
+        requires { start + length output.old ≤ 2 ^ 32 }
+        ensures { output.new ≡ items «data».now self.now start (length output.old) }
+    {
+        if self.is_padded(start as u64 + output.len() as u64, data) {
+            self.read::<true>(start, data, output)
+        } else {
+            self.read::<false>(start, data, output)
+        }
+    }
+
+    /// Puts there which of the ids have a number from the first to the last of the range, ascending.
+    #[tactic(auto, using(crate::proofs::ItemLemmas::ids_rise))]
+    pub fn get_ids_for_value_range(
+        &self,
+        value_range: RangeInclusive<u64>,
+        ids: Range<u32>,
+        data: &[u8],
+        positions: &mut Vec<u32>,
+    ) -> Result<(), AllocError>
+        ensures ok { OnOk result (positions.new.items ≡ ids_between «data».now self.now
+            (range_inclusive_start value_range) (range_inclusive_end value_range) ids.start (ids.end - ids.start)) }
+        ensures rises { OnOk result (IsStrictlyIncreasing positions.new.items) }
+        // Where memory is wanting, none are there.
+        ensures none { OnErr result (positions.new.items ≡ []) }
+    {
+        let (low, high) = value_range.into_inner();
+        positions.clear();
+        let mut from = ids.start;
+        while from < ids.end {
+            let to = from + (ids.end - from).min(BLOCK_LEN);
+            if let Err(wanting) = self.push_ids(low, high, from..to, data, positions) {
+                positions.clear();
+                return Err(wanting);
+            }
+            from = to;
+        }
+        Ok(())
+    }
+
+    /// Appends which of the ids have a number between the ends.
+    fn push_ids(
+        &self,
+        low: u64,
+        high: u64,
+        ids: Range<u32>,
+        data: &[u8],
+        positions: &mut Vec<u32>,
+    ) -> Result<(), AllocError>
+        requires { ids.start ≤ ids.end }
+        ensures { OnOk result (positions.new.items ≡ positions.old.items
+            ++ ids_between «data».now self.now low high ids.start (ids.end - ids.start)) }
+    {
+        let len = positions.len();
+        let count = (ids.end - ids.start) as usize;
+        positions.resize(len + count, 0)?;
+        let end = self.write_ids(low, high, ids, data, positions.as_mut_slice(), len);
+        positions.truncate(end);
+        Ok(())
+    }
+
+    /// Writes them from place `at` on, and says where they end.
+    fn write_ids(
+        &self,
+        low: u64,
+        high: u64,
+        ids: Range<u32>,
+        data: &[u8],
+        output: &mut [u32],
+        at: usize,
+    ) -> usize
+        requires order { ids.start ≤ ids.end }
+        requires room { at + (ids.end - ids.start) ≤ length output.old }
+        ensures within { result ≤ length output.old }
+        ensures front { take result output.new ≡ take at output.old
+            ++ ids_between «data».now self.now low high ids.start (ids.end - ids.start) }
+    {
+        if self.is_padded(ids.end as u64, data) {
+            self.write_ids_by::<true>(low, high, ids, data, output, at)
+        } else {
+            self.write_ids_by::<false>(low, high, ids, data, output, at)
+        }
+    }
+
+    /// The same, with no branch on what a number is.
+    fn write_ids_by<const PADDED: bool>(
+        &self,
+        low: u64,
+        high: u64,
+        ids: Range<u32>,
+        data: &[u8],
+        output: &mut [u32],
+        at: usize,
+    ) -> usize
+        requires order { ids.start ≤ ids.end }
+        requires room { at + (ids.end - ids.start) ≤ length output.old }
+        requires padded { IsTrue PADDED → ids.end * self.now / 8 + 8 ≤ length «data».now }
+        ensures within { result ≤ length output.old }
+        ensures front { take result output.new ≡ take at output.old
+            ++ ids_between «data».now self.now low high ids.start (ids.end - ids.start) }
+    {
+        let unpacker = *self;
+        let mut kept = at;
+        for id in ids.start..ids.end {
+            let value = unpacker.item_at::<PADDED>(id, data);
+            output[kept] = id;
+            kept += is_within(value, low, high) as usize;
+        }
+        kept
+    }
+
+    /// Writes the numbers from an index on.
+    fn read<const PADDED: bool>(&self, start: u32, data: &[u8], output: &mut [u64])
+        requires indexes { start + length output.old ≤ 2 ^ 32 }
+        requires padded { IsTrue PADDED → (start + length output.old) * self.now / 8 + 8 ≤ length «data».now }
+        ensures { output.new ≡ items «data».now self.now start (length output.old) }
+    {
+        let unpacker = *self;
+        for i in 0..output.len() {
+            output[i] = unpacker.item_at::<PADDED>(start + i as u32, data);
+        }
+    }
+
+    /// Whether the eight bytes of a load are there for each number below an index.
+    fn is_padded(&self, end: u64, data: &[u8]) -> bool
+        requires { end ≤ 2 ^ 32 }
+        ensures { IsTrue result ↔ end * self.now / 8 + 8 ≤ length «data».now }
+    {
+        end as usize * self.num_bits as usize / 8 + WORD_BYTES <= data.len()
+    }
+
+    /// The number at an index. PADDED says that the eight bytes of its load are there.
+    #[inline(always)]
+    fn item_at<const PADDED: bool>(&self, idx: u32, data: &[u8]) -> u64
+        requires { IsTrue PADDED → idx * self.now / 8 + 8 ≤ length «data».now }
+        ensures { result ≡ item «data».now self.now idx }
+    {
+        let from = idx as usize * self.num_bits as usize;
+        (word_at::<PADDED>(data, from / 8) >> (from % 8)) & self.mask
+    }
+}
+
+/// Whether a value is one from `low` to `high`.
+#[inline(always)]
+fn is_within(value: u64, low: u64, high: u64) -> bool
+    ensures { result ≡ is_in_range low high value }
+{
+    low <= value && value <= high
 }
 
 /// The bits from place `from` on.
@@ -231,13 +372,14 @@ fn last_word(bytes: &[u8], at: usize) -> u64
     ])
 }
 
-/// The 64 bits from byte `at` on, where those past the end are 0.
+/// The 64 bits from byte `at` on, where those past the end are 0. PADDED says that none is past it.
 #[inline(always)]
-fn word_from(bytes: &[u8], at: usize) -> u64
-    requires { at + 8 ≤ usize.MAX }
+fn word_at<const PADDED: bool>(bytes: &[u8], at: usize) -> u64
+    requires fits { at + 8 ≤ usize.MAX }
+    requires padded { IsTrue PADDED → at + 8 ≤ length bytes.now }
     ensures { result ≡ number_of 256 bytes.now / 2 ^ (8 * at) % 2 ^ 64 }
 {
-    if at + 8 <= bytes.len() {
+    if PADDED || at + WORD_BYTES <= bytes.len() {
         word(bytes, at)
     } else {
         last_word(bytes, at)

@@ -3,8 +3,10 @@
 #![tactic(auto)]
 
 mod bitpacker;
+mod extremes;
 
-pub use bitpacker::{BitPacker, BitUnpacker, compute_num_bits, pack};
+pub use bitpacker::{BitPacker, BitUnpacker, compute_num_bits};
+pub use extremes::minmax;
 
 #[cfg(test)]
 mod tests;

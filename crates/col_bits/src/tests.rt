@@ -1,14 +1,28 @@
-//! Widths, packed lists whose bytes are worked out by hand, and lists that are read back.
+//! Widths, packed lists whose bytes are worked out by hand, lists that are read back, and lookups in them.
 ghost use Rattle.std.specs.Prelude.{◌<◌, ◌^◌, IsTrue};
 ghost use Rattle.std.specs.List.{AllByRecursion};
 ghost use Rattle.col_bits.specs.Packed.{is_width};
 
-use crate::{BitPacker, BitUnpacker, compute_num_bits, pack};
-use std::alloc::Global;
+use crate::{BitPacker, BitUnpacker, compute_num_bits, minmax};
+use std::alloc::{AllocError, Global};
 use std::process::Abort;
 use std::test::Fail;
 
-// Packs five numbers and reads each.
+// The packed list of these numbers.
+fn pack(alloc: Global, values: &[u64], width: u8) -> Result<Vec<u8>, AllocError>
+    requires width { IsTrue (is_width width) }
+    requires small { AllByRecursion (λ v. v < 2 ^ width) values.now }
+{
+    let mut output = Vec::new(alloc);
+    let mut packer = BitPacker::new();
+    for value in values {
+        packer.write(*value, width, &mut output)?;
+    }
+    packer.close(&mut output)?;
+    Ok(output)
+}
+
+// Packs five numbers and reads each, and all of them.
 fn reads_back(rt: &impl Abort, alloc: Global, values: &[u64; 5], width: u8) -> Result<(), Fail>
     requires width { IsTrue (is_width width) }
     requires small { AllByRecursion (λ v. v < 2 ^ width) values.now }
@@ -28,6 +42,9 @@ fn reads_back(rt: &impl Abort, alloc: Global, values: &[u64; 5], width: u8) -> R
         0,
         "past the end of width {width}"
     );
+    let mut all = [1; 5];
+    reader.get_range(0, &bytes, &mut all);
+    assert_eq!(rt; all, *values, "all items of width {width}");
     Ok(())
 }
 
@@ -95,4 +112,51 @@ fn closing_a_packer_that_holds_nothing_adds_nothing(rt: HostRuntime) -> Result<(
     BitPacker::new().close(&mut output)?;
     assert_eq!(rt; output.as_slice(), b"ab".as_slice());
     Ok(())
+}
+
+#[test]
+fn a_part_is_read_and_past_the_end_zeros(rt: HostRuntime) {
+    // Numbers 1, 0, 3, 2 of two bits, and four zeros.
+    let bytes = [0b10_11_00_01, 0];
+    let reader = BitUnpacker::new(2);
+    let mut part = [7; 3];
+    reader.get_range(2, &bytes, &mut part);
+    assert_eq!(rt; part, [3, 2, 0]);
+    reader.get_range(u32::MAX - 2, &bytes, &mut part);
+    assert_eq!(rt; part, [0, 0, 0]);
+}
+
+#[test]
+fn ids_of_numbers_in_a_range_replace_what_was_there(rt: HostRuntime) -> Result<(), Fail> {
+    // Numbers 1, 0, 3, 2 of two bits, and zeros behind them.
+    let bytes = [0b10_11_00_01, 0];
+    let reader = BitUnpacker::new(2);
+    let mut found = vec![in rt.alloc(); 9, 9, 9, 9]?;
+    for (low, high, from, to, ids) in [
+        (1, 3, 0, 4, [0, 2, 3].as_slice()),
+        (1, 2, 0, 9, [0, 3].as_slice()),
+        (2, 3, 3, 9, [3].as_slice()),
+        (3, 1, 0, 4, [].as_slice()),
+        (0, 3, 4, 2, [].as_slice()),
+        (0, 0, u32::MAX - 1, u32::MAX, [u32::MAX - 1].as_slice()),
+    ] {
+        reader.get_ids_for_value_range(low..=high, from..to, &bytes, &mut found)?;
+        assert_eq!(rt;
+            found.as_slice(),
+            ids,
+            "{low} to {high} from {from} to {to}"
+        );
+    }
+    reader.get_ids_for_value_range(0..=0, 0..3000, &bytes, &mut found)?;
+    assert_eq!(rt; found.len(), 2997);
+    assert_eq!(rt; found.first(), Some(&1));
+    assert_eq!(rt; found.last(), Some(&2999));
+    Ok(())
+}
+
+#[test]
+fn the_least_and_the_greatest_are_found(rt: HostRuntime) {
+    assert_eq!(rt; minmax([3u64, 1, 2].iter().copied()), Some((1, 3)));
+    assert_eq!(rt; minmax([5u64].iter().copied()), Some((5, 5)));
+    assert_eq!(rt; minmax([0u64; 0].iter().copied()), None);
 }

@@ -1,0 +1,79 @@
+-- Items and ids, one after another and in blocks.
+use Rattle.std.proofs.Common.{◌≡◌, ℕ, zero, suc, ◌+◌, ◌<◌, ◌≤◌, Bool, true, false, cond, List, [], ◌∷◌, ◌++◌, length, take, set, sym, refl, ap, ◌∙◌, arith, append_assoc, append-nil, add-zero, zero-add}
+use Rattle.std.specs.List.{range_with_len, filter}
+use Rattle.std.specs.Int.{is_in_range}
+use Rattle.std.proofs.lemmas.List.{take_more_set, take-set}
+use Rattle.std.proofs.lemmas.List.FromFn.{map-range_with_len_more, length-range_with_len, get_or-range_with_len}
+use Rattle.std.proofs.lemmas.List.Elements.{filter-append}
+use Rattle.std.proofs.lemmas.List.Kept.{IsStrictlyIncreasing-filter}
+use Rattle.std.specs.List.Sorted.{IsStrictlyIncreasing}
+use mir.Val.{bool_byte}
+use Rattle.col_bits.specs.Packed.{item, items, ids_between}
+
+-- one item more is written
+pub items_more : (bytes : List ℕ) (w a i x : ℕ) (out : List ℕ) → i < length out → x ≡ item bytes w (a + i) → take i out ≡ items bytes w a i → take (i + 1) (set out i x) ≡ items bytes w a (i + 1)
+items_more bytes w a i x out within value so_far =
+    take_more_set out i x within
+    ∙ (ap (λ xs. xs ++ x ∷ []) so_far
+    ∙ (ap (λ y. items bytes w a i ++ y ∷ []) value
+    ∙ sym (map-range_with_len_more (item bytes w) a i (a + i) refl)))
+
+-- a range in two parts
+range_parts : (a n m : ℕ) → range_with_len a (n + m) ≡ range_with_len a n ++ range_with_len (a + n) m
+range_parts a zero m = ap (range_with_len a) (zero-add m) ∙ ap (λ k. range_with_len k m) (sym (add-zero a))
+range_parts a (suc n) m =
+    let later : range_with_len (a + 1) (n + m) ≡ range_with_len (a + 1) n ++ range_with_len (a + 1 + n) m = range_parts (a + 1) n m in
+    let place : a + 1 + n ≡ a + suc n = omega arith in
+    let count : suc n + m ≡ suc (n + m) = omega arith in
+    ap (range_with_len a) count
+    ∙ ap (λ xs. a ∷ xs) (later ∙ ap (λ k. range_with_len (a + 1) n ++ range_with_len k m) place)
+
+-- no id
+pub ids_none : (bytes : List ℕ) (w low high a n : ℕ) → n ≡ 0 → ids_between bytes w low high a n ≡ []
+unfolding ids_between
+ids_none bytes w low high a n e = ap (ids_between bytes w low high a) e
+
+-- ids of two blocks
+pub ids_joined : (bytes : List ℕ) (w low high a n m b k : ℕ) → a + n ≡ b → n + m ≡ k → ids_between bytes w low high a k ≡ ids_between bytes w low high a n ++ ids_between bytes w low high b m
+unfolding ids_between
+ids_joined bytes w low high a n m b k at whole =
+    let test : ℕ → Bool = λ id. is_in_range low high (item bytes w id) in
+    ap (λ c. filter test (range_with_len a c)) (sym whole)
+    ∙ (ap (filter test) (range_parts a n m)
+    ∙ (filter-append test (range_with_len a n) (range_with_len (a + n) m)
+    ∙ ap (λ c. filter test (range_with_len a n) ++ filter test (range_with_len c m)) at))
+
+-- one id
+pub ids_one : (bytes : List ℕ) (w low high id : ℕ) (kept : Bool) → kept ≡ is_in_range low high (item bytes w id) → ids_between bytes w low high id 1 ≡ cond kept (id ∷ []) []
+unfolding ids_between
+ids_one bytes w low high id kept e = ap (λ b. cond b (id ∷ []) []) (sym e)
+
+-- an id is written, and stays where it is kept
+kept_more : (out : List ℕ) (kept id : ℕ) (b : Bool) → kept < length out → take (kept + bool_byte b) (set out kept id) ≡ take kept out ++ cond b (id ∷ []) []
+kept_more out kept id true h = take_more_set out kept id h
+kept_more out kept id false h = ap (λ n. take n (set out kept id)) (add-zero kept) ∙ (take-set out kept id ∙ sym (append-nil (take kept out)))
+
+pub kept_within : (kept i : ℕ) (b : Bool) → kept ≤ i → kept + bool_byte b ≤ i + 1
+kept_within kept i true h = omega arith
+kept_within kept i false h = omega arith
+
+-- one id more is tested
+pub ids_more : (bytes : List ℕ) (w low high a n m id kept v : ℕ) (front out : List ℕ) (b : Bool) → a + n ≡ id → n + 1 ≡ m → b ≡ is_in_range low high v → v ≡ item bytes w id → kept < length out → take kept out ≡ front ++ ids_between bytes w low high a n → take (kept + bool_byte b) (set out kept id) ≡ front ++ ids_between bytes w low high a m
+ids_more bytes w low high a n m id kept v front out b at next test value within so_far =
+    let tested : b ≡ is_in_range low high (item bytes w id) = test ∙ ap (is_in_range low high) value in
+    let done : List ℕ = ids_between bytes w low high a n in
+    kept_more out kept id b within
+    ∙ (ap (λ xs. xs ++ cond b (id ∷ []) []) so_far
+    ∙ (append_assoc front done (cond b (id ∷ []) [])
+    ∙ (ap (λ xs. front ++ (done ++ xs)) (sym (ids_one bytes w low high id b tested))
+    ∙ ap (λ xs. front ++ xs) (sym (ids_joined bytes w low high a n 1 id m at next)))))
+
+range_rises : (a n : ℕ) → IsStrictlyIncreasing (range_with_len a n)
+range_rises a n k within =
+    let next : k + 1 < n = omega (arith, length-range_with_len a n) in
+    omega (arith, get_or-range_with_len a n k 0 (omega arith), get_or-range_with_len a n (k + 1) 0 next)
+
+-- ids rise
+pub ids_rise : (bytes : List ℕ) (w low high a n : ℕ) → IsStrictlyIncreasing (ids_between bytes w low high a n)
+unfolding ids_between
+ids_rise bytes w low high a n = IsStrictlyIncreasing-filter (λ id. is_in_range low high (item bytes w id)) (range_with_len a n) (range_rises a n)
