@@ -31,3 +31,13 @@ pub mod OpenedLaws
 pub mod ScriptLaws
 pub mod OneFormLaws
 pub mod PackedBitLaws
+pub mod TrainingLaws
+pub mod CodecLaws
+pub mod LinearLaws
+pub mod CutLaws
+pub mod BlockLaws
+pub mod ChosenLaws
+pub mod ItemLaws
+pub mod BlockItemLaws
+pub mod BlockReadingLaws
+mod CodecRows

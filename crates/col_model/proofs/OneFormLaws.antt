@@ -81,7 +81,7 @@ stats_bytes-stats_at bytes s rest b e =
     four-spelled bytes least divisor steps count s rest b p q r t e4))))
 
 -- equal in each part
-same_stats-equal : (a b : Stats) → same_stats a b ≡ true → a ≡ b
+pub same_stats-equal : (a b : Stats) → same_stats a b ≡ true → a ≡ b
 same_stats-equal a b e =
     let d = and_parts _ _ e in
     let c = and_parts _ _ d.0 in

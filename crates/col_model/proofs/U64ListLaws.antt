@@ -111,11 +111,11 @@ are_possible-described xs all len =
 pub same_stats-self : (s : Stats) → same_stats s s ≡ true
 same_stats-self s = and_from _ _ (and_from _ _ (and_from _ _ (eq-eqb s.least s.least refl) (eq-eqb s.greatest s.greatest refl)) (eq-eqb s.divisor s.divisor refl)) (eq-eqb s.count s.count refl)
 
-steps-bound : (xs : List ℕ) (s : Stats) → Describes xs s → steps_of s < 2 ^ 64
+pub steps-bound : (xs : List ℕ) (s : Stats) → Describes xs s → steps_of s < 2 ^ 64
 steps-bound xs s d = omega (arith, div-le_self (s.greatest - s.least) s.divisor, d.fits)
 
 -- how many divisors each item lies above the least
-abbrev steps_list : Stats → List ℕ → List ℕ
+abbrev pub steps_list : Stats → List ℕ → List ℕ
 steps_list s xs = map (λ x. (x - s.least) / s.divisor) xs
 
 div-mono : (m n k : ℕ) → 0 < k → m ≤ n → m / k ≤ n / k
@@ -125,7 +125,7 @@ steps_list-bound : (xs : List ℕ) (s : Stats) → Describes xs s → AllByRecur
 steps_list-bound xs s d = mapped_all (λ k. k < 2 ^ width (steps_of s)) (λ x. (x - s.least) / s.divisor) xs
     (all_by (λ x p. lt_of_le_of_lt (div-mono (x - s.least) (s.greatest - s.least) s.divisor d.positive (omega (arith, p))) (width-above (steps_of s) (steps-bound xs s d))) xs d.within)
 
-steps_list-back : (xs : List ℕ) (s : Stats) → Describes xs s → map (λ k. s.least + s.divisor * k) (steps_list s xs) ≡ xs
+pub steps_list-back : (xs : List ℕ) (s : Stats) → Describes xs s → map (λ k. s.least + s.divisor * k) (steps_list s xs) ≡ xs
 steps_list-back xs s d = map-map (λ x. (x - s.least) / s.divisor) (λ k. s.least + s.divisor * k) xs
     ∙ map-same (λ x. s.least + s.divisor * ((x - s.least) / s.divisor)) xs
     (all_by (λ x p. rw (mul-div_cancel' s.divisor p.1) (omega (arith, p.0))) xs (all_both (λ x. s.least ≤ x) (λ x. s.divisor ∣ x - s.least) xs d.below d.divides))

@@ -4,6 +4,7 @@ use Rattle.std.specs.List.{AllByRecursion}
 use Rattle.col_common.specs.Reading.{IsBytes}
 use Rattle.col_common.specs.VInt.{vint, vint_bytes}
 use Rattle.col_model.specs.U64List.{values64, bitpacked_bytes}
+use Rattle.col_model.specs.Codecs.{codec_bytes, chosen_codec}
 use Rattle.col_model.specs.File.{StandsFor}
 use Rattle.col_model.specs.FullColumns.{NamedNumbers, number_table, number_file, AreNumberColumns}
 
@@ -15,6 +16,18 @@ pub record NumbersHaveOneForm : Type 0 where
 -- numbers below 2 ^ 64, fewer than 2 ^ 32
 abbrev pub BitpackedIsReadBack : Type 0
 BitpackedIsReadBack = (xs : List ℕ) → AllByRecursion (λ x. x < 2 ^ 64) xs → length xs < 2 ^ 32 → values64 (bitpacked_bytes xs) ≡ Some xs
+
+-- the same under Linear
+abbrev pub LinearIsReadBack : Type 0
+LinearIsReadBack = (xs : List ℕ) → AllByRecursion (λ x. x < 2 ^ 64) xs → length xs < 2 ^ 32 → values64 (codec_bytes 1 xs) ≡ Some xs
+
+-- the same under BlockwiseLinear
+abbrev pub BlockwiseIsReadBack : Type 0
+BlockwiseIsReadBack = (xs : List ℕ) → AllByRecursion (λ x. x < 2 ^ 64) xs → length xs < 2 ^ 32 → values64 (codec_bytes 2 xs) ≡ Some xs
+
+-- the same under the codec that is chosen of any that are offered
+abbrev pub ChosenIsReadBack : Type 0
+ChosenIsReadBack = (codecs xs : List ℕ) (codec : ℕ) → AllByRecursion (λ x. x < 2 ^ 64) xs → length xs < 2 ^ 32 → chosen_codec xs codecs ≡ Some codec → values64 (codec_bytes codec xs) ≡ Some xs
 
 -- behind the codec's code
 abbrev pub BitpackedHasOneForm : Type 0

@@ -5,6 +5,9 @@ pub mod PackedBits
 pub mod Stats
 pub mod Line
 pub mod U64List
+pub mod Training
+pub mod Codecs
+pub mod Items
 pub mod Images
 pub mod Ascending
 pub mod Sorted

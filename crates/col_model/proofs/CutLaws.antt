@@ -1,0 +1,45 @@
+-- For a writer that cuts a list into blocks, one after another.
+use Rattle.std.proofs.Common.{◌≡◌, ℕ, zero, suc, ◌+◌, ◌-◌, ◌*◌, ◌<◌, ◌≤◌, List, [], ◌∷◌, ◌++◌, length, take, drop, slice_index_or, refl, ap, sym, ◌∙◌, arith, append_assoc, append-nil, add-one}
+use Rattle.std.proofs.lemmas.List.{length-take, length-drop, drop-drop, take-append-le, drop-append-le}
+use Rattle.col_model.specs.U64List.{block_len, joined_lists}
+use Rattle.col_model.specs.Codecs.{block_size, cut_blocks}
+
+-- a list behind others
+pub joined_lists-push : {A : Type 0} (xss : List (List A)) (xs : List A) → joined_lists (xss ++ xs ∷ []) ≡ joined_lists xss ++ xs
+joined_lists-push [] xs = append-nil xs
+joined_lists-push (ys ∷ xss) xs = ap (λ r. ys ++ r) (joined_lists-push xss xs) ∙ sym (append_assoc ys (joined_lists xss) xs)
+
+-- block k of a list
+abbrev pub block_at : ℕ → List ℕ → List ℕ
+block_at k xs = take block_size (drop (512 * k) xs)
+
+later-block : (k : ℕ) (xs : List ℕ) → block_at k (drop block_size xs) ≡ block_at (suc k) xs
+later-block k xs = let e : 512 + 512 * k ≡ 512 * suc k = omega arith in ap (take block_size) (drop-drop (512 * k) 512 xs ∙ ap (λ n. drop n xs) e)
+
+-- one block more
+pub cut_blocks-more : (k : ℕ) (xs : List ℕ) → cut_blocks (k + 1) xs ≡ cut_blocks k xs ++ block_at k xs ∷ []
+unfolding cut_blocks
+cut_blocks-more zero xs = refl
+cut_blocks-more (suc k) xs =
+    let next : suc k ≡ k + 1 = omega arith in
+    let later : cut_blocks (suc k) (drop block_size xs) ≡ cut_blocks k (drop block_size xs) ++ block_at (suc k) xs ∷ [] =
+    ap (λ m. cut_blocks m (drop block_size xs)) next ∙ cut_blocks-more k (drop block_size xs) ∙ ap (λ b. cut_blocks k (drop block_size xs) ++ b ∷ []) (later-block k xs) in
+    rw (add-one, later) refl
+
+-- what comes behind whole blocks changes none of them
+pub cut_blocks-append : (k : ℕ) (xs ys : List ℕ) → 512 * k ≤ length xs → cut_blocks k (xs ++ ys) ≡ cut_blocks k xs
+unfolding cut_blocks
+cut_blocks-append zero xs ys h = refl
+cut_blocks-append (suc k) xs ys h =
+    let room : 512 ≤ length xs = omega arith in
+    rw (take-append-le block_size xs ys room, drop-append-le block_size xs ys room, cut_blocks-append k (drop block_size xs) ys (rw (length-drop block_size xs) (omega arith))) refl
+
+pub cut_blocks-at : (m k : ℕ) (xs d : List ℕ) → k < m → slice_index_or (cut_blocks m xs) k d ≡ block_at k xs
+unfolding cut_blocks
+cut_blocks-at zero k xs d h = absurd (omega arith)
+cut_blocks-at (suc m) zero xs d h = refl
+cut_blocks-at (suc m) (suc k) xs d h = cut_blocks-at m k (drop block_size xs) d (omega arith) ∙ later-block k xs
+
+-- how many items block k has
+pub length-block_at : (k : ℕ) (xs : List ℕ) → length (block_at k xs) ≡ block_len (length xs - 512 * k)
+length-block_at k xs = length-take block_size (drop (512 * k) xs) ∙ rw (length-drop (512 * k) xs) (omega arith)
