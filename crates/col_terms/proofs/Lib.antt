@@ -1,0 +1,11 @@
+pub mod NumberLemmas
+pub mod CutLemmas
+pub mod TableLemmas
+pub mod SearchLemmas
+pub mod PrefixLemmas
+pub mod StreamLemmas
+pub mod OrderedLemmas
+pub mod PlaceLemmas
+pub mod NumberingLemmas
+pub mod TermRefLemmas
+pub mod WritingLemmas

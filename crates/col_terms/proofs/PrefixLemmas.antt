@@ -1,0 +1,156 @@
+-- Terms with a prefix, among ascending terms.
+use Rattle.std.proofs.Common.{◌≡◌, ℕ, zero, suc, ◌+◌, ◌-◌, ◌<◌, ◌≤◌, ◌==◌, Bool, true, false, List, [], ◌∷◌, length, get_or, slice_get, take, drop, filter, Some, refl, sym, ap, ◌∙◌, subst, inl, inr, arith}
+use Rattle.std.specs.declared.cmp.Ordering.{Ordering}
+use Rattle.std.specs.declared.cmp.Ordering.TheVariants.{Less, Equal, Greater}
+use Rattle.std.specs.Ordering.{nat_cmp, is_lt, ordering_then}
+use Rattle.std.specs.Cmp.Lexicographic.{slice_cmp}
+use Rattle.std.proofs.lemmas.Bool.{and_parts, and_from, and_left, and_right, false≢true, true≢false, lt-ltb, le-ltb, eqb-true, eq-eqb, ne_eqb, cases_lt, cases_order, false_from_ne_true}
+use Rattle.std.proofs.lemmas.List.FromFn.{length-enumerate_from, get_or-enumerate_from}
+use Rattle.std.proofs.lemmas.Option.{get_or_from_slice_get}
+use Rattle.col_model.specs.Ascending.{is_before, is_ascending}
+use Rattle.col_terms.specs.Lookups.{IsFirstFrom, has_prefix, IsPrefixEnd}
+use Rattle.col_terms.specs.Streams.{OrdTerm, numbered, with_prefix}
+use Rattle.col_terms.proofs.SearchLemmas.{middle, pairwise}
+
+-- ---- prefixes and the order
+
+cmp_less : (a b : ℕ) → a < b → nat_cmp a b ≡ Less
+cmp_less a b h = rw (lt-ltb a b h) refl
+
+cmp_greater : (a b : ℕ) → b < a → nat_cmp a b ≡ Greater
+cmp_greater a b h = rw (le-ltb a b (omega arith), ne_eqb a b (λ e. omega arith)) refl
+
+cmp_same : (a b : ℕ) → a ≡ b → nat_cmp a b ≡ Equal
+cmp_same a b e = rw (le-ltb a b (omega arith), eq-eqb a b e) refl
+
+-- the first bytes decide
+decided : (x y : ℕ) (o p : Ordering) → nat_cmp x y ≡ o → is_lt (ordering_then (nat_cmp x y) p) ≡ is_lt (ordering_then o p)
+decided x y o p e = ap (λ q. is_lt (ordering_then q p)) e
+
+-- a term before its prefix doesn't have it
+smaller_lacks : (p t : List ℕ) → is_before t p ≡ true → has_prefix p t ≡ false
+smaller_lacks [] [] h = absurd (false≢true h)
+smaller_lacks [] (y ∷ t) h = absurd (false≢true h)
+smaller_lacks (x ∷ p) [] h = refl
+smaller_lacks (x ∷ p) (y ∷ t) h =
+    elim (cases_order y x) [
+      | inl same ↦ and_right (x == y) (has_prefix p t) (smaller_lacks p t (sym (decided y x Equal (slice_cmp nat_cmp t p) (cmp_same y x same)) ∙ h))
+      | inr apart ↦ and_left (x == y) (has_prefix p t) (ne_eqb x y (λ e. elim apart [ inl below ↦ omega arith | inr above ↦ omega arith ]))
+    ]
+
+-- between a prefix and a term that has it, all terms have it
+between_has : (p t u : List ℕ) → is_before t p ≡ false → is_before t u ≡ true → has_prefix p u ≡ true → has_prefix p t ≡ true
+between_has [] t u a b h = refl
+between_has (x ∷ p) [] u a b h = absurd (true≢false a)
+between_has (x ∷ p) (y ∷ t) [] a b h = absurd (false≢true h)
+between_has (x ∷ p) (y ∷ t) (z ∷ u) a b h =
+    let parts = and_parts (x == z) (has_prefix p u) h in
+    let same_end : x ≡ z = eqb-true x z parts.0 in
+    elim (cases_order y x) [
+      | inl same ↦
+          let lower : is_before t p ≡ false = sym (decided y x Equal (slice_cmp nat_cmp t p) (cmp_same y x same)) ∙ a in
+          let upper : is_before t u ≡ true = sym (decided y z Equal (slice_cmp nat_cmp t u) (cmp_same y z (same ∙ same_end))) ∙ b in
+          and_from (x == y) (has_prefix p t) (eq-eqb x y (sym same)) (between_has p t u lower upper parts.1)
+      | inr apart ↦ elim apart [
+        | inl below ↦ absurd (true≢false (sym (decided y x Less (slice_cmp nat_cmp t p) (cmp_less y x below)) ∙ a))
+        | inr above ↦ absurd (false≢true (sym (decided y z Greater (slice_cmp nat_cmp t u) (cmp_greater y z (omega arith))) ∙ b))
+      ]
+    ]
+
+-- ---- a search for the end
+
+-- from the start up to one place terms have the prefix, and from another on none has it
+pub record IsEnding (ts : List (List ℕ)) (prefix : List ℕ) (start low high : ℕ) : Type 0 where
+  pub begun : start ≤ low
+  pub ordered : low ≤ high
+  pub within : high ≤ length ts
+  pub have : (j : ℕ) → start ≤ j → j < low → has_prefix prefix (get_or ts j []) ≡ true
+  pub have_not : (j : ℕ) → high ≤ j → j < length ts → has_prefix prefix (get_or ts j []) ≡ false
+
+module _ (ts : List (List ℕ)) (prefix : List ℕ) (start : ℕ) (f : IsFirstFrom ts prefix start) where
+  pub ending-none : (n : ℕ) → n ≡ length ts → IsEnding ts prefix start start n
+  ending-none n e = record {
+    begun = omega arith;
+    ordered = omega (arith, f.in_range);
+    within = omega arith;
+    have = λ j h k. absurd (omega arith);
+    have_not = λ j h k. absurd (omega arith);
+  }
+
+  pub ending-done : (low high : ℕ) → high ≤ low → IsEnding ts prefix start low high → IsPrefixEnd ts prefix start low
+  ending-done low high h s = record {
+    ordered = s.begun;
+    in_range = omega (arith, s.ordered, s.within);
+    have = s.have;
+    have_not = λ j k l. s.have_not j (omega (arith, s.ordered)) l;
+  }
+
+  -- a turn: the term in the middle is tried
+  module _ (low high : ℕ) (term : List ℕ) (e : is_ascending ts ≡ true) (s : IsEnding ts prefix start low high) (more : low < high) (read : slice_get ts (middle low high) ≡ Some term) where
+    at : get_or ts (middle low high) [] ≡ term
+    at = get_or_from_slice_get ts (middle low high) term [] read
+
+    before : (i j : ℕ) → i < j → j < length ts → is_before (get_or ts i []) (get_or ts j []) ≡ true
+    before i j h k = ap is_lt (pairwise ts i j e h k)
+
+    pub ending-has : has_prefix prefix term ≡ true → IsEnding ts prefix start (middle low high + 1) high
+    ending-has has =
+        let m = middle low high in
+        let here : has_prefix prefix (get_or ts m []) ≡ true = ap (has_prefix prefix) at ∙ has in
+        record {
+          begun = omega (arith, s.begun);
+          ordered = omega arith;
+          within = s.within;
+          have = λ j h k. elim (cases_lt j m) [
+            | inl below ↦ between_has prefix (get_or ts j []) (get_or ts m []) (f.none_smaller j h (omega (arith, s.within))) (before j m below (omega (arith, s.within))) here
+            | inr above ↦ let same : m ≡ j = omega arith in subst (λ i. has_prefix prefix (get_or ts i []) ≡ true) same here
+          ];
+          have_not = s.have_not;
+        }
+
+    pub ending-lacks : has_prefix prefix term ≡ false → IsEnding ts prefix start low (middle low high)
+    ending-lacks lacks =
+        let m = middle low high in
+        let here : has_prefix prefix (get_or ts m []) ≡ false = ap (has_prefix prefix) at ∙ lacks in
+        record {
+          begun = s.begun;
+          ordered = omega arith;
+          within = omega (arith, s.within);
+          have = s.have;
+          have_not = λ j h k. elim (cases_lt m j) [
+            | inl above ↦ false_from_ne_true (has_prefix prefix (get_or ts j [])) (λ has. true≢false (sym (between_has prefix (get_or ts m []) (get_or ts j []) (f.none_smaller m (omega (arith, s.begun)) (omega (arith, s.within))) (before m j above k) has) ∙ here))
+            | inr below ↦ let same : m ≡ j = omega arith in subst (λ i. has_prefix prefix (get_or ts i []) ≡ false) same here
+          ];
+        }
+
+-- ---- the terms between both places
+
+module _ {A : Type 0} (p : A → Bool) (d : A) where
+  filter_none : (xs : List A) → ((j : ℕ) → j < length xs → p (get_or xs j d) ≡ false) → filter p xs ≡ []
+  filter_none [] fails = refl
+  filter_none (x ∷ xs) fails = rw (fails 0 (omega arith)) (filter_none xs (λ j h. fails (suc j) (omega arith)))
+
+  filter_front : (xs : List A) (n : ℕ) → n ≤ length xs → ((j : ℕ) → j < n → p (get_or xs j d) ≡ true) → ((j : ℕ) → n ≤ j → j < length xs → p (get_or xs j d) ≡ false) → filter p xs ≡ take n xs
+  filter_front xs zero h passes fails = filter_none xs (λ j k. fails j (omega arith) k)
+  filter_front [] (suc n) h passes fails = absurd (omega arith)
+  filter_front (x ∷ xs) (suc n) h passes fails = rw (passes 0 (omega arith)) (ap (λ ys. x ∷ ys) (filter_front xs n (omega arith) (λ j k. passes (suc j) (omega arith)) (λ j k l. fails (suc j) (omega arith) (omega arith))))
+
+  filter_run : (xs : List A) (start upto : ℕ) → start ≤ upto → upto ≤ length xs → ((j : ℕ) → j < start → p (get_or xs j d) ≡ false) → ((j : ℕ) → start ≤ j → j < upto → p (get_or xs j d) ≡ true) → ((j : ℕ) → upto ≤ j → j < length xs → p (get_or xs j d) ≡ false) → filter p xs ≡ take (upto - start) (drop start xs)
+  filter_run xs zero upto o h early passes fails =
+      let all : upto - 0 ≡ upto = omega arith in
+      rw all (filter_front xs upto h (λ j k. passes j (omega arith) k) fails)
+  filter_run xs (suc start) zero o h early passes fails = absurd (omega arith)
+  filter_run [] (suc start) (suc upto) o h early passes fails = absurd (omega arith)
+  filter_run (x ∷ xs) (suc start) (suc upto) o h early passes fails =
+      let less : suc upto - suc start ≡ upto - start = omega arith in
+      rw (early 0 (omega arith), less) (filter_run xs start upto (omega arith) (omega arith) (λ j k. early (suc j) (omega arith)) (λ j k l. passes (suc j) (omega arith) (omega arith)) (λ j k l. fails (suc j) (omega arith) (omega arith)))
+
+-- the terms with the prefix stand between both places
+pub with_prefix-between : (ts : List (List ℕ)) (prefix : List ℕ) (start upto : ℕ) → IsFirstFrom ts prefix start → IsPrefixEnd ts prefix start upto → take (upto - start) (drop start (numbered ts)) ≡ with_prefix prefix ts
+with_prefix-between ts prefix start upto f e =
+    let long = length-enumerate_from 0 ts in
+    let read : (j : ℕ) (b : Bool) → j < length ts → has_prefix prefix (get_or ts j []) ≡ b → has_prefix prefix (get_or (numbered ts) j (0, [])).1 ≡ b = λ j b h k. ap (λ (q : OrdTerm). has_prefix prefix q.1) (get_or-enumerate_from 0 ts j (0, []) h) ∙ k in
+    sym (filter_run (λ (q : OrdTerm). has_prefix prefix q.1) (0, []) (numbered ts) start upto e.ordered (omega (arith, e.in_range))
+    (λ j h. read j false (omega (arith, f.in_range)) (smaller_lacks prefix (get_or ts j []) (f.smaller_before j h)))
+    (λ j h k. read j true (omega (arith, e.in_range)) (e.have j h k))
+    (λ j h k. let within : j < length ts = omega arith in read j false within (e.have_not j h within)))

@@ -1,0 +1,5 @@
+pub mod TermTable
+pub mod Lookups
+pub mod Streams
+pub mod Building
+pub mod Laws

@@ -1,0 +1,16 @@
+//! Term dictionaries: terms and their ordinals, walks over terms in order, and the builder.
+#![tactic(auto)]
+
+mod dictionary;
+mod dictionary_builder;
+mod laws;
+mod streamer;
+mod table;
+
+pub use dictionary::{Dictionary, TermOrdHit};
+pub use dictionary_builder::{DictionaryBuilder, OrderedId, TermIdMapping, UnorderedId};
+pub use laws::{dictionaries_are_read_back, ordinals_have_the_order_of_their_terms};
+pub use streamer::Streamer;
+
+#[cfg(test)]
+mod tests;

@@ -1,0 +1,161 @@
+//! Dictionaries by examples. The bytes of hello, happy and tax are those that the format's page works out.
+
+use crate::{Dictionary, DictionaryBuilder, OrderedId, Streamer, TermOrdHit, UnorderedId};
+use bytes::Bytes;
+use col_common::{ColumnarError, VecSink};
+use std::process::Abort;
+use std::test::Fail;
+
+// Three terms, which end at 5, 10 and 13: happy, hello, tax.
+const THREE_TERMS: &[u8] = b"\x03\0\0\0\x05\0\0\0\x0a\0\0\0\x0d\0\0\0happyhellotax";
+
+fn three_terms() -> Result<Dictionary, ColumnarError> {
+    Dictionary::from_bytes(Bytes::from_static(THREE_TERMS))
+}
+
+fn assert_walk(rt: &impl Abort, mut walk: Streamer<'_>, expected: &[(u64, &[u8])]) {
+    assert_eq!(rt; walk.key(), b"".as_slice());
+    for pair in expected {
+        assert!(rt; walk.advance());
+        assert_eq!(rt; walk.key(), pair.1);
+        assert_eq!(rt; walk.term_ord(), pair.0);
+    }
+    assert!(rt; !walk.advance());
+    assert_eq!(rt; walk.key(), b"".as_slice());
+}
+
+#[test]
+fn terms_are_numbered_as_they_come_and_written_in_order(rt: HostRuntime) -> Result<(), Fail> {
+    let alloc = rt.alloc();
+    let mut builder = DictionaryBuilder::new(alloc);
+    let hello = builder.get_or_allocate_id(b"hello")?;
+    let happy = builder.get_or_allocate_id(b"happy")?;
+    let tax = builder.get_or_allocate_id(b"tax")?;
+    assert_eq!(rt;
+        [hello, happy, tax],
+        [UnorderedId(0), UnorderedId(1), UnorderedId(2)]
+    );
+    assert_eq!(rt;
+        builder.get_or_allocate_id(b"happy")?,
+        happy,
+        "a known term"
+    );
+    assert_eq!(rt; builder.num_terms(), 3);
+    assert_eq!(rt; builder.terms_num_bytes(), 13);
+    let mut sink = VecSink::new(Vec::new(alloc), Vec::new(alloc));
+    let written = builder.serialize(&mut sink)?;
+    assert_eq!(rt; sink.bytes(), THREE_TERMS);
+    assert_eq!(rt; written.to_ord(hello), OrderedId(1));
+    assert_eq!(rt; written.to_ord(happy), OrderedId(0));
+    assert_eq!(rt; written.to_ord(tax), OrderedId(2));
+    assert_eq!(rt;
+        builder.build_term_id_mapping()?.to_ord(hello),
+        OrderedId(1)
+    );
+    Ok(())
+}
+
+#[test]
+fn terms_are_read_by_their_ordinals(rt: HostRuntime) -> Result<(), Fail> {
+    let dictionary = three_terms()?;
+    assert_eq!(rt; dictionary.num_terms(), 3);
+    assert_eq!(rt; dictionary.num_bytes(), 29);
+    let mut term = Vec::new(rt.alloc());
+    for (ord, key) in [
+        (0, b"happy".as_slice()),
+        (1, b"hello".as_slice()),
+        (2, b"tax".as_slice()),
+    ] {
+        assert_eq!(rt; dictionary.term_at(ord), Some(key));
+        assert!(rt; dictionary.ord_to_term(ord, &mut term)?);
+        assert_eq!(rt; term.as_slice(), key);
+        assert_eq!(rt; dictionary.term_ord(key), Some(ord));
+    }
+    assert_eq!(rt; dictionary.term_at(3), None);
+    assert!(rt; !dictionary.ord_to_term(3, &mut term)?);
+    assert_eq!(rt; term.as_slice(), b"".as_slice());
+    assert_eq!(rt; dictionary.term_ord(b"happ"), None);
+    Ok(())
+}
+
+#[test]
+fn a_search_finds_a_term_or_the_next_greater_one(rt: HostRuntime) -> Result<(), Fail> {
+    let dictionary = three_terms()?;
+    for (key, hit) in [
+        (b"a".as_slice(), TermOrdHit::Next(0)),
+        (b"happy".as_slice(), TermOrdHit::Exact(0)),
+        (b"heaven".as_slice(), TermOrdHit::Next(1)),
+        (b"zoo".as_slice(), TermOrdHit::Next(3)),
+    ] {
+        assert_eq!(rt; dictionary.term_ord_or_next(key), hit, "{key:?}");
+    }
+    Ok(())
+}
+
+#[test]
+fn walks_go_over_all_terms_or_those_with_a_prefix(rt: HostRuntime) -> Result<(), Fail> {
+    let dictionary = three_terms()?;
+    let happy = (0, b"happy".as_slice());
+    let hello = (1, b"hello".as_slice());
+    let tax = (2, b"tax".as_slice());
+    assert_walk(&rt, dictionary.stream(), &[happy, hello, tax]);
+    assert_walk(&rt, dictionary.prefix_range(b"h"), &[happy, hello]);
+    assert_walk(&rt, dictionary.prefix_range(b"he"), &[hello]);
+    assert_walk(&rt, dictionary.prefix_range(b"tax"), &[tax]);
+    assert_walk(&rt, dictionary.prefix_range(b""), &[happy, hello, tax]);
+    assert_walk(&rt, dictionary.prefix_range(b"i"), &[]);
+    assert_walk(&rt, Streamer::empty(), &[]);
+    Ok(())
+}
+
+fn assert_empty(rt: &impl Abort, dictionary: &Dictionary) {
+    assert_eq!(rt; dictionary.num_terms(), 0);
+    assert_eq!(rt; dictionary.num_bytes(), 4);
+    assert_eq!(rt; dictionary.term_at(0), None);
+    assert_eq!(rt; dictionary.term_ord_or_next(b""), TermOrdHit::Next(0));
+    assert_walk(rt, dictionary.stream(), &[]);
+}
+
+#[test]
+fn a_dictionary_may_be_empty(rt: HostRuntime) -> Result<(), Fail> {
+    let alloc = rt.alloc();
+    let builder = DictionaryBuilder::new(alloc);
+    let mut sink = VecSink::new(Vec::new(alloc), Vec::new(alloc));
+    let _ = builder.serialize(&mut sink)?;
+    assert_eq!(rt; sink.bytes(), [0; 4].as_slice());
+    assert_empty(&rt, &Dictionary::empty());
+    assert_empty(&rt, &Dictionary::from_bytes(Bytes::from_static(&[0; 4]))?);
+    Ok(())
+}
+
+#[test]
+fn other_bytes_are_refused(rt: HostRuntime) {
+    for (what, bytes) in [
+        ("no byte", b"".as_slice()),
+        ("fewer than four bytes", b"\0\0\0".as_slice()),
+        ("a byte left over", b"\0\0\0\0a".as_slice()),
+        ("a count past the bytes", b"\x02\0\0\0\x01\0\0\0".as_slice()),
+        ("an end past the bytes", b"\x01\0\0\0\x02\0\0\0a".as_slice()),
+        (
+            "an end before the bytes' end",
+            b"\x01\0\0\0\x01\0\0\0ab".as_slice(),
+        ),
+        (
+            "ends that fall",
+            b"\x02\0\0\0\x02\0\0\0\x01\0\0\0ab".as_slice(),
+        ),
+        (
+            "equal terms",
+            b"\x02\0\0\0\x01\0\0\0\x02\0\0\0aa".as_slice(),
+        ),
+        (
+            "terms out of order",
+            b"\x02\0\0\0\x01\0\0\0\x02\0\0\0ba".as_slice(),
+        ),
+    ] {
+        match Dictionary::from_bytes(Bytes::from_static(bytes)) {
+            Ok(_) => panic!(rt; "{what}"),
+            Err(error) => assert_eq!(rt; error, ColumnarError::InvalidData, "{what}"),
+        }
+    }
+}
