@@ -1,0 +1,4 @@
+pub mod HitLemmas
+pub mod OrderLemmas
+pub mod MonotonicLemmas
+pub mod CodeLemmas

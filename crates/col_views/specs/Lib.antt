@@ -1,0 +1,6 @@
+pub mod Values
+pub mod Bounds
+pub mod Monotonic
+pub mod Codes
+pub mod CodeLaws
+pub mod Laws

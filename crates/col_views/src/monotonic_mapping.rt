@@ -1,0 +1,33 @@
+//! Maps that keep the order of their domain.
+ghost use Rattle.std.specs.Prelude.{◌≡◌, Bool};
+ghost use Rattle.col_views.specs.Monotonic.{Passes, IsMonotonic, IsImage};
+
+/// A map that keeps the order of its domain.
+pub trait StrictlyMonotonicFn<External: PartialOrd + Copy, Internal: PartialOrd + Copy> {
+    /// Holds of the values that are mapped.
+    ghost is_in: { Self → External → Bool };
+
+    /// What a value is mapped to.
+    ghost there: { Self → External → Internal };
+
+    /// What is mapped to a value.
+    ghost back: { Self → Internal → External };
+
+    /// Whether a value is mapped.
+    fn in_domain(&self, value: External) -> bool
+        ensures { result ≡ is_in self.now value };
+
+    /// What a value is mapped to.
+    fn mapping(&self, value: External) -> Internal
+        requires { Passes (is_in self.now) value }
+        ensures { result ≡ there self.now value };
+
+    /// What is mapped to a value.
+    fn inverse(&self, value: Internal) -> External
+        requires { IsImage (is_in self.now) (there self.now) value }
+        ensures { result ≡ back self.now value };
+
+    /// It keeps the order, and the way back undoes it.
+    ghost laws: { (m : Self) → IsMonotonic External.partial_cmp Internal.partial_cmp (is_in m)
+        (there m) (back m) };
+}

@@ -1,0 +1,205 @@
+//! Types whose values stand as numbers of 64 bits, in their order.
+ghost use Rattle.std.specs.Prelude.{◌≡◌, ℕ, ◌^◌, Bool, true};
+ghost use Rattle.col_model.specs.Column.{signed_of};
+ghost use Rattle.col_model.specs.Images.{is_image_of_bool, is_image_of_u32};
+ghost use Rattle.col_views.specs.Monotonic.{Passes};
+ghost use Rattle.col_views.specs.Codes.{IsCoded, is_below, bool_code, bool_value, i64_code, is_i64};
+ghost use Rattle.col_views.specs.CodeLaws.{number_laws, u32_laws, bool_laws, i64_laws};
+
+use col_common::DateTime;
+
+// The number of 0 among signed numbers.
+const SIGN_BIT: u64 = 1 << 63;
+
+/// A type whose values stand as numbers of 64 bits, in their order.
+pub trait MonotonicallyMappableToU64: PartialOrd + Copy {
+    /// Holds of the values of the type.
+    ghost in_type: { Self → Bool };
+
+    /// The number of a value.
+    ghost code: { Self → ℕ };
+
+    /// The value of a number.
+    ghost value: { ℕ → Self };
+
+    /// Holds of the numbers that stand for a value.
+    ghost is_code: { ℕ → Bool };
+
+    /// A value in hand is one of its type.
+    fn known(&self)
+        ensures { Passes in_type self.now };
+
+    /// The number of this value.
+    fn to_u64(self) -> u64
+        ensures { result ≡ code self };
+
+    /// The value of a number.
+    fn from_u64(val: u64) -> Self
+        requires { Passes is_code val }
+        ensures { result ≡ value val };
+
+    /// Whether a number stands for a value.
+    fn is_image(val: u64) -> bool
+        ensures { result ≡ is_code val };
+
+    /// The numbers stand for the values in their order.
+    ghost laws: { IsCoded (2 ^ 64) Self.partial_cmp in_type code value is_code };
+}
+
+impl MonotonicallyMappableToU64 for u64 {
+    ghost in_type = { is_below (2 ^ 64) };
+
+    ghost code = { λ n. n };
+
+    ghost value = { λ n. n };
+
+    ghost is_code = { λ _. true };
+
+    ghost laws = { number_laws (2 ^ 64) };
+
+    #[inline(always)]
+    fn known(&self) {
+        let _value = *self;
+    }
+
+    #[inline(always)]
+    fn to_u64(self) -> u64 {
+        self
+    }
+
+    #[inline(always)]
+    fn from_u64(val: u64) -> u64 {
+        val
+    }
+
+    #[inline(always)]
+    fn is_image(_val: u64) -> bool {
+        true
+    }
+}
+
+impl MonotonicallyMappableToU64 for u32 {
+    ghost in_type = { is_below (2 ^ 32) };
+
+    ghost code = { λ n. n };
+
+    ghost value = { λ n. n };
+
+    ghost is_code = { is_image_of_u32 };
+
+    ghost laws = { u32_laws };
+
+    #[inline(always)]
+    fn known(&self) {
+        let _value = *self;
+    }
+
+    #[inline(always)]
+    fn to_u64(self) -> u64 {
+        u64::from(self)
+    }
+
+    #[inline(always)]
+    fn from_u64(val: u64) -> u32 {
+        val as u32
+    }
+
+    #[inline(always)]
+    fn is_image(val: u64) -> bool {
+        val <= u64::from(u32::MAX)
+    }
+}
+
+impl MonotonicallyMappableToU64 for bool {
+    ghost in_type = { λ _. true };
+
+    ghost code = { bool_code };
+
+    ghost value = { bool_value };
+
+    ghost is_code = { is_image_of_bool };
+
+    ghost laws = { bool_laws };
+
+    #[inline(always)]
+    fn known(&self) {}
+
+    #[inline(always)]
+    fn to_u64(self) -> u64 {
+        u64::from(self)
+    }
+
+    #[inline(always)]
+    fn from_u64(val: u64) -> bool {
+        val == u64::from(true)
+    }
+
+    #[inline(always)]
+    fn is_image(val: u64) -> bool {
+        val <= u64::from(true)
+    }
+}
+
+impl MonotonicallyMappableToU64 for i64 {
+    ghost in_type = { is_i64 };
+
+    ghost code = { i64_code };
+
+    ghost value = { signed_of };
+
+    ghost is_code = { λ _. true };
+
+    ghost laws = { i64_laws };
+
+    #[inline(always)]
+    fn known(&self) {
+        let _value = *self;
+    }
+
+    #[inline(always)]
+    fn to_u64(self) -> u64 {
+        self.cast_unsigned().wrapping_add(SIGN_BIT)
+    }
+
+    #[inline(always)]
+    fn from_u64(val: u64) -> i64 {
+        val.wrapping_add(SIGN_BIT).cast_signed()
+    }
+
+    #[inline(always)]
+    fn is_image(_val: u64) -> bool {
+        true
+    }
+}
+
+impl MonotonicallyMappableToU64 for DateTime {
+    ghost in_type = { is_i64 };
+
+    ghost code = { i64_code };
+
+    ghost value = { signed_of };
+
+    ghost is_code = { λ _. true };
+
+    ghost laws = { i64_laws };
+
+    #[inline(always)]
+    fn known(&self) {
+        let _nanoseconds = self.into_timestamp_nanos();
+    }
+
+    #[inline(always)]
+    fn to_u64(self) -> u64 {
+        self.into_timestamp_nanos().to_u64()
+    }
+
+    #[inline(always)]
+    fn from_u64(val: u64) -> DateTime {
+        DateTime::from_timestamp_nanos(i64::from_u64(val))
+    }
+
+    #[inline(always)]
+    fn is_image(_val: u64) -> bool {
+        true
+    }
+}

@@ -1,0 +1,5 @@
+//! Maps and lists of values by examples.
+
+mod doubling;
+mod lists;
+mod maps;
