@@ -1,0 +1,158 @@
+-- Items of a list under Bitpacked, by arithmetic.
+use Rattle.std.proofs.Common.{◌≡◌, ℕ, zero, suc, ◌+◌, ◌-◌, ◌*◌, ◌/◌, ◌%◌, ◌^◌, ◌<◌, ◌≤◌, ◌==◌, ◌&&◌, nat_lt, Bool, true, false, List, [], ◌∷◌, ◌++◌, length, map, take, drop, slice_index, slice_get, Option, Some, None, refl, sym, ◌∙◌, ap, arith, subst, lt_of_le_of_lt, length-take, length-drop}
+use Rattle.std.specs.List.{range_with_len, AllByRecursion}
+use Rattle.std.proofs.lemmas.List.{same_lists, get_or-take, get_or-drop}
+use Rattle.std.proofs.lemmas.Option.{slice_get-get_or}
+use Rattle.std.proofs.lemmas.List.FromFn.{length-map-range_with_len, get_or-map-range_with_len, map-range_with_len_more}
+use Rattle.std.proofs.lemmas.List.Elements.{All-get_or, All-from_recursion}
+use native.Mathlib.Nat.{mod-one}
+use Rattle.col_common.specs.Reading.{◌>>=◌, only_if}
+use Rattle.col_bits.specs.Packed.{number_of, item, items, width}
+use Rattle.col_model.specs.Stats.{Stats, stats_of, steps_of, same_stats, greatest_of}
+use Rattle.col_model.specs.Items.{is_packed}
+use Rattle.col_model.specs.U64List.{bitpacked_values}
+use Rattle.col_model.proofs.StatsLaws.{map-map, fold-max}
+use Rattle.col_model.proofs.ItemLaws.{packed-items, only_if-then}
+use Rattle.col_model.proofs.OneFormLaws.{same_stats-equal}
+use Rattle.col_values.specs.Header.{list_by}
+use Rattle.col_values.specs.ColumnStats.{Collected, collected_of, IsPossible}
+use Rattle.col_values.specs.Bitpacked.{bitpacked_item, bitpacked_items, IsReader}
+use Rattle.col_values.proofs.StatsLemmas.{collected-count}
+use Rattle.col_values.proofs.StepsLemmas.{steps_stats, same_stats-stepped, same_stats-level}
+
+-- ---- packed items one by one
+
+pub items-push : (bytes : List ℕ) (w n : ℕ) → items bytes w 0 (n + 1) ≡ items bytes w 0 n ++ item bytes w n ∷ []
+items-push bytes w n = map-range_with_len_more (item bytes w) 0 n n (omega arith)
+
+-- the next item is collected
+pub collected-next : (before after : Collected) (bytes : List ℕ) (w n x : ℕ) → before ≡ collected_of (items bytes w 0 n) → x ≡ item bytes w n → ((xs : List ℕ) → before ≡ collected_of xs → after ≡ collected_of (xs ++ x ∷ [])) → after ≡ collected_of (items bytes w 0 (n + 1))
+collected-next before after bytes w n x e is more =
+    more (items bytes w 0 n) e ∙ ap (λ y. collected_of (items bytes w 0 n ++ y ∷ [])) is ∙ ap collected_of (sym (items-push bytes w n))
+
+pub collected-items : (s : Collected) (bytes : List ℕ) (w n : ℕ) → s ≡ collected_of (items bytes w 0 n) → s.count ≡ n
+collected-items s bytes w n e = collected-count s (items bytes w 0 n) e ∙ length-map-range_with_len (item bytes w) 0 n
+
+-- ---- the list's items
+
+pub length-bitpacked_items : (s : Stats) (bytes : List ℕ) → length (bitpacked_items s bytes) ≡ s.count
+unfolding bitpacked_items
+length-bitpacked_items s bytes = length-map-range_with_len (bitpacked_item s bytes) 0 s.count
+
+pub bitpacked_items-at : (s : Stats) (bytes : List ℕ) (i : ℕ) → i < s.count → slice_index (bitpacked_items s bytes) i ≡ bitpacked_item s bytes i
+unfolding bitpacked_items
+bitpacked_items-at s bytes i h = get_or-map-range_with_len (bitpacked_item s bytes) 0 s.count i i 0 h (omega arith)
+
+-- they are those of the packed steps
+bitpacked_items-stepped : (s : Stats) (bytes : List ℕ) → bitpacked_items s bytes ≡ map (λ k. s.least + s.divisor * k) (items bytes (width (steps_of s)) 0 s.count)
+unfolding bitpacked_items
+bitpacked_items-stepped s bytes = sym (map-map (item bytes (width (steps_of s))) (λ k. s.least + s.divisor * k) (range_with_len 0 s.count))
+
+-- ---- their statistics
+
+-- told by those of the steps
+pub same_stats-items : (s : Stats) (bytes : List ℕ) (w : ℕ) → IsPossible s → w ≡ width (steps_of s) → same_stats (stats_of (items bytes w 0 s.count)) (steps_stats s) ≡ same_stats (stats_of (bitpacked_items s bytes)) s
+same_stats-items s bytes w h e =
+    let ks = items bytes (width (steps_of s)) 0 s.count in
+    ap (λ v. same_stats (stats_of (items bytes v 0 s.count)) (steps_stats s)) e
+    ∙ sym (same_stats-stepped s ks h (length-map-range_with_len (item bytes (width (steps_of s))) 0 s.count))
+    ∙ ap (λ xs. same_stats (stats_of xs) s) (sym (bitpacked_items-stepped s bytes))
+
+-- items of no bits
+items-no_bits : (bytes : List ℕ) (a n : ℕ) → AllByRecursion (λ k. k ≡ 0) (items bytes 0 a n)
+items-no_bits bytes a zero = tt
+items-no_bits bytes a (suc n) = (mod-one (number_of 256 bytes / 2 ^ (a * 0)), items-no_bits bytes (a + 1) n)
+
+pub same_stats-no_steps : (s : Stats) (bytes : List ℕ) → IsPossible s → steps_of s ≡ 0 → true ≡ same_stats (stats_of (bitpacked_items s bytes)) s
+same_stats-no_steps s bytes h none =
+    let narrow : 0 ≡ width (steps_of s) = sym (ap width none) in
+    sym (same_stats-level s (items bytes 0 0 s.count) (length-map-range_with_len (item bytes 0) 0 s.count) none (items-no_bits bytes 0 s.count))
+    ∙ same_stats-items s bytes 0 h narrow
+
+-- ---- the list behind statistics
+
+abbrev bits_of : Stats → ℕ
+bits_of s = s.count * width (steps_of s)
+
+tested : (s : Stats) (bytes : List ℕ) → list_by 0 s bytes ≡ (only_if (is_packed bytes (bits_of s)) (bitpacked_items s bytes) >>= λ xs. only_if (same_stats (stats_of xs) s) xs)
+unfolding list_by bitpacked_values
+tested s bytes =
+    let w = width (steps_of s) in
+    let exact : List ℕ → Option (List ℕ) = λ xs. only_if (same_stats (stats_of xs) s) xs in
+    let f : ℕ → ℕ = λ k. s.least + s.divisor * k in
+    ap (λ o. (o >>= λ ks. Some (map f ks)) >>= exact) (packed-items bytes w s.count)
+    ∙ ap (λ o. o >>= exact) (only_if-then (map f) (is_packed bytes (bits_of s)) (items bytes w 0 s.count))
+    ∙ ap (λ xs. only_if (is_packed bytes (bits_of s)) xs >>= exact) (sym (bitpacked_items-stepped s bytes))
+
+-- other bytes than those that the items take
+pub list_by-other : (s : Stats) (bytes : List ℕ) → is_packed bytes (bits_of s) ≡ false → list_by 0 s bytes ≡ None
+list_by-other s bytes e = tested s bytes ∙ ap (λ b. only_if b (bitpacked_items s bytes) >>= λ xs. only_if (same_stats (stats_of xs) s) xs) e
+
+-- their items, with other statistics or with these
+pub list_by-packed : (s : Stats) (bytes : List ℕ) (exact : Bool) → is_packed bytes (bits_of s) ≡ true → same_stats (stats_of (bitpacked_items s bytes)) s ≡ exact → list_by 0 s bytes ≡ only_if exact (bitpacked_items s bytes)
+list_by-packed s bytes exact e same = tested s bytes ∙ ap (λ b. only_if b (bitpacked_items s bytes) >>= λ xs. only_if (same_stats (stats_of xs) s) xs) e ∙ ap (λ b. only_if b (bitpacked_items s bytes)) same
+
+-- no item lies above the greatest
+item-within : (s : Stats) (bytes : List ℕ) (i : ℕ) → i < s.count → bitpacked_item s bytes i ≤ greatest_of (bitpacked_items s bytes)
+item-within s bytes i h =
+    let xs = bitpacked_items s bytes in
+    let bound : slice_index xs i ≤ greatest_of xs = All-get_or (λ x. x ≤ greatest_of xs) xs i 0 (rw (length-bitpacked_items s bytes) h) (All-from_recursion (λ x. x ≤ greatest_of xs) xs (fold-max 0 xs).1) in
+    omega (arith, bound, bitpacked_items-at s bytes i h)
+
+greatest-is : (xs : List ℕ) → (stats_of xs).greatest ≡ greatest_of xs
+unfolding stats_of
+greatest-is xs = refl
+
+-- a reader of items with these statistics
+pub IsReader-same : (s : Stats) (bytes : List ℕ) (w : ℕ) → w ≡ width (steps_of s) → s.greatest < 2 ^ 64 → same_stats (stats_of (bitpacked_items s bytes)) s ≡ true → IsReader s w bytes
+IsReader-same s bytes w e fits same =
+    let exact = same_stats-equal (stats_of (bitpacked_items s bytes)) s same in
+    let top : greatest_of (bitpacked_items s bytes) ≡ s.greatest = sym (greatest-is (bitpacked_items s bytes)) ∙ ap (λ t. t.greatest) exact in
+    record {
+      width_is = e;
+      fits = λ i h. omega (arith, item-within s bytes i h, top, fits);
+      exact = exact;
+    }
+
+-- ---- for a reader
+
+-- a part of a list by place
+pub range-part : (f : ℕ → ℕ) (n start m : ℕ) → start + m ≤ n → map f (range_with_len start m) ≡ take m (drop start (map f (range_with_len 0 n)))
+range-part f n start m h =
+    let part = map f (range_with_len start m) in
+    let whole = map f (range_with_len 0 n) in
+    let long : length part ≡ m = length-map-range_with_len f start m in
+    let cut : length (take m (drop start whole)) ≡ m = omega (arith, length-take m (drop start whole), length-drop start whole, length-map-range_with_len f 0 n, h) in
+    same_lists part (take m (drop start whole)) (long ∙ sym cut)
+    (λ k d w.
+    let within : k < m = omega (arith, w, long) in
+    get_or-map-range_with_len f start m k (start + k) d within refl
+    ∙ sym (get_or-take m (drop start whole) k d within ∙ get_or-drop start whole k d ∙ get_or-map-range_with_len f 0 n (start + k) (start + k) d (omega (arith, within, h)) (omega arith)))
+
+-- the value of a step that was read
+pub reads-at : (s : Stats) (bytes read list : List ℕ) (w i step : ℕ) → bitpacked_items s bytes ≡ list → IsReader s w bytes → read ≡ bytes → step ≡ item read w i → i < length list → (s.least + s.divisor * step < 2 ^ 64) × (slice_get list i ≡ Some (s.least + s.divisor * step))
+reads-at s bytes read list w i step e reader same is h =
+    let within : i < s.count = rw (← e, length-bitpacked_items s bytes) at h in
+    let value : bitpacked_item s bytes i ≡ s.least + s.divisor * step =
+    ap (λ v. s.least + s.divisor * item bytes v i) (sym reader.width_is) ∙ ap (λ b. s.least + s.divisor * item b w i) (sym same) ∙ ap (λ k. s.least + s.divisor * k) (sym is) in (
+      rw (← value) (reader.fits i within),
+      slice_get-get_or list i 0 h ∙ ap (λ xs. Some (slice_index xs i)) (sym e) ∙ ap Some (bitpacked_items-at s bytes i within ∙ value),
+    )
+
+-- the values of steps that were read fit
+pub part-fits : (s : Stats) (bytes read : List ℕ) (w start m : ℕ) → IsReader s w bytes → read ≡ bytes → start + m ≤ s.count → AllByRecursion (λ k. s.least + s.divisor * k < 2 ^ 64) (items read w start m)
+part-fits s bytes read w start zero reader same h = tt
+part-fits s bytes read w start (suc m) reader same h =
+    let value : bitpacked_item s bytes start ≡ s.least + s.divisor * item read w start =
+    ap (λ v. s.least + s.divisor * item bytes v start) (sym reader.width_is) ∙ ap (λ b. s.least + s.divisor * item b w start) (sym same) in
+    (rw (← value) (reader.fits start (omega arith)), part-fits s bytes read w (start + 1) m reader same (omega arith))
+
+-- they are a part of the list
+pub part-read : (s : Stats) (bytes read list : List ℕ) (w start m : ℕ) → bitpacked_items s bytes ≡ list → IsReader s w bytes → read ≡ bytes → start + m ≤ s.count → map (λ k. s.least + s.divisor * k) (items read w start m) ≡ take m (drop start list)
+unfolding bitpacked_items
+part-read s bytes read list w start m e reader same h =
+    map-map (item read w) (λ k. s.least + s.divisor * k) (range_with_len start m)
+    ∙ ap (λ b. map (λ i. s.least + s.divisor * item b w i) (range_with_len start m)) same
+    ∙ ap (λ v. map (λ i. s.least + s.divisor * item bytes v i) (range_with_len start m)) reader.width_is
+    ∙ range-part (bitpacked_item s bytes) s.count start m h
+    ∙ ap (λ xs. take m (drop start xs)) e

@@ -1,0 +1,37 @@
+use Rattle.std.proofs.Common.{◌≡◌, ◌++◌, ◌∙◌, sym, ap, arith, subst}
+use Rattle.col_common.proofs.SerializingLemmas.{serializes-then}
+use Rattle.col_bits.specs.Packed.{packed_bytes, width}
+use Rattle.col_model.specs.Stats.{steps_of, stats_bytes}
+use Rattle.col_model.specs.Codecs.{steps_above}
+use Rattle.col_values.specs.ColumnStats.{stats_seen, IsPossible}
+use Rattle.col_values.specs.Bitpacked.{FitSteps}
+use Rattle.col_values.proofs.StatsLemmas.{serializes_as}
+use Rattle.col_values.proofs.BitpackedWritingLemmas.{FitSteps-stats_of, body-bytes}
+use Rattle.col_values.proofs.PossibleLemmas.{IsPossible-stats_of}
+use Rattle.col_values.proofs.bitpacked.BitpackedCodecEstimatorColumnCodecEstimator.serialize.Goals as goal
+
+pub serialize-requires : goal.serialize-requires
+serialize-requires g c = IsPossible-stats_of (stats_seen c.args.stats.now) (g.I.Iterable.items c.args.vals.now) c.requires.stats (omega arith)
+
+pub steps-requires-clause-ordered : goal.steps-requires-clause-ordered
+steps-requires-clause-ordered g c = (IsPossible-stats_of (stats_seen c.args.stats.now) (g.I.Iterable.items c.args.vals.now) c.requires.stats (omega arith)).ordered
+
+pub steps-requires-clause-positive : goal.steps-requires-clause-positive
+steps-requires-clause-positive g c = (IsPossible-stats_of (stats_seen c.args.stats.now) (g.I.Iterable.items c.args.vals.now) c.requires.stats (omega arith)).positive
+
+pub serialize_steps-requires-clause-positive : goal.serialize_steps-requires-clause-positive
+serialize_steps-requires-clause-positive g c = (IsPossible-stats_of (stats_seen c.args.stats.now) (g.I.Iterable.items c.args.vals.now) c.requires.stats (omega arith)).positive
+
+pub serialize_steps-requires-clause-fit : goal.serialize_steps-requires-clause-fit
+serialize_steps-requires-clause-fit g c =
+    let s = stats_seen c.args.stats.now in
+    let xs = g.I.Iterable.items c.args.vals.now in
+    subst (λ w. FitSteps s w xs) (ap width (sym c.steps.ensures) ∙ sym c.compute_num_bits-num_bits.ensures) (FitSteps-stats_of s xs c.requires.stats (omega arith))
+
+pub returns-clause-ok : goal.returns-clause-ok
+returns-clause-ok g c =
+    let s = stats_seen c.args.stats.now in
+    let xs = g.I.Iterable.items c.args.vals.now in
+    let w : c.compute_num_bits-num_bits.result ≡ width (steps_of s) = c.compute_num_bits-num_bits.ensures ∙ ap width c.steps.ensures in
+    serializes_as _ _ _ _ _ _ _ (serializes-then _ _ _ _ _ _ _ _ _ _ c.in_ok-serialize.ensures.ok c.serialize_steps.ensures)
+    (ap (λ v. stats_bytes s ++ packed_bytes v (steps_above s xs)) w ∙ body-bytes s xs c.requires.stats)

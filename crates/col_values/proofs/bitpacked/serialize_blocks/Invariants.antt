@@ -1,0 +1,12 @@
+use Rattle.std.proofs.Common.{length}
+use Rattle.col_values.specs.ColumnStats.{stats_seen}
+use Rattle.col_values.proofs.BitpackedWritingLemmas.{IsWritten}
+use Rattle.col_values.proofs.bitpacked.serialize_blocks.Given as goal
+
+abbrev pub invariant-values : goal.invariant-values
+invariant-values g l =
+    g.I.Iterable.stands l.vals l.at
+    × IsWritten (stats_seen l.stats) l.num_bits (g.I.Iterable.items l.vals) (g.I.Iterable.left l.vals l.at) (g.K.Sink.written l.fn.sink) (g.K.Sink.written l.sink) (g.K.Sink.faults l.fn.sink) (g.K.Sink.faults l.sink)
+
+abbrev pub decreases-values : goal.decreases-values
+decreases-values g l = length (g.I.Iterable.left l.vals l.at)

@@ -1,0 +1,15 @@
+use Rattle.std.proofs.Common.{arith}
+use Rattle.col_common.proofs.SerializingLemmas.{serializes-then}
+use Rattle.col_values.specs.ColumnStats.{stats_seen}
+use Rattle.col_values.proofs.StatsLemmas.{serializes_as}
+use Rattle.col_values.proofs.PossibleLemmas.{IsPossible-stats_of}
+use Rattle.col_values.proofs.BlockEstimateLemmas.{blockwise_body-parts}
+use Rattle.col_values.proofs.blockwise_linear.estimator.serialize_behind_codec.Goals as goal
+
+pub serialize-requires : goal.serialize-requires
+serialize-requires g c = IsPossible-stats_of (stats_seen c.args.stats.now) (g.I.Iterable.items c.args.vals.now) c.requires (omega arith)
+
+pub returns : goal.returns
+returns g c = serializes_as _ _ _ _ _ _ _
+    (serializes-then _ _ _ _ _ _ _ _ _ _ c.in_ok-serialize.ensures.ok c.serialize_blocks.ensures)
+    (blockwise_body-parts (g.I.Iterable.items c.args.vals.now) (stats_seen c.args.stats.now) c.requires)

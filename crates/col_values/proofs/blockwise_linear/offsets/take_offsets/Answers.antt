@@ -1,0 +1,12 @@
+use Rattle.std.proofs.Common.{◌+◌, ◌-◌, ◌%◌, ◌^◌, slice_index_or, slice_set, ap, arith}
+use Rattle.col_values.specs.Slope.{slope_of}
+use Rattle.col_values.proofs.BlockOffsetLemmas.{AreOffsets-push}
+use Rattle.col_values.proofs.blockwise_linear.offsets.take_offsets.Goals as goal
+
+pub loop-at-preserved : goal.loop-at-preserved
+loop-at-preserved c =
+    let now = c.loop-at.vals in
+    let at = c.loop-at.at in
+    let offset = (slice_index_or now at 0 + (2 ^ 64 - c.eval.result)) % 2 ^ 64 in
+    rw c.max-greatest.ensures
+    (AreOffsets-push (slope_of c.args.line) c.args.vals.now now at c.loop-at.greatest offset c.loop-at.invariant (omega (arith, c.loop-at.invariant.long)) (ap (λ y. (slice_index_or now at 0 + (2 ^ 64 - y)) % 2 ^ 64) c.eval.ensures))

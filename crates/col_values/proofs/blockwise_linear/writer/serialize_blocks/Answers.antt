@@ -1,0 +1,14 @@
+use Rattle.std.proofs.Common.{ap, ◌++◌, ◌∙◌, length}
+use Rattle.std.specs.Int.{w64, to_le_bytes}
+use Rattle.col_common.proofs.SerializingLemmas.{serializes-then}
+use Rattle.col_model.specs.U64List.{joined_lists}
+use Rattle.col_model.specs.Codecs.{blocks_bytes, packed_block, blocks_of, steps_above}
+use Rattle.col_values.specs.ColumnStats.{stats_seen}
+use Rattle.col_values.proofs.StatsLemmas.{serializes_as}
+use Rattle.col_values.proofs.BlockWritingLemmas.{blocks_bytes-parts}
+use Rattle.col_values.proofs.blockwise_linear.writer.serialize_blocks.Goals as goal
+
+pub returns : goal.returns
+returns g c = serializes_as _ _ _ _ _ _ _
+    (serializes-then _ _ _ _ _ _ _ _ _ _ c.in_ok-serialize_packed.ensures.packed c.serialize_lines.ensures)
+    (blocks_bytes-parts (blocks_of (steps_above (stats_seen c.args.stats.now) (g.I.Iterable.items c.args.vals.now))) c.as_slice.result.now (c.as_slice.ensures ∙ c.in_ok-serialize_packed.ensures.lines))

@@ -1,0 +1,10 @@
+use Rattle.std.proofs.Common.{ap, ◌∙◌}
+use Rattle.col_model.specs.Stats.{least_of}
+use Rattle.col_values.proofs.BoundsLemmas.{stats_of-least, least-below}
+use Rattle.col_values.proofs.linear.reader.LinearReaderColumnValuesU64.min_value.Goals as goal
+
+pub returns-clause-value : goal.returns-clause-value
+returns-clause-value c = ap (λ s. s.least) c.self.invariant ∙ stats_of-least _ ∙ ap least_of c.self.view_is
+
+pub returns-clause-encloses : goal.returns-clause-encloses
+returns-clause-encloses c = least-below c.args.self.now c.self.inside.stats.min_value (ap (λ s. s.least) c.self.invariant ∙ stats_of-least _ ∙ ap least_of c.self.view_is)

@@ -1,0 +1,10 @@
+use Rattle.std.proofs.Common.{◌≡◌, take}
+use Rattle.col_values.specs.ColumnStats.{collected_of}
+use Rattle.col_values.specs.Blockwise.{IsCollected}
+use Rattle.col_values.proofs.tests.blockwise_linear.collected.Given as goal
+
+abbrev pub invariant-loop-val : goal.invariant-loop-val
+invariant-loop-val l = record {
+  estimator : IsCollected l.estimator (take l.val-index l.vals);
+  collector : l.collector ≡ collected_of (take l.val-index l.vals);
+}

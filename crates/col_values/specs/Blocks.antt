@@ -1,0 +1,87 @@
+-- Blocks of a list.
+use Rattle.std.specs.Prelude.{◌≡◌, ◌<◌, ◌≤◌, ℕ, ◌+◌, ◌-◌, ◌*◌, ◌/◌, ◌%◌, ◌^◌, ◌==◌, ◌&&◌, nat_le, Bool, List, length, map, drop, slice_index_or, Option}
+use Rattle.std.specs.List.{AllByRecursion, range_with_len}
+use Rattle.col_model.specs.Stats.{Stats, stats_of}
+use Rattle.col_common.specs.Reading.{◌>>=◌, nothing_left, items}
+use Rattle.col_model.specs.U64List.{Slope, slope_at}
+use Rattle.col_model.specs.Codecs.{block_size, block_count}
+use Rattle.col_model.specs.Items.{linear_item, linear_items, block_start}
+use Rattle.col_values.specs.declared.line.Line.{Line}
+use Rattle.col_values.specs.declared.blockwise_linear.block.Block.{Block}
+use Rattle.col_values.specs.Line.{with_width}
+
+-- the values of a block of a list with these statistics, none of which is below the least
+pub record IsBlock (s : Stats) (values : List ℕ) : Type 0 where
+  pub some : 0 < length values
+  pub small : length values ≤ block_size
+  pub above : AllByRecursion (λ x. s.least ≤ x) values
+  pub positive : 0 < s.divisor
+
+-- so many lines with their widths, and nothing else
+abbrev pub lines_of : ℕ → List ℕ → Option (List Slope)
+lines_of count bytes = items slope_at count bytes >>= nothing_left
+
+-- a block's line with the width of the offsets from it
+abbrev pub block_slope : Block → Slope
+block_slope b = with_width b.line b.bit_unpacker
+
+-- the step at a place of a block
+abbrev pub step_in : Block → List ℕ → ℕ → ℕ
+step_in b bytes place = linear_item (block_slope b) (drop b.start bytes) place
+
+-- a block for a place that has none
+abbrev pub no_block : Block
+no_block =
+    let level : Line = record { slope = 0; intercept = 0 } in
+    record { line = level; bit_unpacker = 0; start = 0 }
+
+-- block k of a list
+abbrev pub block_of : List Block → ℕ → Block
+block_of bs k = slice_index_or bs k no_block
+
+-- the step of item i: that of block i / 512 at i % 512
+abbrev pub step_of : List Block → List ℕ → ℕ → ℕ
+step_of bs bytes i = step_in (block_of bs (i / 512)) bytes (i % 512)
+
+-- the steps of the first n items
+unfoldable pub steps_in : List Block → List ℕ → ℕ → List ℕ
+steps_in bs bytes n = map (step_of bs bytes) (range_with_len 0 n)
+
+-- the item that lies so many divisors above the least, modulo 2 ^ 64
+abbrev pub item_of : Stats → ℕ → ℕ
+item_of s k = (s.least + s.divisor * k) % 2 ^ 64
+
+-- the items of a list with these statistics
+abbrev pub items_in : Stats → List Block → List ℕ → List ℕ
+items_in s bs bytes = map (item_of s) (steps_in bs bytes s.count)
+
+-- the steps of the first items of a block
+abbrev pub steps_in_block : Block → List ℕ → ℕ → List ℕ
+steps_in_block b bytes n = linear_items (block_slope b) (drop b.start bytes) n
+
+-- the item of a step lies a whole count of divisors above the least, up to the greatest
+unfoldable pub is_whole : Stats → ℕ → Bool
+is_whole s k =
+    nat_le s.least (item_of s k) && nat_le (item_of s k) s.greatest
+    && ((item_of s k - s.least) % s.divisor == 0)
+
+-- that count
+unfoldable pub own_step : Stats → ℕ → ℕ
+own_step s k = (item_of s k - s.least) / s.divisor
+
+-- each block begins within the bytes
+abbrev pub AreWithin : List Block → List ℕ → Type 0
+AreWithin bs bytes = (k : ℕ) → k < length bs → (block_of bs k).start ≤ length bytes
+
+-- each block begins behind those before it, and within the bytes
+pub record ArePlaced (n : ℕ) (bs : List Block) (bytes : List ℕ) : Type 0 where
+  pub starts : (k : ℕ) → k < length bs →
+      (block_of bs k).start ≡ block_start n (map block_slope bs) k
+  pub within : AreWithin bs bytes
+
+-- there is a block for each 512 items, each begins within the bytes, and the statistics are the
+-- items' own
+pub record IsReader (s : Stats) (bs : List Block) (bytes : List ℕ) : Type 0 where
+  pub count : length bs ≡ block_count s.count
+  pub within : AreWithin bs bytes
+  pub exact : stats_of (items_in s bs bytes) ≡ s

@@ -1,0 +1,291 @@
+//! Lists of u64 under the codec Bitpacked: steps from the least value, at the width of the greatest.
+ghost use Rattle.std.specs.Prelude.{◌≡◌, ◌<◌, ◌≤◌, ◌+◌, ◌*◌, ◌^◌, length, map};
+ghost use Rattle.std.specs.List.{AllByRecursion};
+ghost use Rattle.col_common.specs.Decoding.{Decodes};
+ghost use Rattle.col_common.specs.Serializing.{Serializes};
+ghost use Rattle.col_bits.specs.Packed.{items, packed_bytes, width};
+ghost use Rattle.col_model.specs.Stats.{stats_of, steps_of, same_stats, least_of, greatest_of};
+ghost use Rattle.col_model.specs.Codecs.{block_size, steps_above};
+ghost use Rattle.col_values.specs.ColumnStats.{stats_seen, collected_of, IsPossible};
+ghost use Rattle.col_values.specs.Header.{list_by};
+ghost use Rattle.col_values.specs.Bitpacked.{bitpacked_items, FitSteps};
+
+use crate::codec::{ColumnCodec, ColumnCodecEstimator};
+use crate::column_stats::ColumnStats;
+use crate::header::take_stats;
+use crate::packing::{BLOCK_SIZE, is_packed, pack_block, take_block, take_steps};
+use crate::stats_collector::StatsCollector;
+use bytes::Bytes;
+use col_bits::{BitUnpacker, compute_num_bits};
+use col_common::{ColumnarError, Iterable, Sink, serialize_bytes};
+use col_views::ColumnValues;
+use std::alloc::Global;
+use std::marker::Model;
+
+// The bits of a byte.
+const BYTE_BITS: u64 = 8;
+
+// The bytes of a value.
+const WORD_BYTES: usize = 8;
+
+/// A list that is read in place.
+#[derive(Drop)]
+pub struct BitpackedReader {
+    data: Bytes,
+    bit_unpacker: BitUnpacker,
+    stats: ColumnStats,
+}
+
+impl Model for BitpackedReader {
+    ghost use Rattle.std.specs.Prelude.{List, ℕ};
+    ghost use Rattle.col_values.specs.ColumnStats.{stats_seen};
+    ghost use Rattle.col_values.specs.Bitpacked.{bitpacked_items, IsReader};
+
+    ghost Value = { List ℕ };
+
+    ghost view = { λ r. bitpacked_items (stats_seen r.stats) r.data };
+
+    ghost invariant = { λ r. IsReader (stats_seen r.stats) r.bit_unpacker r.data };
+}
+
+impl BitpackedReader {
+    // The list behind statistics, which must be its own.
+    fn open(stats: ColumnStats, items: Bytes) -> Result<BitpackedReader, ColumnarError>
+        requires { IsPossible (stats_seen stats) }
+        ensures { Decodes (λ list. list) result (list_by 0 (stats_seen stats) items) }
+    {
+        let num_bits = compute_num_bits(stats.steps());
+        let bit_unpacker = BitUnpacker::new(num_bits);
+        let bytes = items.as_slice();
+        if !is_packed(bytes, stats.num_rows as usize * num_bits as usize) {
+            return Err(ColumnarError::InvalidData);
+        }
+        if !are_stats_of(&stats, bit_unpacker, bytes) {
+            return Err(ColumnarError::InvalidData);
+        }
+        Ok(BitpackedReader {
+            data: items,
+            bit_unpacker,
+            stats,
+        })
+    }
+}
+
+impl ColumnValues<u64> for BitpackedReader {
+    ghost values = { λ r. r };
+
+    ghost IsLeast = { λ r v. v ≡ least_of r };
+
+    ghost IsGreatest = { λ r v. v ≡ greatest_of r };
+
+    fn num_vals(&self) -> u32 {
+        self.stats.num_rows
+    }
+
+    #[inline]
+    fn get_val(&self, idx: u32) -> u64 {
+        let step = self.bit_unpacker.get(idx, self.data.as_slice());
+        self.stats.min_value + self.stats.gcd * step
+    }
+
+    fn min_value(&self) -> u64 {
+        self.stats.min_value
+    }
+
+    fn max_value(&self) -> u64 {
+        self.stats.max_value
+    }
+
+    fn get_range(&self, start: u64, output: &mut [u64]) {
+        let _count = self.stats.num_rows;
+        self.bit_unpacker
+            .get_range(start as u32, self.data.as_slice(), output);
+        take_values(&self.stats, output);
+    }
+}
+
+// Turns steps into the values that lie so many divisors above the least.
+fn take_values(stats: &ColumnStats, steps: &mut [u64])
+    requires { AllByRecursion (λ k. stats.now.min_value + stats.now.gcd * k < 2 ^ 64) steps.old }
+    ensures { steps.new ≡ map (λ k. stats.now.min_value + stats.now.gcd * k) steps.old }
+{
+    let ColumnStats { gcd, min_value, .. } = *stats;
+    for at in 0..steps.len() {
+        steps[at] = min_value + gcd * steps[at];
+    }
+}
+
+// Whether the statistics are those of the list with these steps.
+fn are_stats_of(stats: &ColumnStats, bit_unpacker: BitUnpacker, bytes: &[u8]) -> bool
+    requires possible { IsPossible (stats_seen stats.now) }
+    requires width { bit_unpacker ≡ width (steps_of (stats_seen stats.now)) }
+    ensures { result ≡ same_stats (stats_of (bitpacked_items (stats_seen stats.now) bytes.now)) (stats_seen stats.now) }
+{
+    let steps = stats.steps();
+    if steps == 0 {
+        return true;
+    }
+    stats_of_items(bit_unpacker, bytes, stats.num_rows).is_same(&ColumnStats {
+        gcd: 1,
+        min_value: 0,
+        max_value: steps,
+        num_rows: stats.num_rows,
+    })
+}
+
+// The statistics of packed items.
+fn stats_of_items(bit_unpacker: BitUnpacker, bytes: &[u8], count: u32) -> ColumnStats
+    ensures { stats_seen result ≡ stats_of (items bytes.now bit_unpacker 0 count) }
+{
+    let mut collector = StatsCollector::default();
+    for idx in 0..count {
+        if collector.is_finest() {
+            return widen_by_items(collector, bit_unpacker, bytes, idx, count);
+        }
+        collector.collect(bit_unpacker.get(idx, bytes));
+    }
+    collector.stats()
+}
+
+// The same from an item on. The divisor is 1, so that bounds alone are left to be found.
+fn widen_by_items(
+    collector: StatsCollector,
+    bit_unpacker: BitUnpacker,
+    bytes: &[u8],
+    start: u32,
+    count: u32,
+) -> ColumnStats
+    requires ordered { start ≤ count }
+    requires finest { collector.divisor ≡ 1 }
+    requires collected { collector ≡ collected_of (items bytes.now bit_unpacker 0 start) }
+    ensures { stats_seen result ≡ stats_of (items bytes.now bit_unpacker 0 count) }
+{
+    let mut collector = collector;
+    for idx in start..count {
+        collector.widen(bit_unpacker.get(idx, bytes));
+    }
+    collector.stats()
+}
+
+/// The codec Bitpacked.
+pub struct BitpackedCodec;
+
+impl ColumnCodec for BitpackedCodec {
+    ghost code = { 0 };
+
+    type Reader = BitpackedReader;
+
+    type Estimator = BitpackedCodecEstimator;
+
+    fn load(_alloc: Global, bytes: Bytes) -> Result<BitpackedReader, ColumnarError> {
+        let Some((stats, items)) = take_stats(bytes) else {
+            return Err(ColumnarError::InvalidData);
+        };
+        BitpackedReader::open(stats, items)
+    }
+
+    fn estimator(_alloc: Global) -> Result<BitpackedCodecEstimator, ColumnarError> {
+        Ok(BitpackedCodecEstimator)
+    }
+}
+
+/// Estimates and writes lists under Bitpacked, for which the statistics are enough.
+#[derive(Clone, Copy, Debug)]
+pub struct BitpackedCodecEstimator;
+
+impl ColumnCodecEstimator for BitpackedCodecEstimator {
+    ghost code = { λ _. 0 };
+
+    ghost Collected = { λ _ _. Unit {0} };
+
+    ghost Finalized = { λ _ _. Unit {0} };
+
+    #[inline]
+    fn collect(&mut self, _value: u64) {}
+
+    fn finalize(&mut self) {}
+
+    fn estimate(&self, stats: &ColumnStats) -> Option<u64> {
+        let num_bits = compute_num_bits(stats.steps());
+        let bits = u64::from(stats.num_rows) * u64::from(num_bits);
+        Some(stats.num_bytes() + bits.div_ceil(BYTE_BITS))
+    }
+
+    fn serialize<I: Iterable<u64>, K: Sink>(
+        &self,
+        alloc: Global,
+        stats: &ColumnStats,
+        vals: &I,
+        sink: &mut K,
+    ) -> Result<(), ColumnarError> {
+        let _greatest = stats.max_value;
+        stats.serialize(sink)?;
+        let num_bits = compute_num_bits(stats.steps());
+        serialize_steps(alloc, stats, num_bits, vals, sink)
+    }
+}
+
+// Adds the steps of a list, packed, a block at a time.
+fn serialize_steps<I: Iterable<u64>, K: Sink>(
+    alloc: Global,
+    stats: &ColumnStats,
+    num_bits: u8,
+    vals: &I,
+    sink: &mut K,
+) -> Result<(), ColumnarError>
+    requires width { num_bits ≤ 64 }
+    requires positive { 0 < stats.now.gcd }
+    requires fit { FitSteps (stats_seen stats.now) num_bits (I.items vals.now) }
+    ensures { Serializes (K.written sink.old) (K.written sink.new) (K.faults sink.old) (K.faults sink.new) result
+        (packed_bytes num_bits (steps_above (stats_seen stats.now) (I.items vals.now))) }
+{
+    let mut block = [0; BLOCK_SIZE];
+    let mut packed = Vec::with_capacity(alloc, BLOCK_SIZE * WORD_BYTES)?;
+    serialize_blocks(stats, num_bits, vals, &mut block, &mut packed, sink)
+}
+
+// The same in a block's room.
+fn serialize_blocks<I: Iterable<u64>, K: Sink>(
+    stats: &ColumnStats,
+    num_bits: u8,
+    vals: &I,
+    block: &mut [u64],
+    packed: &mut Vec<u8>,
+    sink: &mut K,
+) -> Result<(), ColumnarError>
+    requires width { num_bits ≤ 64 }
+    requires positive { 0 < stats.now.gcd }
+    requires fit { FitSteps (stats_seen stats.now) num_bits (I.items vals.now) }
+    requires room { length block.old ≡ block_size }
+    ensures { Serializes (K.written sink.old) (K.written sink.new) (K.faults sink.old) (K.faults sink.new) result
+        (packed_bytes num_bits (steps_above (stats_seen stats.now) (I.items vals.now))) }
+{
+    let mut at = vals.walk();
+    'values: loop {
+        let taken = take_block(vals, &mut at, block);
+        if taken == 0 {
+            return Ok(());
+        }
+        serialize_block(stats, num_bits, &mut block[..taken], packed, sink)?;
+    }
+}
+
+// Adds the steps of a block's values, packed.
+fn serialize_block<K: Sink>(
+    stats: &ColumnStats,
+    num_bits: u8,
+    vals: &mut [u64],
+    packed: &mut Vec<u8>,
+    sink: &mut K,
+) -> Result<(), ColumnarError>
+    requires width { num_bits ≤ 64 }
+    requires positive { 0 < stats.now.gcd }
+    requires fit { FitSteps (stats_seen stats.now) num_bits vals.old }
+    ensures { Serializes (K.written sink.old) (K.written sink.new) (K.faults sink.old) (K.faults sink.new) result
+        (packed_bytes num_bits (steps_above (stats_seen stats.now) vals.old)) }
+{
+    take_steps(stats, vals);
+    packed.clear();
+    pack_block(vals, num_bits, packed)?;
+    serialize_bytes(sink, packed)
+}

@@ -1,0 +1,42 @@
+//! Lists of u64 under the codec BlockwiseLinear: offsets from a line for each block of 512 values.
+
+mod block;
+mod estimator;
+mod offsets;
+mod reader;
+mod statistics;
+mod writer;
+
+use crate::codec::ColumnCodec;
+use crate::header::take_stats;
+use crate::packing::BLOCK_SIZE;
+use bytes::Bytes;
+use col_common::ColumnarError;
+pub use estimator::BlockwiseLinearEstimator;
+pub use reader::BlockwiseLinearReader;
+use std::alloc::Global;
+
+// How many values a block has; the last one may have fewer.
+const BLOCK_LEN: u32 = BLOCK_SIZE as u32;
+
+/// Offsets from a line for each block of 512 values.
+pub struct BlockwiseLinearCodec;
+
+impl ColumnCodec for BlockwiseLinearCodec {
+    ghost code = { 2 };
+
+    type Reader = BlockwiseLinearReader;
+
+    type Estimator = BlockwiseLinearEstimator;
+
+    fn load(alloc: Global, bytes: Bytes) -> Result<BlockwiseLinearReader, ColumnarError> {
+        let Some((stats, behind)) = take_stats(bytes) else {
+            return Err(ColumnarError::InvalidData);
+        };
+        BlockwiseLinearReader::open(alloc, stats, behind)
+    }
+
+    fn estimator(alloc: Global) -> Result<BlockwiseLinearEstimator, ColumnarError> {
+        Ok(BlockwiseLinearEstimator::new(alloc)?)
+    }
+}
