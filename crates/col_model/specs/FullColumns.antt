@@ -1,5 +1,5 @@
--- Full columns of u64 under Bitpacked, and the files and tables of such columns alone. States docs/FORMAT.md, sections 4, 8, 9 and 11.
-use Rattle.std.specs.Prelude.{◌≡◌, ℕ, ◌^◌, ◌<◌, ◌==◌, pos, true, List, [], ◌∷◌, map, length, slice_range, bytes_eq, Option, Some, None}
+-- Full columns of u64, read under any codec and written under Bitpacked, and the files and tables of such columns alone. States docs/FORMAT.md, sections 4, 8, 9 and 11.
+use Rattle.std.specs.Prelude.{◌≡◌, ℕ, ◌^◌, ◌<◌, ◌==◌, pos, true, List, [], ◌∷◌, map, length, slice_range, bytes_eq, Option, Some}
 use Rattle.std.specs.List.{AllByRecursion}
 use Rattle.std.specs.Int.{w64}
 use Rattle.col_common.specs.Reading.{◌>>=◌, only_if, parts_by_first}
@@ -20,7 +20,7 @@ single_rows xs = map (λ x. number (pos x) ∷ []) xs
 abbrev pub full_content : List ℕ → Content
 full_content xs = record { cardinality = full; terms = []; rows = single_rows xs }
 
--- the bytes of a Full column of these numbers
+-- the bytes of a Full column of these numbers under Bitpacked
 abbrev pub full_column_bytes : List ℕ → List ℕ
 full_column_bytes xs = column_bytes (0 ∷ []) (bitpacked_bytes xs)
 
@@ -48,7 +48,7 @@ u64_columns ps = map (λ p. (record { name = p.0; column_type = types.u64 }, p.1
 abbrev pub number_table : ℕ → List NamedNumbers → Table
 number_table n ps = record { row_count = n; columns = map full_column (u64_columns ps) }
 
--- the file of these columns alone
+-- the file of these columns alone, each under Bitpacked
 abbrev pub number_file : ℕ → List NamedNumbers → List ℕ
 number_file n ps = file_bytes n (full_columns (u64_columns ps))
 
@@ -59,17 +59,12 @@ pub record AreNumberColumns (n : ℕ) (ps : List NamedNumbers) : Type 0 where
   pub lengths : AllByRecursion (λ p. length p.1 ≡ n) ps
   pub fit : AllByRecursion (λ p. AllByRecursion (λ x. x < 2 ^ 64) p.1) ps
 
--- the list that the bytes stand for under Bitpacked, none under another codec
-abbrev pub bitpacked_list : List ℕ → Option (List ℕ)
-bitpacked_list [] = None
-bitpacked_list (codec ∷ bytes) = only_if (codec == 0) (codec ∷ bytes) >>= values64
-
--- The numbers of a Full column of n rows under Bitpacked, none for another column: index, numbers, the index's length.
+-- The numbers of a Full column of n rows, none for another column: index, numbers under any codec, the index's length.
 unfoldable pub full_numbers : List ℕ → ℕ → Option (List ℕ)
 full_numbers bytes n = do
   parts ← parts_by_first w64 bytes
   index ← only_if (bytes_eq parts.0 (0 ∷ [])) parts.0
-  numbers ← bitpacked_list parts.1
+  numbers ← values64 parts.1
   only_if (length numbers == n) numbers
 
 -- the name and the numbers of an entry that is such a column of u64

@@ -29,10 +29,6 @@ same_bytes xs ys h = (bytes_eq-Decides xs ys).0 h
 pub bytes_eq-refl : (xs : List ℕ) → bytes_eq xs xs ≡ true
 bytes_eq-refl xs = (bytes_eq-Decides xs xs).1 refl
 
-pub or_parts : (x y : Bool) → (x || y) ≡ false → (x ≡ false) × (y ≡ false)
-or_parts true y h = absurd (true≢false h)
-or_parts false y h = (refl, h)
-
 or_from_left : (x y : Bool) → x ≡ true → (x || y) ≡ true
 or_from_left x y h = rw h refl
 

@@ -62,7 +62,3 @@ pub each-goes_on : {A B : Type 0} (f : A → Option B) (front : List B) (x : A) 
 each-goes_on f front x xs y total h so_far =
     let one : with_items front (for_each f (x ∷ xs)) ≡ with_items (front ++ y ∷ []) (for_each f xs) = rw h (regroup_items front y (for_each f xs)) in
     sym one ∙ so_far
-
-pub each-init : {B : Type 0} (made : Option (List B)) → with_items [] made ≡ made
-each-init (Some xs) = refl
-each-init None = refl

@@ -1,13 +1,17 @@
 -- Columns that are opened one after another.
-use Rattle.std.proofs.Common.{◌≡◌, ℕ, ◌+◌, ◌^◌, ◌<◌, ◌≤◌, ◌==◌, not, nat_eq, Bool, true, false, List, [], ◌∷◌, ◌++◌, length, Some, refl, sym, ◌∙◌, arith}
+use Rattle.std.proofs.Common.{◌≡◌, ℕ, ◌+◌, ◌^◌, ◌<◌, ◌≤◌, ◌==◌, not, nat_eq, Bool, true, false, List, [], ◌∷◌, ◌++◌, length, map, Option, Some, None, option_map, refl, sym, ◌∙◌, arith}
 use Rattle.std.specs.Cmp.Lexicographic.{pointwise, same_text}
 use Rattle.std.proofs.lemmas.Bool.{false≢true}
 use Rattle.std.specs.Int.{w64}
+use Rattle.std.specs.List.{list_all}
+use Rattle.std.proofs.lemmas.List.{map-id}
 use Rattle.std.proofs.lemmas.List.Sums.{sum_by-cons}
 use Rattle.col_model.specs.File.{for_each}
-use Rattle.col_common.specs.Reading.{only_if, parts_by_first}
-use Rattle.col_model.specs.FullColumns.{NamedNumbers, entry_numbers, bitpacked_list, full_numbers}
+use Rattle.col_common.specs.Reading.{◌>>=◌, only_if, parts_by_first}
+use Rattle.col_model.specs.FullColumns.{NamedNumbers, entry_numbers, full_numbers}
+use Rattle.col_model.specs.Images.{images64}
 use Rattle.col_model.specs.Keys.{Key, entries_from, total_length}
+use Rattle.col_model.specs.U64List.{values64}
 use Rattle.col_tool.specs.declared.key_table.KeyedLength.{KeyedLength}
 use Rattle.col_tool.specs.KeyTables.{key_seen, keyed, all_keyed}
 use Rattle.col_tool.proofs.ItemLemmas.{with_items, each-goes_on}
@@ -38,6 +42,18 @@ same_slices a b differ e f = same_text a b (kept (pointwise nat_eq a b) (sym e �
     kept false h = absurd (false≢true (sym h))
 
 -- a column's numbers, from what its parts read
-pub full_numbers-read : (bytes : List ℕ) (n : ℕ) (index values xs : List ℕ) (b : Bool) → parts_by_first w64 bytes ≡ Some (index, values) → index ≡ 0 ∷ [] → bitpacked_list values ≡ Some xs → (length xs == n) ≡ b → full_numbers bytes n ≡ only_if b xs
+pub full_numbers-read : (bytes : List ℕ) (n : ℕ) (index values xs : List ℕ) (b : Bool) → parts_by_first w64 bytes ≡ Some (index, values) → index ≡ 0 ∷ [] → values64 values ≡ Some xs → (length xs == n) ≡ b → full_numbers bytes n ≡ only_if b xs
 unfolding full_numbers
 full_numbers-read bytes n index values xs b e f g h = rw (e, f, g, h) refl
+
+all_pass : (xs : List ℕ) → list_all (λ _. true) xs ≡ true
+all_pass [] = refl
+all_pass (x ∷ xs) = all_pass xs
+
+-- a list of u64 is its numbers, each of which stands for itself
+pub values64-numbers : (bytes : List ℕ) → values64 bytes ≡ option_map (map (λ n. n)) (images64 (λ _. true) bytes)
+values64-numbers bytes = by (values64 bytes)
+  where
+    by : (o : Option (List ℕ)) → o ≡ option_map (map (λ n. n)) (o >>= λ xs. only_if (list_all (λ _. true) xs) xs)
+    by None = refl
+    by (Some xs) = rw (all_pass xs, map-id) refl

@@ -1,11 +1,12 @@
 -- The lines of a report, printed one after another.
-use Rattle.std.proofs.Common.{◌≡◌, ◌∙◌, ℕ, zero, suc, ◌+◌, ◌<◌, ◌≤◌, nat_lt, Bool, true, false, List, [], ◌∷◌, ◌++◌, map, filter, flat_map, length, take, get_or, slice_index, bytes_eq, Option, Some, None, refl, sym, ap, arith, append-nil, append_assoc, add-zero, zero-add}
+use Rattle.std.proofs.Common.{◌≡◌, ◌∙◌, ℕ, zero, suc, ◌+◌, ◌<◌, ◌≤◌, nat_lt, Bool, true, false, List, [], ◌∷◌, ◌++◌, map, filter, flat_map, length, take, get_or, slice_index, slice_get, bytes_eq, Option, Some, None, refl, sym, ap, arith, append-nil, append_assoc, add-zero, zero-add}
 use Rattle.std.specs.List.{enumerate_from}
 use Rattle.std.proofs.lemmas.Grind.{flat_map-append}
 use Rattle.std.proofs.lemmas.List.{map_more, take_more, take_all}
 use Rattle.std.proofs.lemmas.List.Folds.{flat_map-map}
 use Rattle.std.proofs.lemmas.List.FromFn.{length-enumerate_from}
 use Rattle.std.proofs.lemmas.List.Sums.{sum_by-cons}
+use Rattle.std.proofs.lemmas.Option.{slice_get_within, get_or_from_slice_get}
 use Rattle.serde_json.specs.Data.{Data, null}
 use Rattle.serde_json.specs.Written.{compact_text, has_float, items_have_float}
 use Rattle.serde_json.specs.View.{items_of}
@@ -63,9 +64,11 @@ numbered first (x ∷ xs) (suc i) d within =
     rw (← same) (numbered (first + 1) xs i d (omega arith))
 
 -- the line of one row more
-pub rows-more : (a b c xs : List ℕ) (row x : ℕ) (line : Data) → row < length xs → x ≡ slice_index xs row → line ≡ number_line (row, x) → Prints a b (map number_line (take row (enumerate_from 0 xs))) → Prints b c (line ∷ []) → Prints a c (map number_line (take (row + 1) (enumerate_from 0 xs)))
-rows-more a b c xs row x line within is_x is_line before here =
-    let at : get_or (enumerate_from 0 xs) row (row, x) ≡ (row, x) = rw (zero-add, ← is_x) at (numbered 0 xs row (row, x) within) in
+pub rows-more : (a b c xs : List ℕ) (row x : ℕ) (line : Data) → slice_get xs row ≡ Some x → line ≡ number_line (row, x) → Prints a b (map number_line (take row (enumerate_from 0 xs))) → Prints b c (line ∷ []) → Prints a c (map number_line (take (row + 1) (enumerate_from 0 xs)))
+rows-more a b c xs row x line is_value is_line before here =
+    let within : row < length xs = slice_get_within xs row x is_value in
+    let is_x : slice_index xs row ≡ x = get_or_from_slice_get xs row x 0 is_value in
+    let at : get_or (enumerate_from 0 xs) row (row, x) ≡ (row, x) = rw (zero-add, is_x) at (numbered 0 xs row (row, x) within) in
     Prints-map number_line a b c (enumerate_from 0 xs) row (row, x) (rw length-enumerate_from within) (sym at) before (rw is_line at here)
 
 -- all the rows

@@ -13,6 +13,7 @@ use Rattle.std.proofs.lemmas.Map.Lookups.{exact_bytes}
 use Rattle.std.proofs.lemmas.Map.Text.{is_eq-slice_cmp}
 use Rattle.std.proofs.lemmas.List.Sorted.{IsNonDecreasingBy-from_all_adjacent}
 use Rattle.col_model.specs.Ascending.{is_before, is_ascending}
+use Rattle.col_values.specs.NumValues.{num_values_of}
 use Rattle.col_tool.specs.declared.column.NamedColumn.{NamedColumn}
 use Rattle.col_tool.specs.Opened.{opened, numbers_named}
 
@@ -102,12 +103,12 @@ find-map : {A B : Type 0} (v : A → B) (p : B → Bool) (xs : List A) → find 
 find-map v p [] = refl
 find-map v p (x ∷ xs) = moved v x (p (v x)) (find p (map v xs)) (find (λ x. p (v x)) xs) (find-map v p xs)
 
-numbers_in : (o : Option NamedColumn) → option_map (λ p. p.1) (option_map opened o) ≡ option_map (λ c. c.values) o
+numbers_in : (o : Option NamedColumn) → option_map (λ p. p.1) (option_map opened o) ≡ option_map (λ c. num_values_of c.values) o
 numbers_in (Some c) = refl
 numbers_in None = refl
 
 -- the numbers under a name are those of the column that is found
-pub numbers_named-opened : (cs : List NamedColumn) (name : List ℕ) → numbers_named name (map opened cs) ≡ option_map (λ c. c.values) (find (λ c. bytes_eq (string_bytes c.name) name) cs)
+pub numbers_named-opened : (cs : List NamedColumn) (name : List ℕ) → numbers_named name (map opened cs) ≡ option_map (λ c. num_values_of c.values) (find (λ c. bytes_eq (string_bytes c.name) name) cs)
 numbers_named-opened cs name = ap (option_map (λ p. p.1)) (find-map opened (λ p. bytes_eq p.0 name) cs) ∙ numbers_in (find (λ c. bytes_eq (string_bytes c.name) name) cs)
 
 pub names_of_opened : (cs : List NamedColumn) → map (λ c. string_bytes c.name) cs ≡ map (λ p. p.0) (map opened cs)

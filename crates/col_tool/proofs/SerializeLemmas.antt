@@ -1,8 +1,9 @@
 -- Parts that are serialized one behind another, and what they are together.
-use Rattle.std.proofs.Common.{◌≡◌, ℕ, suc, ◌+◌, ◌^◌, ◌<◌, List, [], ◌∷◌, ◌++◌, length, map, flat_map, Result, Ok, Err, Some, IfErr, String, Vec, string_bytes, refl, sym, ap, ap₂, ◌∙◌, subst, append_assoc, length-append, inl}
+use Rattle.std.proofs.Common.{◌≡◌, ℕ, suc, ◌+◌, ◌^◌, ◌<◌, List, [], ◌∷◌, ◌++◌, length, map, flat_map, Result, Ok, Err, Some, IfSome, IfErr, String, Vec, string_bytes, refl, sym, ap, ap₂, ◌∙◌, subst, append_assoc, length-append, inl}
 use Rattle.std.specs.List.{AllByRecursion}
 use Rattle.std.specs.Int.{w32, w64, to_le_bytes}
 use Rattle.std.specs.declared.alloc.Global.{Global}
+use Rattle.std.proofs.lemmas.List.{map-id}
 use Rattle.std.proofs.lemmas.List.Concat.{flat_map-cons}
 use Rattle.std.proofs.lemmas.Option.{same_Some}
 use Rattle.col_common.specs.Outside.{Told}
@@ -12,10 +13,12 @@ use Rattle.col_common.specs.declared.error.ColumnarError.{ColumnarError}
 use Rattle.col_common.specs.declared.error.ColumnarError.TheVariants.{OutOfMemory}
 use Rattle.col_common.proofs.SerializingLemmas.{serializes-then, serializes-stopped, serializes-nothing}
 use Rattle.col_model.specs.U64List.{bitpacked_bytes, joined_lists}
+use Rattle.col_model.specs.Codecs.{chosen_codec, codec_bytes}
 use Rattle.col_model.specs.ColumnType as types
 use Rattle.col_model.specs.Version.{version_bytes}
 use Rattle.col_model.specs.Spelling.{column_bytes, keyed_length_bytes, keyed_lengths, key_table_bytes, footer_bytes, file_bytes}
 use Rattle.col_model.specs.FullColumns.{full_column_bytes, full_columns, u64_columns, number_file, NamedNumbers}
+use Rattle.col_model.proofs.ChosenLaws.{codec_bytes-bitpacked}
 
 -- the same bytes in other words
 pub serializes_as : (a b : Told) (k m : ℕ) (result : Result (Unit {0}) ColumnarError) (xs ys : List ℕ) → xs ≡ ys → Serializes a b k m result xs → Serializes a b k m result ys
@@ -60,6 +63,13 @@ unfolding keyed_length_bytes
 keyed_length-parts name text code n e f =
     ap₂ (λ t c. ((vint_bytes (length name + 2) ++ t) ++ (0 ∷ c ∷ [])) ++ vint_bytes n) e f
     ∙ keyed-regroup (vint_bytes (length name + 2)) name (0 ∷ 1 ∷ []) (vint_bytes n) (length name + 2) refl (length-append name (0 ∷ 1 ∷ []))
+
+-- ---- the numbers of a column
+
+-- what is written where Bitpacked is the one codec that is offered
+pub bitpacked-offered : (a b : Told) (k m : ℕ) (result : Result (Unit {0}) ColumnarError) (xs : List ℕ) → length xs < 2 ^ 32 → IfSome (chosen_codec (map (λ n. n) xs) (0 ∷ [])) (λ codec. length xs < 2 ^ 32 → Serializes a b k m result (codec_bytes codec (map (λ n. n) xs))) → Serializes a b k m result (bitpacked_bytes xs)
+unfolding chosen_codec
+bitpacked-offered a b k m result xs short written = serializes_as a b k m result _ (bitpacked_bytes xs) (ap (codec_bytes 0) (map-id xs) ∙ codec_bytes-bitpacked xs) (written short)
 
 -- ---- columns one after another
 

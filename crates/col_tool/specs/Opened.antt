@@ -1,11 +1,12 @@
 -- The columns of an open file.
 use Rattle.std.specs.Prelude.{ℕ, List, find, string_bytes, bytes_eq, Option, option_map}
 use Rattle.col_model.specs.FullColumns.{NamedNumbers}
+use Rattle.col_values.specs.NumValues.{num_values_of}
 use Rattle.col_tool.specs.declared.column.NamedColumn.{NamedColumn}
 
 -- a column's name and numbers
 abbrev pub opened : NamedColumn → NamedNumbers
-opened c = (string_bytes c.name, c.values)
+opened c = (string_bytes c.name, num_values_of c.values)
 
 -- the numbers under a name
 abbrev pub numbers_named : List ℕ → List NamedNumbers → Option (List ℕ)

@@ -1,34 +1,35 @@
 //! Columns of an open file.
 ghost use Rattle.std.specs.Prelude.{◌≡◌, ◌+◌, ◌^◌, ◌<◌, ◌≤◌, true, length, map, find, option_map, bytes_eq, string_bytes};
-ghost use Rattle.std.specs.Int.{w64, from_le_bytes};
+ghost use Rattle.std.specs.Int.{w64};
 ghost use Rattle.col_common.specs.Reading.{parts_by_first};
 ghost use Rattle.col_common.specs.Decoding.{Decodes};
 ghost use Rattle.col_model.specs.Ascending.{is_ascending};
 ghost use Rattle.col_model.specs.File.{for_each};
 ghost use Rattle.col_model.specs.FullColumns.{full_numbers, entry_numbers};
 ghost use Rattle.col_model.specs.Keys.{entries_from, total_length};
+ghost use Rattle.col_model.specs.U64List.{values64};
+ghost use Rattle.col_values.specs.NumValues.{num_values_of};
 ghost use Rattle.col_tool.specs.KeyTables.{key_seen, all_keyed};
 ghost use Rattle.col_tool.specs.Opened.{opened};
 
 use crate::column_key::ColumnKey;
 use crate::column_type::ColumnType;
-use crate::column_values::{BitpackedReader, load_u64_based_column_values};
 use crate::key_table::KeyedLength;
+use crate::reading::{U64_NUM_BYTES, whole_number};
 use bytes::Bytes;
 use col_common::ColumnarError;
+use col_values::{NumValues, load_u64_based_column_values};
+use col_views::ColumnValues;
 use std::alloc::Global;
 
 /// The index of a Full column.
 pub const FULL_INDEX: [u8; 1] = [0];
 
-// How many bytes the length of an index takes.
-const INDEX_LEN_NUM_BYTES: usize = 8;
-
 /// A column of an open file.
 #[derive(Drop)]
 pub struct NamedColumn {
     pub name: String,
-    pub values: BitpackedReader,
+    pub values: NumValues<u64>,
 }
 
 /// Opens columns that follow one another from the file's front on.
@@ -47,7 +48,7 @@ pub fn open_columns(
     let mut start = 0;
     for entry in entries {
         let end = start + entry.num_bytes as usize;
-        let column = open_entry(file, num_docs, start, entry)?;
+        let column = open_entry(alloc, file, num_docs, start, entry)?;
         columns.push(column)?;
         start = end;
     }
@@ -67,6 +68,7 @@ pub fn find_column<'a>(columns: &'a [NamedColumn], name: &str) -> Option<&'a Nam
 
 #[tactic(auto, unfolding(col_model::specs::FullColumns::entry_numbers))]
 fn open_entry(
+    alloc: Global,
     file: &Bytes,
     num_docs: u32,
     start: usize,
@@ -83,24 +85,35 @@ fn open_entry(
         return Err(ColumnarError::InvalidData);
     }
     let column = file.slice(start..start + num_bytes as usize)?;
-    let values = open_column_u64(column, num_docs)?;
+    let values = open_column_u64(alloc, column, num_docs)?;
     Ok(NamedColumn { name, values })
 }
 
 /// Opens a Full column of so many numbers.
 #[tactic(auto, unfolding(col_model::specs::FullColumns::full_numbers))]
-pub fn open_column_u64(column: Bytes, num_docs: u32) -> Result<BitpackedReader, ColumnarError>
-    ensures { Decodes (λ list. list) result (full_numbers column num_docs) }
+pub fn open_column_u64(
+    alloc: Global,
+    column: Bytes,
+    num_docs: u32,
+) -> Result<NumValues<u64>, ColumnarError>
+    ensures { Decodes num_values_of result (full_numbers column num_docs) }
 {
     let (index, values) = index_and_values(column)?;
     if index.as_slice() != FULL_INDEX.as_slice() {
         return Err(ColumnarError::InvalidData);
     }
-    let list = load_u64_based_column_values(values)?;
+    let list = load_numbers(alloc, values)?;
     if list.num_vals() != num_docs {
         return Err(ColumnarError::InvalidData);
     }
     Ok(list)
+}
+
+// A list of numbers under any codec.
+fn load_numbers(alloc: Global, values: Bytes) -> Result<NumValues<u64>, ColumnarError>
+    ensures { Decodes num_values_of result (values64 values) }
+{
+    load_u64_based_column_values::<u64>(alloc, values)
 }
 
 // The two parts of a column, behind which the length of the first stands.
@@ -109,23 +122,14 @@ fn index_and_values(column: Bytes) -> Result<(Bytes, Bytes), ColumnarError>
     ensures { Decodes (λ p. (p.0, p.1)) result (parts_by_first w64 column) }
 {
     let mut parts = column;
-    if parts.len() < INDEX_LEN_NUM_BYTES {
+    if parts.len() < U64_NUM_BYTES {
         return Err(ColumnarError::InvalidData);
     }
-    let index_len = parts.split_off(parts.len() - INDEX_LEN_NUM_BYTES)?;
+    let index_len = parts.split_off(parts.len() - U64_NUM_BYTES)?;
     let index_len = whole_number(index_len.as_slice());
     if index_len as usize > parts.len() {
         return Err(ColumnarError::InvalidData);
     }
     let index = parts.split_to(index_len as usize)?;
     Ok((index, parts))
-}
-
-// The number that eight bytes spell, the lowest first.
-fn whole_number(bytes: &[u8]) -> u64
-    requires { length bytes.now ≡ INDEX_LEN_NUM_BYTES }
-    ensures { result ≡ from_le_bytes w64 bytes.now }
-{
-    let n = bytes;
-    u64::from_le_bytes([n[0], n[1], n[2], n[3], n[4], n[5], n[6], n[7]])
 }

@@ -2,10 +2,10 @@
 ghost use Rattle.std.specs.Prelude.{◌≡◌};
 
 use crate::column::{NamedColumn, find_column, open_columns};
-use crate::column_values::BitpackedReader;
 use crate::key_table::parse_keys;
 use bytes::Bytes;
 use col_common::ColumnarError;
+use col_values::NumValues;
 use std::alloc::Global;
 use std::marker::Model;
 
@@ -34,6 +34,7 @@ impl ColumnarReader {
     ghost use Rattle.std.specs.Prelude.{map, option_map};
     ghost use Rattle.col_common.specs.Decoding.{Decodes};
     ghost use Rattle.col_model.specs.FullColumns.{numbers_of_file};
+    ghost use Rattle.col_values.specs.NumValues.{num_values_of};
     ghost use Rattle.col_tool.specs.Opened.{opened, numbers_named};
 
     /// Opens a file of Full u64 columns, with its columns.
@@ -63,8 +64,8 @@ impl ColumnarReader {
     }
 
     /// The numbers of the column of this name.
-    pub fn column(&self, name: &str) -> Option<&BitpackedReader>
-        ensures { option_map (λ values. values.now) result ≡ numbers_named name.now self.now.1 }
+    pub fn column(&self, name: &str) -> Option<&NumValues<u64>>
+        ensures { option_map (λ values. num_values_of values.now) result ≡ numbers_named name.now self.now.1 }
     {
         match find_column(&self.columns, name) {
             Some(column) => Some(&column.values),

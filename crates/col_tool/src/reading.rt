@@ -1,7 +1,10 @@
 //! Parts of bytes, each taken exactly or none.
-ghost use Rattle.std.specs.Prelude.{◌≡◌, option_map};
-ghost use Rattle.std.specs.Int.{w32, w64};
+ghost use Rattle.std.specs.Prelude.{◌≡◌, length, option_map};
+ghost use Rattle.std.specs.Int.{w32, w64, from_le_bytes};
 ghost use Rattle.col_common.specs.Reading.{front, back, le_number};
+
+/// How many bytes a u64 takes.
+pub const U64_NUM_BYTES: usize = 8;
 
 /// The first bytes, so many, and the others.
 pub fn front_of(count: u64, bytes: &[u8]) -> Option<(&[u8], &[u8])>
@@ -39,10 +42,18 @@ pub fn u32_at(bytes: &[u8]) -> Option<(u32, &[u8])>
 pub fn u64_at(bytes: &[u8]) -> Option<(u64, &[u8])>
     ensures { option_map (λ p. (p.0, p.1.now)) result ≡ le_number w64 bytes.now }
 {
-    if bytes.len() < 8 {
+    if bytes.len() < U64_NUM_BYTES {
         return None;
     }
-    let (n, rest) = bytes.split_at(8);
-    let number = u64::from_le_bytes([n[0], n[1], n[2], n[3], n[4], n[5], n[6], n[7]]);
-    Some((number, rest))
+    let (number, rest) = bytes.split_at(U64_NUM_BYTES);
+    Some((whole_number(number), rest))
+}
+
+/// The number that eight bytes spell, the lowest first.
+pub fn whole_number(bytes: &[u8]) -> u64
+    requires { length bytes.now ≡ U64_NUM_BYTES }
+    ensures { result ≡ from_le_bytes w64 bytes.now }
+{
+    let n = bytes;
+    u64::from_le_bytes([n[0], n[1], n[2], n[3], n[4], n[5], n[6], n[7]])
 }

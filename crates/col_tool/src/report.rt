@@ -4,15 +4,17 @@ ghost use Rattle.serde_json.specs.View.{view};
 ghost use Rattle.serde_json.specs.Written.{has_float};
 ghost use Rattle.col_model.specs.FullColumns.{number_table};
 ghost use Rattle.col_model.specs.Report.{rows_line, column_lines, found_data, find_line, count_data, list_data, report_of};
+ghost use Rattle.col_values.specs.NumValues.{num_values_of};
 ghost use Rattle.col_tool.specs.Line.{find_of};
 ghost use Rattle.col_tool.specs.Opened.{opened};
 ghost use Rattle.col_tool.specs.Reported.{Prints, number_column, number_column_line, number_line, number_lines, found_line};
 
 use crate::column::NamedColumn;
-use crate::column_values::BitpackedReader;
 use crate::line::Find;
 use crate::lookup::docids_for_value_range;
 use crate::reader::ColumnarReader;
+use col_values::NumValues;
+use col_views::ColumnValues;
 use serde_json::{Value, json};
 use std::alloc::{AllocError, Global};
 
@@ -64,8 +66,8 @@ fn column_value(alloc: Global, column: &NamedColumn) -> Result<Value, AllocError
     json!(in alloc; ["column", &column.name, "u64", "full", column.values.num_vals()])
 }
 
-fn push_rows(alloc: Global, lines: &mut Vec<u8>, values: &BitpackedReader) -> Result<(), AllocError>
-    ensures { OnOk result (Prints lines.old.items lines.new.items (number_lines 0 values.now)) }
+fn push_rows(alloc: Global, lines: &mut Vec<u8>, values: &NumValues<u64>) -> Result<(), AllocError>
+    ensures { OnOk result (Prints lines.old.items lines.new.items (number_lines 0 (num_values_of values.now))) }
 {
     for row in 0..values.num_vals() {
         let value = row_value(alloc, row, values.get_val(row))?;

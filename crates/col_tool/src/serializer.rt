@@ -3,7 +3,7 @@ ghost use Rattle.std.specs.Prelude.{◌≡◌, ◌++◌, ◌^◌, ◌<◌, ℕ, 
 ghost use Rattle.std.specs.List.{AllByRecursion};
 ghost use Rattle.col_common.specs.Serializing.{Serializes};
 ghost use Rattle.col_common.specs.declared.error.ColumnarError.TheVariants as refusals;
-ghost use Rattle.col_model.specs.U64List.{joined_lists};
+ghost use Rattle.col_model.specs.U64List.{bitpacked_bytes, joined_lists};
 ghost use Rattle.col_model.specs.ColumnType as types;
 ghost use Rattle.col_model.specs.Keys.{Key};
 ghost use Rattle.col_model.specs.Spelling.{keyed_length_bytes, keyed_lengths};
@@ -13,11 +13,14 @@ ghost use Rattle.col_tool.specs.Columns.{named_numbers};
 use crate::buffer::Buffer;
 use crate::column::FULL_INDEX;
 use crate::column_type::ColumnType;
-use crate::column_values::serialize_u64_based_column_values;
 use crate::footer::serialize_footer;
 use col_common::{ColumnarError, Sink, VInt, serialize_bytes};
+use col_values::{CodecType, serialize_u64_based_column_values};
 use std::alloc::Global;
 use std::collections::BTreeMap;
+
+// The codecs that the numbers of a column may be written under.
+const CODEC_TYPES: [CodecType; 1] = [CodecType::Bitpacked];
 
 /// Writes columns in the order of their names, the key table and the footer.
 pub fn serialize_columnar<K: Sink>(
@@ -97,8 +100,21 @@ fn serialize_full_column<K: Sink>(
         result (full_column_bytes values.now) }
 {
     serialize_bytes(sink, &FULL_INDEX)?;
-    serialize_u64_based_column_values(alloc, values, sink)?;
+    serialize_numbers(alloc, values, sink)?;
     serialize_bytes(sink, &(FULL_INDEX.len() as u64).to_le_bytes())
+}
+
+// Writes numbers under the one codec that is offered.
+fn serialize_numbers<K: Sink>(
+    alloc: Global,
+    values: &[u64],
+    sink: &mut K,
+) -> Result<(), ColumnarError>
+    requires { length values.now < 2 ^ 32 }
+    ensures { Serializes (K.written sink.old) (K.written sink.new) (K.faults sink.old) (K.faults sink.new)
+        result (bitpacked_bytes values.now) }
+{
+    serialize_u64_based_column_values::<u64, _, _>(alloc, &values, &CODEC_TYPES, sink)
 }
 
 // Adds a key with its column's length to the table.

@@ -2,6 +2,7 @@
 use crate::reader::ColumnarReader;
 use bytes::Bytes;
 use col_common::ColumnarError;
+use col_views::ColumnValues;
 use std::alloc::Global;
 use std::test::Fail;
 
@@ -20,6 +21,32 @@ macro_rules! two_columns {
         )
     };
 }
+
+// A column of two rows under the name "a", of these bytes before its index's length, and of this length.
+macro_rules! one_column {
+    ($column:literal, $len:literal) => {
+        concat!(
+            $column,
+            "0100000000000000",
+            "8183610001",
+            $len,
+            "0600000000000000",
+            "02000000",
+            "02000000",
+            "02717742"
+        )
+    };
+}
+
+// The values 10 and 20: one step of 10; offsets 0 and 10 from a line at 10; a block of the steps 0 and 1.
+const CODECS: [(&str, &str); 3] = [
+    ("Bitpacked", one_column!("00008a8a818202", "8f")),
+    ("Linear", one_column!("00018a8a8182808a04a0", "92")),
+    (
+        "BlockwiseLinear",
+        one_column!("00028a8a8182028080010300000000000000", "9a"),
+    ),
+];
 
 const GOOD: [(&str, &str, u32, usize); 4] = [
     (
@@ -48,7 +75,7 @@ const GOOD: [(&str, &str, u32, usize); 4] = [
     ),
 ];
 
-const BAD: [(&str, &str); 18] = [
+const BAD: [(&str, &str); 19] = [
     ("no byte", ""),
     (
         "two bytes missing",
@@ -98,10 +125,8 @@ const BAD: [(&str, &str); 18] = [
         "another index",
         "01008a8a818202010000000000000081836100018f0600000000000000020000000200000002717742",
     ),
-    (
-        "another codec",
-        "00018a8a818202010000000000000081836100018f0600000000000000020000000200000002717742",
-    ),
+    ("another codec", one_column!("00038a8a818202", "8f")),
+    ("a line cut off", one_column!("00018a8a818202", "8f")),
     (
         "a byte before the columns",
         "0000008a8a818202010000000000000081836100018f0600000000000000020000000200000002717742",
@@ -144,6 +169,18 @@ fn a_column_is_found_by_its_name(rt: HostRuntime) -> Result<(), Fail> {
         ("c", false),
     ] {
         assert_eq!(rt; reader.column(name).is_some(), found, "{name}");
+    }
+    Ok(())
+}
+
+#[test]
+fn a_column_is_read_under_each_codec(rt: HostRuntime) -> Result<(), Fail> {
+    for (codec, digits) in CODECS {
+        let reader = open(rt.alloc(), digits)??;
+        let values = reader.column("a").ok_or("no column")?;
+        assert_eq!(rt; values.num_vals(), 2, "{codec}");
+        assert_eq!(rt; values.get_val(0), 10, "{codec}");
+        assert_eq!(rt; values.get_val(1), 20, "{codec}");
     }
     Ok(())
 }

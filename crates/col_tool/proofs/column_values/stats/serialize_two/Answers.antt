@@ -1,5 +1,0 @@
-use Rattle.col_common.proofs.SerializingLemmas.{serializes-then}
-use Rattle.col_tool.proofs.column_values.stats.serialize_two.Goals as goal
-
-pub returns : goal.returns
-returns g c = serializes-then _ _ _ _ _ _ _ _ _ _ c.in_ok-serialize.ensures.ok c.serialize-2.ensures.ok

@@ -1,6 +1,0 @@
-use Rattle.std.proofs.Common.{◌∙◌, arith}
-use Rattle.col_tool.proofs.StatsLemmas.{gcd-step}
-use Rattle.col_tool.proofs.column_values.stats_collector.compute_gcd.Goals as goal
-
-pub loop-small-preserved : goal.loop-small-preserved
-loop-small-preserved c = gcd-step c.loop-small.large c.loop-small.small (omega arith) ∙ c.loop-small.invariant
