@@ -9,3 +9,4 @@ pub mod PlaceLemmas
 pub mod NumberingLemmas
 pub mod TermRefLemmas
 pub mod WritingLemmas
+pub mod HeadLemmas

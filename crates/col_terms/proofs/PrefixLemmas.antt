@@ -4,24 +4,16 @@ use Rattle.std.specs.declared.cmp.Ordering.{Ordering}
 use Rattle.std.specs.declared.cmp.Ordering.TheVariants.{Less, Equal, Greater}
 use Rattle.std.specs.Ordering.{nat_cmp, is_lt, ordering_then}
 use Rattle.std.specs.Cmp.Lexicographic.{slice_cmp}
-use Rattle.std.proofs.lemmas.Bool.{and_parts, and_from, and_left, and_right, false≢true, true≢false, lt-ltb, le-ltb, eqb-true, eq-eqb, ne_eqb, cases_lt, cases_order, false_from_ne_true}
+use Rattle.std.proofs.lemmas.Bool.{and_parts, and_from, and_left, and_right, false≢true, true≢false, eqb-true, eq-eqb, ne_eqb, cases_lt, cases_order, false_from_ne_true}
 use Rattle.std.proofs.lemmas.List.FromFn.{length-enumerate_from, get_or-enumerate_from}
 use Rattle.std.proofs.lemmas.Option.{get_or_from_slice_get}
 use Rattle.col_model.specs.Ascending.{is_before, is_ascending}
 use Rattle.col_terms.specs.Lookups.{IsFirstFrom, has_prefix, IsPrefixEnd}
 use Rattle.col_terms.specs.Streams.{OrdTerm, numbered, with_prefix}
+use Rattle.col_terms.proofs.HeadLemmas.{cmp_less, cmp_greater, cmp_same}
 use Rattle.col_terms.proofs.SearchLemmas.{middle, pairwise}
 
 -- ---- prefixes and the order
-
-cmp_less : (a b : ℕ) → a < b → nat_cmp a b ≡ Less
-cmp_less a b h = rw (lt-ltb a b h) refl
-
-cmp_greater : (a b : ℕ) → b < a → nat_cmp a b ≡ Greater
-cmp_greater a b h = rw (le-ltb a b (omega arith), ne_eqb a b (λ e. omega arith)) refl
-
-cmp_same : (a b : ℕ) → a ≡ b → nat_cmp a b ≡ Equal
-cmp_same a b e = rw (le-ltb a b (omega arith), eq-eqb a b e) refl
 
 -- the first bytes decide
 decided : (x y : ℕ) (o p : Ordering) → nat_cmp x y ≡ o → is_lt (ordering_then (nat_cmp x y) p) ≡ is_lt (ordering_then o p)

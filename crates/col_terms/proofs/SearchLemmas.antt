@@ -13,6 +13,7 @@ use Rattle.std.proofs.lemmas.Map.Text.{is_eq-slice_cmp}
 use Rattle.std.proofs.lemmas.List.Sums.{position_or_len_is}
 use Rattle.std.proofs.lemmas.Option.{get_or_from_slice_get}
 use Rattle.col_model.specs.Ascending.{is_before, is_ascending}
+use Rattle.col_terms.proofs.PlaceLemmas.{same_bytes}
 use Rattle.col_terms.specs.Lookups.{ord_of, IsAt, IsGapFor, IsFirstFrom}
 
 -- ---- the order of byte lists
@@ -33,9 +34,6 @@ not_before_less a b e = ap is_lt (nat_list_cmp_total.antisymm b a ∙ ap orderin
 
 unlike : (a b : List ℕ) (o : Ordering) → slice_cmp nat_cmp a b ≡ o → is_eq o ≡ false → bytes_eq a b ≡ false
 unlike a b o h n = sym (is_eq-slice_cmp a b) ∙ ap is_eq h ∙ n
-
-same_bytes : (a b : List ℕ) → a ≡ b → bytes_eq a b ≡ true
-same_bytes a b e = sym (is_eq-slice_cmp a b) ∙ ap is_eq (ap (slice_cmp nat_cmp a) (sym e) ∙ tied_itself nat_list_cmp_total a)
 
 adjacent : (ts : List (List ℕ)) (k : ℕ) → suc k < length ts → is_ascending ts ≡ true → slice_cmp nat_cmp (get_or ts k []) (get_or ts (suc k) []) ≡ Less
 adjacent [] k h e = absurd (omega arith)

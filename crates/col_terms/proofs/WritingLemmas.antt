@@ -1,12 +1,11 @@
 -- What is written of terms in order is read back.
 use Rattle.std.proofs.Common.{◌≡◌, ℕ, suc, ◌+◌, ◌-◌, ◌^◌, ◌<◌, ◌==◌, ◌&&◌, nat_le, true, List, [], ◌∷◌, ◌++◌, length, map, sum, sum_by, drop, get_or, flat_map, option_map, unwrap_or, Some, refl, sym, ap, ◌∙◌, inl, inr, arith}
-use Rattle.std.specs.declared.cmp.Ordering.TheVariants.{Less, Equal, Greater}
 use Rattle.std.specs.Int.{w32, to_le_bytes}
 use Rattle.std.specs.List.{concat, AllByRecursion}
 use Rattle.std.specs.Ordering.{nat_cmp, ordering_reverse}
 use Rattle.std.specs.Cmp.Lexicographic.{slice_cmp}
-use Rattle.std.proofs.lemmas.Bool.{and_from, le-leb, eq-eqb, lt-ltb, le-ltb, ne_eqb, cases_order}
-use Rattle.std.proofs.lemmas.Cmp.{nat_cmp_total, nat_list_cmp_total, tied_itself}
+use Rattle.std.proofs.lemmas.Bool.{and_from, le-leb, eq-eqb, cases_order}
+use Rattle.std.proofs.lemmas.Cmp.{nat_list_cmp_total, tied_itself}
 use Rattle.std.proofs.lemmas.List.{length-append, take_at, drop_at}
 use Rattle.std.proofs.lemmas.List.Sums.{sum_by-cons}
 use Rattle.col_common.specs.Reading.{only_if, le_number, items}
@@ -18,6 +17,7 @@ use Rattle.col_terms.specs.TermTable.{terms_of, ends_from, dictionary_bytes}
 use Rattle.col_terms.specs.Building.{ordered}
 use Rattle.col_terms.specs.Laws.{OrdinalsAreInOrder, DictionariesAreReadBack}
 use Rattle.col_terms.proofs.TableLemmas.{table_counted, table_ascending}
+use Rattle.col_terms.proofs.HeadLemmas.{cmp_less, cmp_greater, cmp_same}
 use Rattle.col_terms.proofs.SearchLemmas.{pairwise}
 use Rattle.col_terms.proofs.OrderedLemmas.{in_order-ordered, is_ascending-in_order}
 
@@ -92,20 +92,11 @@ read_back = record { read_back = terms-dictionary_bytes; ascend = λ ts. is_asce
 
 -- ---- ordinals
 
-cmp_less : (a b : ℕ) → a < b → nat_cmp a b ≡ Less
-cmp_less a b h = rw (lt-ltb a b h) refl
-
-cmp_greater : (a b : ℕ) → b < a → nat_cmp a b ≡ Greater
-cmp_greater a b h = rw (le-ltb a b (omega arith), ne_eqb a b (λ e. omega arith)) refl
-
-cmp_same : (a : ℕ) → nat_cmp a a ≡ Equal
-cmp_same a = tied_itself nat_cmp_total a
-
 -- the terms of a list that ascends compare as their places
 compared : (ts : List (List ℕ)) (i j : ℕ) → is_ascending ts ≡ true → i < length ts → j < length ts → slice_cmp nat_cmp (get_or ts i []) (get_or ts j []) ≡ nat_cmp i j
 compared ts i j up h k =
     elim (cases_order i j) [
-      | inl same ↦ ap (λ n. slice_cmp nat_cmp (get_or ts n []) (get_or ts j [])) same ∙ tied_itself nat_list_cmp_total (get_or ts j []) ∙ sym (cmp_same j) ∙ ap (λ n. nat_cmp n j) (sym same)
+      | inl same ↦ ap (λ n. slice_cmp nat_cmp (get_or ts n []) (get_or ts j [])) same ∙ tied_itself nat_list_cmp_total (get_or ts j []) ∙ sym (cmp_same j j refl) ∙ ap (λ n. nat_cmp n j) (sym same)
       | inr apart ↦ elim apart [
         | inl below ↦ pairwise ts i j up below k ∙ sym (cmp_less i j below)
         | inr above ↦ nat_list_cmp_total.antisymm (get_or ts i []) (get_or ts j []) ∙ ap ordering_reverse (pairwise ts j i up above h) ∙ sym (cmp_greater i j above)

@@ -1,5 +1,5 @@
 -- The bytes of a dictionary, and the terms in them. States docs/FORMAT.md, section 6.
-use Rattle.std.specs.Prelude.{◌≡◌, ℕ, zero, suc, ◌+◌, ◌*◌, ◌==◌, ◌&&◌, Bool, List, [], ◌∷◌, ◌++◌, length, sum, take, drop, flat_map, unwrap_or, Option, Some, None, true}
+use Rattle.std.specs.Prelude.{◌≡◌, ℕ, zero, suc, ◌+◌, ◌*◌, ◌^◌, ◌==◌, ◌&&◌, Bool, List, [], ◌∷◌, ◌++◌, length, sum, take, drop, flat_map, unwrap_or, Option, Some, None, true}
 use Rattle.std.specs.List.{concat}
 use Rattle.std.specs.Int.{w32, to_le_bytes, from_le_bytes}
 use Rattle.col_model.specs.Ascending.{is_before, is_ascending, is_never_falling, differences}
@@ -40,6 +40,12 @@ cut_whole ends text = is_never_falling ends && (sum (differences (0 ∷ ends)) =
 abbrev pub follows : Option (List ℕ) → List ℕ → Bool
 follows None t = true
 follows (Some last) t = is_before last t
+
+-- the number in the first n bytes, the highest byte first
+unfoldable pub highest_first : ℕ → List ℕ → ℕ
+highest_first zero bytes = 0
+highest_first (suc n) [] = 0
+highest_first (suc n) (b ∷ bytes) = b * 256 ^ n + highest_first n bytes
 
 -- where each term ends, if the first one starts at this place
 abbrev pub ends_from : ℕ → List (List ℕ) → List ℕ

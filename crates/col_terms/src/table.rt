@@ -1,13 +1,19 @@
 //! The bytes of a dictionary.
 ghost use Rattle.std.specs.Prelude.{◌≡◌, ◌+◌, ◌*◌, ◌<◌, ◌≤◌, Some, length, option_map, slice_get, IfOk, IfErr};
+ghost use Rattle.std.specs.Ordering.{nat_cmp};
+ghost use Rattle.std.specs.Cmp.Lexicographic.{slice_cmp};
+ghost use Rattle.col_common.specs.Reading.{IsBytes};
 ghost use Rattle.col_model.specs.Dictionary.{terms};
-ghost use Rattle.col_terms.specs.TermTable.{terms_of, IsTable, number_at, numbers_in, start_at, cut_whole, follows};
+ghost use Rattle.col_terms.specs.TermTable.{terms_of, IsTable, number_at, numbers_in, start_at, cut_whole, follows, highest_first};
 ghost use Rattle.col_terms.specs.Lookups.{IsAt, IsGapFor, IsFirstFrom, IsPrefixEnd};
 
 use std::cmp::Ordering;
 
 // How many bytes the count of terms takes, and the end of each.
 const NUMBER_NUM_BYTES: usize = 4;
+
+// How many bytes are compared at once.
+const HEAD_NUM_BYTES: usize = 8;
 
 /// The bytes of a dictionary without terms.
 pub static EMPTY_TABLE: [u8; NUMBER_NUM_BYTES] = [0; NUMBER_NUM_BYTES];
@@ -61,9 +67,34 @@ fn follows<'a>(last: Option<&'a [u8]>, term: &'a [u8]) -> bool
     ensures { result ≡ follows (option_map (λ t. t.now) last.entry) term.now }
 {
     match last {
-        Some(last) => last.cmp(&term).is_lt(),
+        Some(last) => compare(last, term).is_lt(),
         None => true,
     }
+}
+
+// The order of two terms. Where the first bytes differ as one number, that decides.
+#[inline]
+fn compare<'a>(left: &'a [u8], right: &'a [u8]) -> Ordering
+    ensures { result ≡ slice_cmp nat_cmp left.now right.now }
+{
+    if left.len() >= HEAD_NUM_BYTES && right.len() >= HEAD_NUM_BYTES {
+        let (left_head, right_head) = (head(left), head(right));
+        if left_head != right_head {
+            return left_head.cmp(&right_head);
+        }
+    }
+    left.cmp(&right)
+}
+
+// The first bytes as a number, the highest first.
+#[inline]
+fn head(bytes: &[u8]) -> u64
+    requires { HEAD_NUM_BYTES ≤ length bytes.now }
+    ensures number { result ≡ highest_first HEAD_NUM_BYTES bytes.now }
+    ensures bytes { IsBytes bytes.now }
+{
+    let b = bytes;
+    u64::from_be_bytes([b[0], b[1], b[2], b[3], b[4], b[5], b[6], b[7]])
 }
 
 // The number in four bytes, the lowest first.
@@ -111,7 +142,7 @@ pub fn search(bytes: &[u8], num_terms: u32, key: &[u8]) -> Result<u32, u32>
     let mut high = num_terms;
     while low < high {
         let middle = low + (high - low) / 2;
-        match term_in(bytes, num_terms, middle).cmp(&key) {
+        match compare(term_in(bytes, num_terms, middle), key) {
             Ordering::Less => low = middle + 1,
             Ordering::Equal => return Ok(middle),
             Ordering::Greater => high = middle,
