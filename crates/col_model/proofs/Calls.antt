@@ -9,13 +9,13 @@ use Rattle.col_model.specs.SortOrder.{sort_order}
 use Rattle.col_model.specs.Codes.{exact, next, after_last, code_hit, ranges_before}
 use Rattle.col_model.specs.AddressList.{AddressFooter, code_count, address_footer_at, address_footer, ranges_at, header_at}
 use Rattle.col_common.specs.VInt.{vint_bytes}
-use Rattle.col_model.specs.Index.{counts, multivalued_index_v1}
+use Rattle.col_model.specs.Index.{counts, offset_counts_v1}
 use Rattle.col_model.specs.Table.{full, multivalued}
 use Rattle.col_model.specs.Version.{version_of, version_bytes}
 use Rattle.col_model.specs.Images.{images64, is_image_of_bool, is_image_of_u32}
 use Rattle.col_model.specs.U64List.{bitpacked_bytes}
 use Rattle.col_model.specs.Outcome.{refused, number_word, gen_number, outcome_of_merge}
-use Rattle.col_model.specs.Positions.{value_positions, index_range, range_positions, row_at, rows_with_value, next_row}
+use Rattle.col_model.specs.Positions.{value_positions, index_range, range_positions, rows_at, starts_of, rows_with_value, next_row}
 use Rattle.col_model.specs.Order.{stack, shuffle, picks}
 use Rattle.col_model.specs.Ascending.{differences}
 
@@ -37,8 +37,12 @@ spaced = differences (0 ∷ 2 ∷ 2 ∷ 2 ∷ 2 ∷ 2 ∷ 2 ∷ 4 ∷ [])
 positions : map (value_positions spaced) (0 ∷ 5 ∷ 6 ∷ []) ≡ (0, 2) ∷ (2, 2) ∷ (2, 4) ∷ []
 positions = refl
 
-selected_rows : map (row_at (differences (0 ∷ 10 ∷ 12 ∷ 15 ∷ 22 ∷ 23 ∷ []))) (10 ∷ 11 ∷ 15 ∷ 20 ∷ 21 ∷ 22 ∷ []) ≡ Some 1 ∷ Some 1 ∷ Some 3 ∷ Some 3 ∷ Some 3 ∷ Some 4 ∷ []
+selected_rows : rows_at (differences (0 ∷ 10 ∷ 12 ∷ 15 ∷ 22 ∷ 23 ∷ [])) (10 ∷ 11 ∷ 15 ∷ 20 ∷ 21 ∷ 22 ∷ []) ≡ 1 ∷ 3 ∷ 4 ∷ []
 selected_rows = refl
+
+starts : starts_of (3 ∷ 0 ∷ 10 ∷ 20 ∷ []) ≡ 0 ∷ 3 ∷ 13 ∷ 33 ∷ []
+unfolding starts_of
+starts = refl
 
 with_values : rows_with_value (0 ∷ 2 ∷ 1 ∷ 0 ∷ []) ≡ 1 ∷ 2 ∷ []
 with_values = refl
@@ -139,7 +143,7 @@ unfolding col_model_on_literals
 other_version = refl
 
 -- rows of 2, 0 and 1 values
-old_index : multivalued_index_v1 (bitpacked_bytes (0 ∷ 2 ∷ 2 ∷ 3 ∷ [])) ≡ Some (3, record { cardinality = multivalued; of_rows = 2 ∷ 0 ∷ 1 ∷ [] })
+old_index : offset_counts_v1 (bitpacked_bytes (0 ∷ 2 ∷ 2 ∷ 3 ∷ [])) ≡ Some (2 ∷ 0 ∷ 1 ∷ [])
 unfolding col_model_on_literals
 old_index = refl
 

@@ -1,5 +1,5 @@
 -- How many values each row of a column has. States docs/FORMAT.md, sections 7 and 8.
-use Rattle.std.specs.Prelude.{ℕ, zero, suc, ◌+◌, ◌-◌, ◌^◌, ◌==◌, ◌&&◌, nat_lt, Bool, List, [], ◌∷◌, length, map, replicate, find, zip, unwrap_or, option_map, Option, Some, None}
+use Rattle.std.specs.Prelude.{ℕ, zero, suc, ◌+◌, ◌-◌, ◌^◌, ◌==◌, ◌&&◌, nat_lt, Bool, List, [], ◌∷◌, length, map, replicate, find, zip, unwrap_or, option_map, Option, Some, None, if◌then◌else◌}
 use Rattle.std.specs.Int.{w64}
 use Rattle.std.specs.List.{list_all, range_with_len, starts_with}
 use Rattle.std.specs.Bool.{nat_eq}
@@ -14,12 +14,19 @@ pub record Counts : Type 0 where
   pub cardinality : Cardinality
   pub of_rows : List ℕ
 
--- The row count, and the rows that have a value: they strictly rise and stay below the count.
-unfoldable pub rows_with_values : List ℕ → Option (ℕ × List ℕ)
-rows_with_values bytes = do
-  n ← vint bytes
-  rows ← values64 n.1
-  only_if (nat_lt n.0 (2 ^ 32) && is_rising rows && list_all (λ r. nat_lt r n.0) rows) (n.0, rows)
+-- how many rows there are, and those that have a value
+pub record RowSet : Type 0 where
+  pub num_rows : ℕ
+  pub rows : List ℕ
+
+-- rows with a value, where the values of each start, and where those of the last end
+pub record RowOffsets : Type 0 where
+  pub set : RowSet
+  pub starts : List ℕ
+
+-- The rows strictly rise and stay below the count.
+abbrev pub are_rows : RowSet → Bool
+are_rows s = is_rising s.rows && list_all (λ r. nat_lt r s.num_rows) s.rows
 
 -- the number beside a row in the list, or 0
 abbrev pub count_beside : List (ℕ × ℕ) → ℕ → ℕ
@@ -33,47 +40,76 @@ spread n rows counts = map (count_beside (zip rows counts)) (range_with_len 0 n)
 abbrev pub are_offsets : List ℕ → Bool
 are_offsets starts = starts_with nat_eq starts (0 ∷ []) && list_all (λ s. nat_lt s (2 ^ 32)) starts
 
--- Optional: the row count and the counts, from the row count and the rows with a value.
-unfoldable pub optional_index : List ℕ → Option (ℕ × Counts)
-optional_index bytes = do
-  p ← rows_with_values bytes
-  Some (p.0, record { cardinality = optional; of_rows = spread p.0 p.1 (replicate (length p.1) 1) })
+-- Start offsets that strictly rise, one more than rows with a value.
+abbrev pub are_starts : RowOffsets → Bool
+are_starts o = are_offsets o.starts && is_rising o.starts && (length o.starts == length o.set.rows + 1)
 
--- Multivalued: the row count and the counts, from the row count, the rows with a value, and start offsets that strictly rise, one more than these rows.
-unfoldable pub multivalued_index : List ℕ → Option (ℕ × Counts)
-multivalued_index bytes = do
+-- Optional: the row count, and the rows with a value.
+unfoldable pub row_set : List ℕ → Option RowSet
+row_set bytes = do
+  n ← vint bytes
+  rows ← values64 n.1
+  let set : RowSet = record { num_rows = n.0; rows = rows }
+  only_if (nat_lt n.0 (2 ^ 32) && are_rows set) set
+
+-- Multivalued: the row count, the rows with a value, and their start offsets.
+unfoldable pub row_offsets : List ℕ → Option RowOffsets
+row_offsets bytes = do
   parts ← parts_by_first w64 bytes
-  p ← rows_with_values parts.0
+  set ← row_set parts.0
   starts ← values64 parts.1
-  only_if (are_offsets starts && is_rising starts && (length starts == length p.1 + 1)) (p.0, record { cardinality = multivalued; of_rows = spread p.0 p.1 (differences starts) })
+  let offsets : RowOffsets = record { set = set; starts = starts }
+  only_if (are_starts offsets) offsets
 
--- Multivalued in version 1: the row count and the counts, from one start offset more than rows, which never fall.
-unfoldable pub multivalued_index_v1 : List ℕ → Option (ℕ × Counts)
-multivalued_index_v1 bytes = do
+-- one value in each of these rows, none in the others
+abbrev pub set_counts : RowSet → List ℕ
+set_counts s = spread s.num_rows s.rows (replicate (length s.rows) 1)
+
+-- in each of these rows as many values as its offsets are apart
+abbrev pub offset_counts : RowOffsets → List ℕ
+offset_counts o = spread o.set.num_rows o.set.rows (differences o.starts)
+
+-- Multivalued in version 1: one start offset more than rows, which never fall.
+unfoldable pub offset_counts_v1 : List ℕ → Option (List ℕ)
+offset_counts_v1 bytes = do
   starts ← values64 bytes
-  only_if (are_offsets starts && is_never_falling starts) (length starts - 1, record { cardinality = multivalued; of_rows = differences starts })
+  only_if (are_offsets starts && is_never_falling starts) (differences starts)
+
+-- How many values each row has: none in each of so many rows; one in each, however many there are; or the number for each.
+pub data Shape : Type 0 where
+  empty_shape : ℕ → Shape
+  full_shape : Shape
+  optional_shape : List ℕ → Shape
+  multivalued_shape : List ℕ → Shape
 
 -- how a version reads a Multivalued index, none for another version
-abbrev pub multivalued_in : ℕ → Option (List ℕ → Option (ℕ × Counts))
+abbrev pub multivalued_in : ℕ → Option (List ℕ → Option Shape)
 multivalued_in zero = None
-multivalued_in (suc zero) = Some multivalued_index_v1
-multivalued_in (suc (suc zero)) = Some multivalued_index
+multivalued_in (suc zero) = Some (λ bytes. option_map multivalued_shape (offset_counts_v1 bytes))
+multivalued_in (suc (suc zero)) = Some (λ bytes. option_map (λ o. multivalued_shape (offset_counts o)) (row_offsets bytes))
 multivalued_in (suc (suc (suc _))) = None
 
--- the counts, where the row count is the file's
-abbrev pub of_file : ℕ → ℕ × Counts → Option Counts
-of_file n p = only_if (p.0 == n) p.1
-
 -- by the cardinality; Full has no bytes
-abbrev pub counts_by : Cardinality → (List ℕ → Option (ℕ × Counts)) → ℕ → List ℕ → Option Counts
-counts_by full by_version n bytes = only_if (length bytes == 0) (record { cardinality = full; of_rows = replicate n 1 })
-counts_by optional by_version n bytes = optional_index bytes >>= of_file n
-counts_by multivalued by_version n bytes = by_version bytes >>= of_file n
+abbrev pub shape_by : Cardinality → (List ℕ → Option Shape) → List ℕ → Option Shape
+shape_by full by_version bytes = only_if (length bytes == 0) full_shape
+shape_by optional by_version bytes = option_map (λ s. optional_shape (set_counts s)) (row_set bytes)
+shape_by multivalued by_version bytes = by_version bytes
+
+-- The shape that the bytes stand for, in a file of this version.
+unfoldable pub shape : List ℕ → ℕ → Option Shape
+shape [] version = None
+shape (code ∷ bytes) version = do
+  by_version ← multivalued_in version
+  c ← cardinality_of_code code
+  shape_by c by_version bytes
+
+-- the cardinality and the counts of so many rows, where the shape has them
+abbrev pub counts_over : ℕ → Shape → Option Counts
+counts_over n (empty_shape m) = only_if (m == n) (record { cardinality = if n == 0 then full else optional; of_rows = replicate n 0 })
+counts_over n full_shape = Some (record { cardinality = full; of_rows = replicate n 1 })
+counts_over n (optional_shape cs) = only_if (length cs == n) (record { cardinality = optional; of_rows = cs })
+counts_over n (multivalued_shape cs) = only_if (length cs == n) (record { cardinality = multivalued; of_rows = cs })
 
 -- The counts that the bytes stand for, in a file of this version and row count.
 unfoldable pub counts : List ℕ → ℕ → ℕ → Option Counts
-counts [] version n = None
-counts (code ∷ bytes) version n = do
-  by_version ← multivalued_in version
-  c ← cardinality_of_code code
-  counts_by c by_version n bytes
+counts bytes version n = shape bytes version >>= counts_over n
