@@ -1,19 +1,16 @@
 -- Estimates of BlockwiseLinear, block by block.
-use Rattle.std.proofs.Common.{◌≡◌, ℕ, zero, suc, ◌+◌, ◌-◌, ◌*◌, ◌/◌, ◌%◌, ◌^◌, ◌<◌, ◌≤◌, inl, inr, List, [], ◌∷◌, ◌++◌, length, take, drop, map, sum, refl, sym, ◌∙◌, ap, arith, length-append, append_assoc, append-nil, length-take, length-drop}
+use Rattle.std.proofs.Common.{◌≡◌, ℕ, zero, suc, ◌+◌, ◌-◌, ◌*◌, ◌/◌, ◌^◌, ◌<◌, ◌≤◌, List, [], ◌∷◌, ◌++◌, length, take, drop, map, sum, refl, sym, ◌∙◌, ap, arith, length-append, length-take, length-drop}
 use Rattle.std.specs.Int.{div_ceil}
-use Rattle.std.proofs.lemmas.Bool.{cases_lt, lt-ltb, le-ltb}
-use Rattle.std.proofs.lemmas.List.{take_all, length-take-le, map-append, take-append-le, drop-append-le}
+use Rattle.std.proofs.lemmas.List.{take_all, map-append}
 use Rattle.std.proofs.lemmas.List.Sums.{sum_by_push, sum_by-cons}
 use Rattle.std.proofs.lemmas.Nat.{leading_length}
 use Rattle.std.proofs.Math.Nat.{mul-le-mul_left}
 use lib.Count.{count_leading_zeros}
-use Rattle.col_common.specs.VInt.{vint_bytes, group_bytes}
-use Rattle.col_bits.specs.Packed.{width, binary_digits}
 use Rattle.col_bits.proofs.WidthLemmas.{binary_digits-is}
 use Rattle.col_model.specs.Stats.{Stats, stats_of, stats_bytes, greatest_of}
 use Rattle.col_model.specs.Training.{line_of}
 use Rattle.col_model.specs.U64List.{Slope}
-use Rattle.col_model.specs.Codecs.{block_size, block_estimate, block_line, cut_blocks, blocks_of, block_count, line_len, packed_len, offsets_from, log2, blockwise_estimate, blockwise_body, blocks_bytes, steps_above}
+use Rattle.col_model.specs.Codecs.{block_size, block_estimate, block_line, cut_blocks, blocks_of, block_count, line_len, offsets_from, log2, blockwise_estimate, blockwise_body, blocks_bytes, steps_above}
 use Rattle.col_model.proofs.ReadingLaws.{drop-front}
 use Rattle.col_model.proofs.CutLaws.{block_at, cut_blocks-more, cut_blocks-append}
 use Rattle.col_values.proofs.LineLemmas.{vint_bytes-bound}

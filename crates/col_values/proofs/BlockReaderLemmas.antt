@@ -1,23 +1,21 @@
 -- Lists under BlockwiseLinear that are read in place.
-use Rattle.std.proofs.Common.{◌≡◌, ℕ, ◌+◌, ◌-◌, ◌*◌, ◌/◌, ◌%◌, ◌^◌, ◌<◌, ◌≤◌, ◌==◌, ◌&&◌, nat_le, Bool, true, false, List, ◌++◌, length, map, take, drop, get_or, slice_get, slice_index, Option, Some, None, refl, sym, ◌∙◌, ap, arith, subst, length-append, append-nil}
+use Rattle.std.proofs.Common.{◌≡◌, ℕ, ◌+◌, ◌-◌, ◌*◌, ◌/◌, ◌%◌, ◌^◌, ◌<◌, ◌≤◌, ◌==◌, ◌&&◌, nat_le, Bool, true, false, List, ◌++◌, length, map, take, drop, get_or, slice_get, Option, Some, None, refl, sym, ◌∙◌, ap, arith, subst}
 use Rattle.std.specs.Int.{w64, from_le_bytes, byte_len, div_ceil}
 use Rattle.std.specs.List.{range_with_len}
-use Rattle.std.proofs.lemmas.List.{get_or-map, length-map, take_all, drop_all, take-take, length-take-le, take-append-le}
+use Rattle.std.proofs.lemmas.List.{get_or-map, length-map, take-take, length-take-le}
 use Rattle.std.proofs.lemmas.List.FromFn.{length-map-range_with_len, get_or-map-range_with_len}
 use Rattle.std.proofs.lemmas.Option.{option_and_then_some, cond_some, slice_get-get_or}
-use Rattle.std.proofs.lemmas.Bool.{leb-true}
 use Rattle.col_common.specs.Reading.{◌>>=◌, only_if, back, items, nothing_left, parts_by_second}
 use Rattle.col_common.specs.Decoding.{Refuses}
 use Rattle.col_common.specs.declared.error.ColumnarError.{ColumnarError}
 use Rattle.col_common.specs.declared.error.ColumnarError.TheVariants.{OutOfMemory, InvalidData}
 use Rattle.col_model.specs.Stats.{Stats, stats_of, same_stats}
 use Rattle.col_model.specs.U64List.{Slope, slope_at}
-use Rattle.col_model.specs.Items.{linear_item, block_start, block_item, are_blocks, no_line, blockwise_item, blockwise_items}
+use Rattle.col_model.specs.Items.{linear_item, are_blocks, no_line, blockwise_item, blockwise_items}
 use Rattle.col_model.specs.Codecs.{block_count}
 use Rattle.col_model.proofs.ReadingLaws.{take-front}
 use Rattle.col_model.proofs.StatsLaws.{map-map}
 use Rattle.col_model.proofs.BlockItemLaws.{length-items, blockwise_values-some, blockwise_values-no_parts, blockwise_values-no_lines}
-use Rattle.col_model.proofs.BlockReadingLaws.{length-blockwise_items, blockwise_items-at}
 use Rattle.col_values.specs.declared.blockwise_linear.block.Block.{Block}
 use Rattle.col_values.specs.Header.{list_by}
 use Rattle.col_values.specs.Blocks.{block_slope, block_of, no_block, step_in, step_of, steps_in, item_of, items_in, lines_of, ArePlaced, IsReader}

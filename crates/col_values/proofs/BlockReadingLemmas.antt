@@ -1,19 +1,17 @@
 -- Blocks that are read from their lines, and placed one behind another.
-use Rattle.std.proofs.Common.{◌≡◌, ℕ, zero, suc, ◌+◌, ◌-◌, ◌*◌, ◌/◌, ◌^◌, ◌<◌, ◌≤◌, ◌==◌, ◌≢◌, nat_lt, Bool, inl, inr, true, false, List, [], ◌∷◌, ◌++◌, length, map, take, drop, slice_index_or, get_or, set, Option, Some, None, refl, sym, ◌∙◌, ap, arith, subst, append_assoc, append-nil, length-set}
-use Rattle.std.proofs.lemmas.Bool.{cases_lt, le-leb, eq-eqb, ne_eqb}
+use Rattle.std.proofs.Common.{◌≡◌, ℕ, zero, suc, ◌+◌, ◌-◌, ◌*◌, ◌/◌, ◌^◌, ◌<◌, ◌≤◌, ◌==◌, nat_lt, Bool, inl, inr, true, false, List, [], ◌∷◌, ◌++◌, length, map, Option, Some, None, refl, sym, ◌∙◌, ap, arith, append_assoc, append-nil}
+use Rattle.std.proofs.lemmas.Bool.{cases_lt}
 use Rattle.std.proofs.lemmas.Option.{option_and_then_some, cond_some, same_Some}
-use Rattle.std.proofs.lemmas.List.{get_or-map, map-append, get_or-set_same, get_or-set_other}
+use Rattle.std.proofs.lemmas.List.{map-append}
 use Rattle.col_common.specs.Reading.{◌>>=◌, only_if, nothing_left, items, byte_at}
 use Rattle.col_common.specs.VInt.{vint, groups}
 use Rattle.col_common.proofs.VIntLemmas.{groups-last, more-parts}
 use Rattle.col_bits.specs.Packed.{is_width}
 use Rattle.col_model.specs.Line.{line_at}
-use Rattle.col_model.specs.U64List.{Slope, slope_at, width_at, block_len}
-use Rattle.col_model.specs.Items.{is_packed, block_bytes, block_start, are_blocks, no_line}
-use Rattle.col_model.proofs.BlockReadingLaws.{IsAtBlock, at_block-first, at_block-more, at_block-short, at_block-spare, at_block-end}
+use Rattle.col_model.specs.U64List.{Slope, slope_at, width_at}
 use Rattle.col_values.specs.declared.blockwise_linear.block.Block.{Block}
 use Rattle.col_values.proofs.LinearReaderLemmas.{with_byte, with_line, with_intercept, with_slope, of_width}
-use Rattle.col_values.specs.Blocks.{block_slope, lines_of, block_of, no_block, ArePlaced}
+use Rattle.col_values.specs.Blocks.{block_slope, lines_of}
 
 -- ---- a line takes three bytes at least
 

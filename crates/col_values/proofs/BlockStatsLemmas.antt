@@ -1,6 +1,6 @@
 -- Statistics of a list in blocks, by the steps of its items.
-use Rattle.std.proofs.Common.{◌≡◌, ℕ, zero, suc, ◌+◌, ◌-◌, ◌*◌, ◌/◌, ◌%◌, ◌^◌, ◌<◌, ◌≤◌, ◌==◌, ◌≢◌, ◌&&◌, nat_le, nat_lt, inl, inr, Bool, true, false, List, [], ◌∷◌, ◌++◌, length, map, drop, get_or, Some, None, refl, sym, ◌∙◌, ap, arith, subst, lit<, mod-lt, length-append, append_assoc, append-nil, mul-le-mul_left, mod-eq_of_lt}
-use Rattle.std.specs.List.{AllByRecursion, list_all, range_with_len}
+use Rattle.std.proofs.Common.{◌≡◌, ℕ, ◌+◌, ◌-◌, ◌*◌, ◌/◌, ◌%◌, ◌^◌, ◌<◌, ◌≤◌, ◌==◌, ◌≢◌, ◌&&◌, nat_le, Bool, true, false, List, [], ◌∷◌, ◌++◌, length, map, drop, Some, None, refl, sym, ◌∙◌, ap, arith, subst, lit<, mod-lt, length-append, append_assoc, mul-le-mul_left, mod-eq_of_lt}
+use Rattle.std.specs.List.{AllByRecursion, list_all}
 use Rattle.std.specs.Int.{◌∣◌}
 use Rattle.std.proofs.lemmas.Bool.{and_parts, and_from, le-leb, lt-leb, eq-eqb, ne_eqb, leb-true, eqb-true}
 use Rattle.std.proofs.lemmas.Option.{same_Some}
@@ -10,7 +10,7 @@ use Rattle.std.proofs.Math.Nat.{mul-mod_right, mul-div_cancel', mul-div_cancel_l
 use Rattle.std.proofs.lemmas.Nat.Gcd.{dvd_of_mod-eq-zero, mod-eq-zero_of_dvd}
 use Rattle.col_common.specs.Reading.{only_if}
 use Rattle.col_model.specs.Stats.{Stats, stats_of, same_stats, steps_of}
-use Rattle.col_model.proofs.StatsLaws.{map-map, all_by, all_both, all_mapped, mapped_all}
+use Rattle.col_model.proofs.StatsLaws.{all_by, all_both, all_mapped}
 use Rattle.col_model.proofs.U64ListLaws.{Describes, stats_of-describes}
 use Rattle.col_model.proofs.ItemLaws.{length-linear_items, linear_items-at, linear_items-push}
 use Rattle.col_values.specs.declared.blockwise_linear.block.Block.{Block}

@@ -1,5 +1,5 @@
 -- The steps of a list in blocks, block by block.
-use Rattle.std.proofs.Common.{◌≡◌, ℕ, ◌+◌, ◌-◌, ◌*◌, ◌/◌, ◌%◌, ◌<◌, ◌≤◌, ◌&&◌, Bool, true, false, List, [], ◌++◌, length, map, take, drop, get_or, min, refl, sym, ◌∙◌, ap, arith, append_assoc, length-append}
+use Rattle.std.proofs.Common.{◌≡◌, ℕ, ◌+◌, ◌-◌, ◌*◌, ◌/◌, ◌%◌, ◌<◌, ◌≤◌, ◌&&◌, Bool, true, false, List, ◌++◌, length, map, take, drop, get_or, min, refl, sym, ◌∙◌, ap, arith}
 use Rattle.std.specs.List.{list_all, range_with_len}
 use Rattle.std.proofs.lemmas.Bool.{and_from}
 use Rattle.std.proofs.lemmas.List.{map-append, length-map, length-drop, get_or_default, take-append-drop, get_or-drop}
@@ -17,7 +17,7 @@ unfolding steps_in
 length-steps_in bs bytes n = length-map-range_with_len (step_of bs bytes) 0 n
 
 -- numbers from a on, in two parts
-range-split : (f : ℕ → ℕ) (a n m : ℕ) → map f (range_with_len a (n + m)) ≡ map f (range_with_len a n) ++ map f (range_with_len (a + n) m)
+pub range-split : (f : ℕ → ℕ) (a n m : ℕ) → map f (range_with_len a (n + m)) ≡ map f (range_with_len a n) ++ map f (range_with_len (a + n) m)
 range-split f a n m =
     let whole = map f (range_with_len a (n + m)) in
     let long : length (drop n whole) ≡ m = omega (arith, length-drop n whole, length-map-range_with_len f a (n + m)) in

@@ -4,6 +4,7 @@ pub mod BlockCollectedLemmas
 pub mod BlockEstimateLemmas
 pub mod BlockOffsetLemmas
 pub mod BlockPlacingLemmas
+pub mod BlockRangeLemmas
 pub mod BlockReaderLemmas
 pub mod BlockReadingLemmas
 pub mod BlockStatsLemmas

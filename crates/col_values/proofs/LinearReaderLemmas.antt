@@ -99,18 +99,21 @@ list_by-tested s bytes rest read l b test e same is t = list_by-line s bytes res
 
 -- ---- items
 
--- a part of the items
-pub linear_items-part : (l : LineAndWidth) (bytes : List ℕ) (n start m : ℕ) → start + m ≤ n → map (linear_item l bytes) (range_with_len start m) ≡ take m (drop start (linear_items l bytes n))
-linear_items-part l bytes n start m h =
-    let f = linear_item l bytes in
-    let whole = linear_items l bytes n in
+-- a part of what a function gives of the first numbers
+pub range-part : (f : ℕ → ℕ) (n start m : ℕ) → start + m ≤ n → map f (range_with_len start m) ≡ take m (drop start (map f (range_with_len 0 n)))
+range-part f n start m h =
+    let whole = map f (range_with_len 0 n) in
     let long : length (map f (range_with_len start m)) ≡ m = length-map-range_with_len f start m in
-    let part : length (take m (drop start whole)) ≡ m = omega (arith, length-take m (drop start whole), length-drop start whole, length-linear_items l bytes n, h) in
+    let part : length (take m (drop start whole)) ≡ m = omega (arith, length-take m (drop start whole), length-drop start whole, length-map-range_with_len f 0 n, h) in
     same_lists (map f (range_with_len start m)) (take m (drop start whole)) (long ∙ sym part)
     (λ k d w.
     let within : k < m = omega (arith, w, long) in
     get_or-map-range_with_len f start m k (start + k) d within refl
     ∙ sym (get_or-take m (drop start whole) k d within ∙ get_or-drop start whole k d ∙ get_or-map-range_with_len f 0 n (start + k) (start + k) d (omega (arith, within, h)) (omega arith)))
+
+-- a part of the items
+pub linear_items-part : (l : LineAndWidth) (bytes : List ℕ) (n start m : ℕ) → start + m ≤ n → map (linear_item l bytes) (range_with_len start m) ≡ take m (drop start (linear_items l bytes n))
+linear_items-part l bytes n start m h = range-part (linear_item l bytes) n start m h
 
 pub linear_items-get : (l : LineAndWidth) (bytes : List ℕ) (n i x : ℕ) → i < n → x ≡ linear_item l bytes i → slice_get (linear_items l bytes n) i ≡ Some x
 linear_items-get l bytes n i x h e =

@@ -1,5 +1,5 @@
 -- The statistics of a list whose items lie some steps above a number, and those of the steps.
-use Rattle.std.proofs.Common.{◌≡◌, ℕ, zero, suc, ◌+◌, ◌-◌, ◌*◌, ◌/◌, ◌<◌, ◌≤◌, ◌==◌, ◌&&◌, inl, inr, min, max, Bool, true, false, List, [], ◌∷◌, length, map, fold, refl, sym, ◌∙◌, ap, arith, subst, div-one, mul-le-mul_left, div-le_self}
+use Rattle.std.proofs.Common.{◌≡◌, ℕ, ◌+◌, ◌-◌, ◌*◌, ◌/◌, ◌<◌, ◌≤◌, ◌==◌, ◌&&◌, inl, inr, min, max, Bool, true, false, List, [], ◌∷◌, length, map, fold, refl, sym, ◌∙◌, ap, arith, subst, mul-le-mul_left, div-le_self}
 use Rattle.std.specs.List.{AllByRecursion}
 use Rattle.std.specs.Int.{◌∣◌}
 use Rattle.std.proofs.lemmas.List.{length-map}

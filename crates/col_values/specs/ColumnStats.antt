@@ -5,9 +5,11 @@ use Rattle.col_values.specs.declared.column_stats.ColumnStats.{ColumnStats}
 
 -- the statistics that are held
 abbrev pub stats_seen : ColumnStats → Stats
-stats_seen s = record { least = s.min_value; greatest = s.max_value; divisor = s.gcd; count = s.num_rows }
+stats_seen s =
+    record { least = s.min_value; greatest = s.max_value; divisor = s.gcd; count = s.num_rows }
 
--- Statistics that a list may have: the greatest value lies a whole count of divisors above the least, the divisor is 1 where the bounds are one, and without values both bounds are 0.
+-- Statistics that a list may have: the greatest value lies a whole count of divisors above the least,
+-- the divisor is 1 where the bounds are one, and without values both bounds are 0.
 pub record IsPossible (s : Stats) : Type 0 where
   pub ordered : s.least ≤ s.greatest
   pub positive : 0 < s.divisor
@@ -15,7 +17,8 @@ pub record IsPossible (s : Stats) : Type 0 where
   pub flat : s.greatest ≤ s.least → s.divisor ≡ 1
   pub empty : s.count ≡ 0 → s.greatest ≡ 0
 
--- what a collector holds: the bounds and the count of values, and the greatest common divisor of their differences from the least, 0 where all of them are 0
+-- what a collector holds: the bounds and the count of values, and the greatest common divisor of their
+-- differences from the least, 0 where all of them are 0
 pub record Collected : Type 0 where
   pub least : ℕ
   pub greatest : ℕ
@@ -24,4 +27,11 @@ pub record Collected : Type 0 where
 
 -- what it holds behind these values
 unfoldable pub collected_of : List ℕ → Collected
-collected_of xs = let low = least_of xs in record { least = low; greatest = greatest_of xs; divisor = gcd_of (map (λ x. x - low) xs); count = length xs }
+collected_of xs =
+    let low = least_of xs in
+    record {
+      least = low;
+      greatest = greatest_of xs;
+      divisor = gcd_of (map (λ x. x - low) xs);
+      count = length xs;
+    }

@@ -1,5 +1,5 @@
-//! Lists of u64 under the codec Bitpacked: steps from the least value, at the width of the greatest.
-ghost use Rattle.std.specs.Prelude.{◌≡◌, ◌<◌, ◌≤◌, ◌+◌, ◌*◌, ◌^◌, length, map};
+//! Lists of u64 under the codec Bitpacked: steps from the least value, at the greatest one's width.
+ghost use Rattle.std.specs.Prelude.{◌≡◌, ◌<◌, ◌≤◌, ◌+◌, ◌*◌, ◌^◌, length, map, IfOk, IfErr};
 ghost use Rattle.std.specs.List.{AllByRecursion};
 ghost use Rattle.col_common.specs.Decoding.{Decodes};
 ghost use Rattle.col_common.specs.Serializing.{Serializes};
@@ -69,6 +69,18 @@ impl BitpackedReader {
             stats,
         })
     }
+
+    /// The same list once more, which shares its bytes.
+    pub fn try_clone(&self) -> Result<BitpackedReader, ColumnarError>
+        ensures ok { IfOk result (λ r. r ≡ self.now) }
+        ensures err { IfErr result (λ e. e ≡ ColumnarError.OutOfMemory) }
+    {
+        Ok(BitpackedReader {
+            data: self.data.slice(..)?,
+            bit_unpacker: self.bit_unpacker,
+            stats: self.stats,
+        })
+    }
 }
 
 impl ColumnValues<u64> for BitpackedReader {
@@ -82,7 +94,7 @@ impl ColumnValues<u64> for BitpackedReader {
         self.stats.num_rows
     }
 
-    #[inline]
+    #[inline(always)]
     fn get_val(&self, idx: u32) -> u64 {
         let step = self.bit_unpacker.get(idx, self.data.as_slice());
         self.stats.min_value + self.stats.gcd * step
@@ -119,7 +131,8 @@ fn take_values(stats: &ColumnStats, steps: &mut [u64])
 fn are_stats_of(stats: &ColumnStats, bit_unpacker: BitUnpacker, bytes: &[u8]) -> bool
     requires possible { IsPossible (stats_seen stats.now) }
     requires width { bit_unpacker ≡ width (steps_of (stats_seen stats.now)) }
-    ensures { result ≡ same_stats (stats_of (bitpacked_items (stats_seen stats.now) bytes.now)) (stats_seen stats.now) }
+    ensures { result ≡ same_stats
+        (stats_of (bitpacked_items (stats_seen stats.now) bytes.now)) (stats_seen stats.now) }
 {
     let steps = stats.steps();
     if steps == 0 {
@@ -236,8 +249,8 @@ fn serialize_steps<I: Iterable<u64>, K: Sink>(
     requires width { num_bits ≤ 64 }
     requires positive { 0 < stats.now.gcd }
     requires fit { FitSteps (stats_seen stats.now) num_bits (I.items vals.now) }
-    ensures { Serializes (K.written sink.old) (K.written sink.new) (K.faults sink.old) (K.faults sink.new) result
-        (packed_bytes num_bits (steps_above (stats_seen stats.now) (I.items vals.now))) }
+    ensures { Serializes (K.written sink.old) (K.written sink.new) (K.faults sink.old) (K.faults sink.new)
+        result (packed_bytes num_bits (steps_above (stats_seen stats.now) (I.items vals.now))) }
 {
     let mut block = [0; BLOCK_SIZE];
     let mut packed = Vec::with_capacity(alloc, BLOCK_SIZE * WORD_BYTES)?;
@@ -257,8 +270,8 @@ fn serialize_blocks<I: Iterable<u64>, K: Sink>(
     requires positive { 0 < stats.now.gcd }
     requires fit { FitSteps (stats_seen stats.now) num_bits (I.items vals.now) }
     requires room { length block.old ≡ block_size }
-    ensures { Serializes (K.written sink.old) (K.written sink.new) (K.faults sink.old) (K.faults sink.new) result
-        (packed_bytes num_bits (steps_above (stats_seen stats.now) (I.items vals.now))) }
+    ensures { Serializes (K.written sink.old) (K.written sink.new) (K.faults sink.old) (K.faults sink.new)
+        result (packed_bytes num_bits (steps_above (stats_seen stats.now) (I.items vals.now))) }
 {
     let mut at = vals.walk();
     'values: loop {
@@ -281,8 +294,8 @@ fn serialize_block<K: Sink>(
     requires width { num_bits ≤ 64 }
     requires positive { 0 < stats.now.gcd }
     requires fit { FitSteps (stats_seen stats.now) num_bits vals.old }
-    ensures { Serializes (K.written sink.old) (K.written sink.new) (K.faults sink.old) (K.faults sink.new) result
-        (packed_bytes num_bits (steps_above (stats_seen stats.now) vals.old)) }
+    ensures { Serializes (K.written sink.old) (K.written sink.new) (K.faults sink.old) (K.faults sink.new)
+        result (packed_bytes num_bits (steps_above (stats_seen stats.now) vals.old)) }
 {
     take_steps(stats, vals);
     packed.clear();

@@ -9,7 +9,8 @@ ghost use Rattle.col_values.specs.ColumnStats.{stats_seen, IsPossible};
 
 use col_common::{ColumnarError, InvalidData, RowId, Sink, VInt, read_vint};
 
-/// The bounds and the count of values, and the greatest common divisor of their differences from the least.
+/// The bounds and the count of values, and the greatest common divisor of their differences from the
+/// least.
 #[derive(Clone, Copy, Debug, PartialEq, Eq)]
 pub struct ColumnStats {
     pub gcd: u64,
@@ -39,10 +40,13 @@ impl ColumnStats {
     /// Adds the least value, the divisor, the steps and the count.
     pub fn serialize<K: Sink>(&self, sink: &mut K) -> Result<(), ColumnarError>
         requires { IsPossible (stats_seen self.now) }
-        ensures ok { Serializes (K.written sink.old) (K.written sink.new) (K.faults sink.old) (K.faults sink.new)
+        ensures ok { Serializes
+            (K.written sink.old) (K.written sink.new) (K.faults sink.old) (K.faults sink.new)
             result (stats_bytes (stats_seen self.now)) }
         // What was added reads back, whatever follows.
-        ensures again { (rest : List ℕ) → stats_at (stats_bytes (stats_seen self.now) ++ rest) ≡ Some (stats_seen self.now, rest) }
+        ensures again { (rest : List ℕ) →
+            stats_at (stats_bytes (stats_seen self.now) ++ rest)
+            ≡ Some (stats_seen self.now, rest) }
     {
         let ColumnStats {
             gcd,
@@ -57,7 +61,8 @@ impl ColumnStats {
 
     /// Takes the statistics at the front.
     pub fn deserialize(data: &mut &[u8]) -> Result<ColumnStats, InvalidData>
-        ensures taken { TakesFront (λ s. stats_seen s) result (stats_at «data».old.now) «data».old.now «data».new.now }
+        ensures taken { TakesFront (λ s. stats_seen s) result
+            (stats_at «data».old.now) «data».old.now «data».new.now }
         ensures possible { IfOk result (λ s. IsPossible (stats_seen s)) }
     {
         match ColumnStats::read(data) {
@@ -96,8 +101,13 @@ impl ColumnStats {
 
     // The statistics with these parts, where they may be those of a list.
     fn possible(min_value: u64, gcd: u64, steps: u64, count: u64) -> Option<ColumnStats>
-        ensures { option_map (λ s. stats_seen s) result ≡ only_if (are_possible min_value gcd steps count)
-            (record { least = min_value; greatest = min_value + gcd * steps; divisor = gcd; count = count }) }
+        ensures { option_map (λ s. stats_seen s) result ≡
+            only_if (are_possible min_value gcd steps count) (record {
+              least = min_value;
+              greatest = min_value + gcd * steps;
+              divisor = gcd;
+              count = count;
+            }) }
     {
         let num_rows = u32::try_from(count).ok()?;
         let max_value = min_value.checked_add(gcd.checked_mul(steps)?)?;

@@ -29,10 +29,11 @@ pub use estimator::Estimator;
 pub use laws::count_items;
 pub use line::Line;
 pub use linear::{LinearCodec, LinearCodecEstimator, LinearReader};
-pub use num_values::{NumValues, NumView, load_u64_based_column_values};
+pub use num_values::{NumValues, NumView, load_u64_based_column_values, load_u64_values};
 pub use positions::Positions;
 pub use serialize::{
-    serialize_and_load_u64_based_column_values, serialize_u64_based_column_values,
+    serialize_and_load_u64_based_column_values, serialize_and_load_u64_values,
+    serialize_estimated_values, serialize_u64_based_column_values,
 };
 pub use stats_collector::{StatsCollector, compute_gcd};
 pub use u64_values::U64Values;

@@ -48,7 +48,7 @@ impl<T: MonotonicallyMappableToU64 + Default> ColumnValues<T> for NumValues<T> {
         }
     }
 
-    #[inline]
+    #[inline(always)]
     fn get_val(&self, idx: u32) -> T {
         match self {
             NumValues::Read(values) => values.get_val(idx),
@@ -132,6 +132,18 @@ fn codec_of(bytes: &[u8]) -> Option<CodecType>
         return None;
     };
     CodecType::try_from_code(*code)
+}
+
+/// Reads a list of numbers, under any codec.
+pub fn load_u64_values(alloc: Global, bytes: Bytes) -> Result<U64Values, ColumnarError>
+    ensures { Decodes list_of result (values64 bytes) }
+{
+    let Some(codec) = codec_of(bytes.as_slice()) else {
+        return Err(ColumnarError::InvalidData);
+    };
+    let mut behind = bytes;
+    behind.advance(1);
+    codec.load_u64(alloc, behind)
 }
 
 /// Reads a list of values of a type, under any codec.

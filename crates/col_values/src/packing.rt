@@ -59,7 +59,8 @@ pub fn pack_block(vals: &[u64], num_bits: u8, output: &mut Vec<u8>) -> Result<()
     packer.close(output)
 }
 
-/// Takes the next values of a walk, as many as there are and the block has room for, and says how many.
+/// Takes the next values of a walk, as many as there are and the block has room for, and says how
+/// many.
 pub fn take_block<I: Iterable<u64>>(vals: &I, at: &mut Walk, block: &mut [u64]) -> usize
     requires { I.stands vals.now at.old }
     ensures stands { I.stands vals.now at.new }

@@ -3,20 +3,21 @@ ghost use Rattle.std.specs.Prelude.{◌≡◌, ◌≤◌, ◌<◌, ◌^◌, ℕ,
 ghost use Rattle.std.specs.List.{AllByRecursion};
 ghost use Rattle.col_common.specs.Decoding.{Decodes};
 ghost use Rattle.col_values.specs.NumValues.{num_values_of, images_of};
+ghost use Rattle.col_values.specs.Readers.{list_of};
 ghost use Rattle.col_common.specs.Serializing.{Serializes, Stopped};
 ghost use Rattle.col_model.specs.Stats.{stats_of};
 ghost use Rattle.col_model.specs.U64List.{values64};
 ghost use Rattle.col_model.specs.Codecs.{chosen_codec, codec_bytes, estimate};
 ghost use Rattle.col_values.specs.ColumnStats.{stats_seen};
 ghost use Rattle.col_values.specs.CodecTypes.{code_of};
-ghost use Rattle.col_values.specs.Written.{list_refusal, AppendsList, HasBest};
+ghost use Rattle.col_values.specs.Written.{done, list_refusal, AppendsList, HasBest};
 ghost use Rattle.col_values.specs.Estimators.{estimator_code, HasFinalized};
 ghost use Rattle.col_common.specs.declared.error.ColumnarError.TheVariants as refusals;
 
 use crate::buffer::Buffer;
 use crate::{
-    CodecType, ColumnCodecEstimator, ColumnStats, Estimator, NumValues, StatsCollector,
-    load_u64_based_column_values,
+    CodecType, ColumnCodecEstimator, ColumnStats, Estimator, NumValues, StatsCollector, U64Values,
+    load_u64_based_column_values, load_u64_values,
 };
 use bytes::Bytes;
 use col_common::{ColumnarError, Iterable, Sink, Walk, serialize_bytes};
@@ -151,6 +152,32 @@ where
     ensures refused { IfSome (list_refusal (map T.code (I.items vals.now)) (map code_of codec_types.now))
         (Stopped sink.old sink.new result) }
 {
+    serialize_estimated_values(alloc, vals, codec_types, sink)?;
+    Ok(())
+}
+
+/// Does the same, and tells the estimate.
+pub fn serialize_estimated_values<T, I, K>(
+    alloc: Global,
+    vals: &I,
+    codec_types: &[CodecType],
+    sink: &mut K,
+) -> Result<u64, ColumnarError>
+where
+    T: MonotonicallyMappableToU64,
+    I: Iterable<T>,
+    K: Sink,
+    ensures list { OnOk result (AppendsList (K.written sink.old) (K.written sink.new) (map T.code (I.items vals.now))) }
+    ensures ok { IfSome (chosen_codec (map T.code (I.items vals.now)) (map code_of codec_types.now)) (λ codec.
+        length (I.items vals.now) < 2 ^ 32 →
+        Serializes (K.written sink.old) (K.written sink.new) (K.faults sink.old) (K.faults sink.new)
+        (done result) (codec_bytes codec (map T.code (I.items vals.now)))) }
+    ensures estimate { IfOk result (λ n. IfSome
+        (chosen_codec (map T.code (I.items vals.now)) (map code_of codec_types.now))
+        (λ codec. estimate (map T.code (I.items vals.now)) codec ≡ Some n)) }
+    ensures refused { IfSome (list_refusal (map T.code (I.items vals.now)) (map code_of codec_types.now))
+        (Stopped sink.old sink.new (done result)) }
+{
     if codec_types.is_empty() {
         return Err(ColumnarError::NoCodec);
     }
@@ -165,7 +192,27 @@ where
         return Err(ColumnarError::NoCodec);
     };
     serialize_bytes(sink, &[chosen.estimator.to_code()])?;
-    chosen.estimator.serialize(alloc, &stats, &numbers, sink)
+    chosen.estimator.serialize(alloc, &stats, &numbers, sink)?;
+    Ok(chosen.num_bytes)
+}
+
+/// Writes a list of numbers, and reads it back.
+pub fn serialize_and_load_u64_values<T, I>(
+    alloc: Global,
+    vals: &I,
+    codec_types: &[CodecType],
+) -> Result<U64Values, ColumnarError>
+where
+    T: MonotonicallyMappableToU64,
+    I: Iterable<T>,
+    ensures ok { IfNone (list_refusal (map T.code (I.items vals.now)) (map code_of codec_types.now))
+        (Decodes list_of result (Some (map T.code (I.items vals.now)))) }
+    ensures refused { IfSome (list_refusal (map T.code (I.items vals.now)) (map code_of codec_types.now)) (λ e.
+        (result ≡ Err e) ⊎ (result ≡ Err refusals.OutOfMemory)) }
+{
+    let mut buffer = Buffer::new(alloc);
+    serialize_u64_based_column_values(alloc, vals, codec_types, &mut buffer)?;
+    load_u64_values(alloc, Bytes::from_vec(buffer.into_vec())?)
 }
 
 /// Writes a list of numbers, and reads it as values of a type, each of which must be one.

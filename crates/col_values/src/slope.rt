@@ -1,5 +1,5 @@
 //! A line, and the width of the offsets from it.
-ghost use Rattle.std.specs.Prelude.{◌≡◌, ◌+◌, ◌≤◌, option_map, length, IfSome, IsTrue};
+ghost use Rattle.std.specs.Prelude.{◌≡◌, option_map, IfSome, IsTrue};
 ghost use Rattle.col_common.specs.Serializing.{Serializes};
 ghost use Rattle.col_bits.specs.Packed.{is_width};
 ghost use Rattle.col_model.specs.U64List.{slope_at};

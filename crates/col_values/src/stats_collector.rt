@@ -46,9 +46,19 @@ pub struct StatsCollector {
 impl Model for StatsCollector {
     ghost Value = { Collected };
 
-    ghost view = { λ c. record { least = c.min_value; greatest = c.max_value; divisor = c.increment_gcd; count = c.num_rows } };
+    ghost view = { λ c. record {
+      least = c.min_value;
+      greatest = c.max_value;
+      divisor = c.increment_gcd;
+      count = c.num_rows;
+    } };
 
-    ghost inverse = { λ c. record { min_value = c.least; max_value = c.greatest; increment_gcd = c.divisor; num_rows = c.count } };
+    ghost inverse = { λ c. record {
+      min_value = c.least;
+      max_value = c.greatest;
+      increment_gcd = c.divisor;
+      num_rows = c.count;
+    } };
 }
 
 impl Default for StatsCollector {
@@ -71,7 +81,8 @@ impl StatsCollector {
     #[inline]
     pub fn collect(&mut self, value: u64)
         requires { self.old.count + 1 < 2 ^ 32 }
-        ensures { (xs : List ℕ) → self.old ≡ collected_of xs → self.new ≡ collected_of (xs ++ value ∷ []) }
+        ensures { (xs : List ℕ) → self.old ≡ collected_of xs →
+            self.new ≡ collected_of (xs ++ value ∷ []) }
     {
         if self.num_rows == 0 {
             self.min_value = value;
@@ -98,7 +109,8 @@ impl StatsCollector {
     pub fn widen(&mut self, value: u64)
         requires room { self.old.count + 1 < 2 ^ 32 }
         requires finest { self.old.divisor ≡ 1 }
-        ensures more { (xs : List ℕ) → self.old ≡ collected_of xs → self.new ≡ collected_of (xs ++ value ∷ []) }
+        ensures more { (xs : List ℕ) → self.old ≡ collected_of xs →
+            self.new ≡ collected_of (xs ++ value ∷ []) }
         ensures finest { self.new.divisor ≡ 1 }
     {
         self.min_value = self.min_value.min(value);

@@ -1,10 +1,11 @@
 //! A list of u64 under any codec.
-ghost use Rattle.std.specs.Prelude.{◌≡◌};
+ghost use Rattle.std.specs.Prelude.{◌≡◌, IfOk, IfErr};
 ghost use Rattle.col_model.specs.Stats.{least_of, greatest_of};
 
 use crate::{BitpackedReader, BlockwiseLinearReader, LinearReader};
 use col_common::{ColumnarError, RowId};
 use col_views::ColumnValues;
+use std::alloc::Global;
 use std::ops::Range;
 
 /// A list of u64 under any codec, read in place.
@@ -13,6 +14,24 @@ pub enum U64Values {
     Bitpacked(BitpackedReader),
     Linear(LinearReader),
     BlockwiseLinear(BlockwiseLinearReader),
+}
+
+impl U64Values {
+    ghost use Rattle.col_values.specs.Readers.{list_of};
+
+    /// The same list once more, which shares its bytes.
+    pub fn try_clone(&self, alloc: Global) -> Result<U64Values, ColumnarError>
+        ensures ok { IfOk result (λ r. list_of r ≡ list_of self.now) }
+        ensures err { IfErr result (λ e. e ≡ ColumnarError.OutOfMemory) }
+    {
+        match self {
+            U64Values::Bitpacked(values) => Ok(U64Values::Bitpacked(values.try_clone()?)),
+            U64Values::Linear(values) => Ok(U64Values::Linear(values.try_clone()?)),
+            U64Values::BlockwiseLinear(values) => {
+                Ok(U64Values::BlockwiseLinear(values.try_clone(alloc)?))
+            }
+        }
+    }
 }
 
 impl ColumnValues<u64> for U64Values {
@@ -32,7 +51,7 @@ impl ColumnValues<u64> for U64Values {
         }
     }
 
-    #[inline]
+    #[inline(always)]
     fn get_val(&self, idx: u32) -> u64 {
         match self {
             U64Values::Bitpacked(values) => values.get_val(idx),

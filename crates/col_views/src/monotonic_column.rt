@@ -98,6 +98,7 @@ where
         self.values.num_vals()
     }
 
+    #[inline(always)]
     fn get_val(&self, idx: u32) -> Internal {
         self.mapping.mapping(self.values.get_val(idx))
     }

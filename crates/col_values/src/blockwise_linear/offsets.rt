@@ -1,5 +1,5 @@
 //! A block's offsets from the line that is trained on it.
-ghost use Rattle.std.specs.Prelude.{◌≡◌, ◌<◌, ◌≤◌, ◌^◌, length};
+ghost use Rattle.std.specs.Prelude.{◌≡◌, ◌<◌, ◌≤◌, length};
 ghost use Rattle.col_model.specs.Stats.{greatest_of};
 ghost use Rattle.col_model.specs.Codecs.{offsets_from, block_line, block_size};
 ghost use Rattle.col_values.specs.Slope.{slope_of, slope_seen};

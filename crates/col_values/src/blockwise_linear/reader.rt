@@ -1,9 +1,11 @@
 //! Lists in blocks, read in place.
-ghost use Rattle.std.specs.Prelude.{take, IfOk};
+ghost use Rattle.std.specs.Prelude.{◌≡◌, ◌≤◌, ◌+◌, ◌*◌, ◌%◌, ◌^◌, map, length, take, IfOk, IfErr};
+ghost use Rattle.std.specs.List.{range_with_len};
 ghost use Rattle.col_common.specs.Decoding.{Decodes};
 ghost use Rattle.col_values.specs.ColumnStats.{stats_seen, IsPossible};
 ghost use Rattle.col_values.specs.Header.{list_by};
-ghost use Rattle.col_values.specs.Blocks.{items_in, IsReader};
+ghost use Rattle.col_model.specs.Codecs.{block_size, block_count};
+ghost use Rattle.col_values.specs.Blocks.{item_of, items_in, step_in, step_of, AreWithin, IsReader};
 
 use super::BLOCK_LEN;
 use super::block::{Block, place_blocks, read_blocks, split_lines};
@@ -52,6 +54,18 @@ impl BlockwiseLinearReader {
             data,
             blocks,
             stats,
+        })
+    }
+
+    /// The same list once more, which shares its bytes.
+    pub fn try_clone(&self, alloc: Global) -> Result<BlockwiseLinearReader, ColumnarError>
+        ensures ok { IfOk result (λ r. r ≡ self.now) }
+        ensures err { IfErr result (λ e. e ≡ ColumnarError.OutOfMemory) }
+    {
+        Ok(BlockwiseLinearReader {
+            data: self.data.slice(..)?,
+            blocks: self.blocks.to_vec(alloc)?,
+            stats: self.stats,
         })
     }
 }
@@ -113,5 +127,50 @@ impl ColumnValues<u64> for BlockwiseLinearReader {
 
     fn max_value(&self) -> u64 {
         self.stats.max_value
+    }
+
+    fn get_range(&self, start: u64, output: &mut [u64]) {
+        let _count = self.stats.num_rows;
+        read_items(
+            &self.stats,
+            &self.blocks,
+            start as u32,
+            self.data.as_slice(),
+            output,
+        );
+    }
+}
+
+// Reads the items from an index on, block by block.
+fn read_items(stats: &ColumnStats, blocks: &[Block], start: u32, bytes: &[u8], output: &mut [u64])
+    requires count { length blocks.now ≡ block_count stats.now.num_rows }
+    requires within { AreWithin blocks.now bytes.now }
+    requires range { start + length output.old ≤ stats.now.num_rows }
+    ensures { output.new
+        ≡ map (λ i. item_of (stats_seen stats.now) (step_of blocks.now bytes.now i))
+        (range_with_len start (length output.old)) }
+{
+    let mut filled = 0;
+    while filled < output.len() {
+        let idx = start + filled as u32;
+        let place = idx % BLOCK_LEN;
+        let len = (output.len() - filled).min((BLOCK_LEN - place) as usize);
+        let block = blocks[(idx / BLOCK_LEN) as usize];
+        let part = &mut output[filled..filled + len];
+        read_part(stats.min_value, stats.gcd, block, place, bytes, part);
+        filled += len;
+    }
+}
+
+// Reads a block's items from a place on.
+fn read_part(least: u64, divisor: u64, block: Block, place: u32, bytes: &[u8], output: &mut [u64])
+    requires start { block.start ≤ length bytes.now }
+    requires place { place + length output.old ≤ block_size }
+    ensures { output.new ≡ map (λ i. (least + divisor * step_in block bytes.now i) % 2 ^ 64)
+        (range_with_len place (length output.old)) }
+{
+    for at in 0..output.len() {
+        let step = block.step_at(place + at as u32, bytes);
+        output[at] = least.wrapping_add(divisor.wrapping_mul(step));
     }
 }

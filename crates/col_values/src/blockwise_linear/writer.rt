@@ -1,5 +1,5 @@
 //! Writes lists in blocks, each with a line of its own.
-ghost use Rattle.std.specs.Prelude.{◌≡◌, ◌<◌, ◌≤◌, ◌^◌, ◌++◌, [], length, map, OnOk};
+ghost use Rattle.std.specs.Prelude.{◌≡◌, ◌++◌, [], length, map, OnOk};
 ghost use Rattle.std.specs.Int.{w64, to_le_bytes};
 ghost use Rattle.col_common.specs.Serializing.{Serializes};
 ghost use Rattle.col_model.specs.Stats.{stats_of};

@@ -1,5 +1,5 @@
 //! Lists under Linear, read in place.
-ghost use Rattle.std.specs.Prelude.{◌≡◌, ◌≤◌, ◌+◌, ◌*◌, ◌^◌, ◌&&◌, length, drop, map, option_map, IfSome, IsTrue};
+ghost use Rattle.std.specs.Prelude.{◌≡◌, ◌≤◌, ◌+◌, ◌*◌, ◌^◌, ◌&&◌, length, drop, map, option_map, IfSome, IfOk, IfErr, IsTrue};
 ghost use Rattle.std.specs.List.{range_with_len};
 ghost use Rattle.col_common.specs.Decoding.{Decodes};
 ghost use Rattle.col_bits.specs.Packed.{is_width};
@@ -64,6 +64,19 @@ impl LinearReader {
             stats,
         })
     }
+
+    /// The same list once more, which shares its bytes.
+    pub fn try_clone(&self) -> Result<LinearReader, ColumnarError>
+        ensures ok { IfOk result (λ r. r ≡ self.now) }
+        ensures err { IfErr result (λ e. e ≡ ColumnarError.OutOfMemory) }
+    {
+        Ok(LinearReader {
+            data: self.data.slice(..)?,
+            line: self.line,
+            bit_unpacker: self.bit_unpacker,
+            stats: self.stats,
+        })
+    }
 }
 
 impl ColumnValues<u64> for LinearReader {
@@ -81,7 +94,7 @@ impl ColumnValues<u64> for LinearReader {
         self.stats.num_rows
     }
 
-    #[inline]
+    #[inline(always)]
     fn get_val(&self, idx: u32) -> u64 {
         item_at(self.line, self.bit_unpacker, idx, self.data.as_slice())
     }

@@ -61,7 +61,7 @@ fn read(alloc: Global, bytes: &[u8]) -> Result<BlockwiseLinearReader, ColumnarEr
     BlockwiseLinearCodec::load(alloc, Bytes::copy_from_slice(alloc, bytes)?)
 }
 
-// Writes a list, and reads each value.
+// Writes a list, and reads each value, and some of two blocks.
 fn reads_back(rt: &impl Abort, alloc: Global, vals: &[u64], what: &str) -> Result<(), Fail>
     requires { length vals.now < 2 ^ 32 }
 {
@@ -69,6 +69,11 @@ fn reads_back(rt: &impl Abort, alloc: Global, vals: &[u64], what: &str) -> Resul
     assert_eq!(rt; reader.num_vals() as usize, vals.len(), "{what}");
     for (row, val) in vals.iter().enumerate() {
         assert_eq!(rt; reader.get_val(row as u32), *val, "{what} in row {row}");
+    }
+    if vals.len() > 513 {
+        let mut part = [0; 4];
+        reader.get_range(510, &mut part);
+        assert_eq!(rt; part.as_slice(), &vals[510..514], "{what} in two blocks");
     }
     Ok(())
 }

@@ -1,4 +1,4 @@
-use Rattle.std.proofs.Common.{◌≡◌, ◌∙◌, sym, ap, ℕ}
+use Rattle.std.proofs.Common.{◌∙◌, sym, ap, ℕ}
 use Rattle.col_model.specs.Stats.{Stats, same_stats, stats_of}
 use Rattle.col_bits.specs.Packed.{items}
 use Rattle.col_values.specs.ColumnStats.{stats_seen}

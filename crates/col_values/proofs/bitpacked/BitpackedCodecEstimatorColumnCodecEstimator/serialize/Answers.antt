@@ -3,7 +3,7 @@ use Rattle.col_common.proofs.SerializingLemmas.{serializes-then}
 use Rattle.col_bits.specs.Packed.{packed_bytes, width}
 use Rattle.col_model.specs.Stats.{steps_of, stats_bytes}
 use Rattle.col_model.specs.Codecs.{steps_above}
-use Rattle.col_values.specs.ColumnStats.{stats_seen, IsPossible}
+use Rattle.col_values.specs.ColumnStats.{stats_seen}
 use Rattle.col_values.specs.Bitpacked.{FitSteps}
 use Rattle.col_values.proofs.StatsLemmas.{serializes_as}
 use Rattle.col_values.proofs.BitpackedWritingLemmas.{FitSteps-stats_of, body-bytes}

@@ -1,5 +1,4 @@
 use Rattle.std.proofs.Common.{◌≡◌, ◌*◌, ℕ, List, Bool, true, false, ap, sym, ◌∙◌, arith}
-use Rattle.col_common.specs.Reading.{only_if}
 use Rattle.col_bits.specs.Packed.{width}
 use Rattle.col_model.specs.Stats.{Stats, same_stats, stats_of, steps_of}
 use Rattle.col_model.specs.Items.{is_packed}

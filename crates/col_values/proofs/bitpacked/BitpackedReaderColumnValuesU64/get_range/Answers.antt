@@ -1,4 +1,4 @@
-use Rattle.std.proofs.Common.{◌≡◌, ◌+◌, ◌*◌, ◌≤◌, length, map, ap, ◌∙◌, arith}
+use Rattle.std.proofs.Common.{◌+◌, ◌*◌, ◌≤◌, length, map, ap, ◌∙◌, arith}
 use Rattle.col_values.specs.ColumnStats.{stats_seen}
 use Rattle.col_values.proofs.BitpackedLemmas.{length-bitpacked_items, part-fits, part-read}
 use Rattle.col_values.proofs.bitpacked.BitpackedReaderColumnValuesU64.get_range.Goals as goal

@@ -1,4 +1,4 @@
-use Rattle.std.proofs.Common.{◌≡◌, ap, sym, ◌∙◌}
+use Rattle.std.proofs.Common.{ap, sym, ◌∙◌}
 use Rattle.col_model.specs.Stats.{least_of}
 use Rattle.col_values.proofs.BoundsLemmas.{stats_of-least, least-below}
 use Rattle.col_values.proofs.bitpacked.BitpackedReaderColumnValuesU64.min_value.Goals as goal

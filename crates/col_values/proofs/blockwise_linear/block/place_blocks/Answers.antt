@@ -1,4 +1,4 @@
-use Rattle.std.proofs.Common.{true, false, arith, refl, map}
+use Rattle.std.proofs.Common.{arith, refl, map}
 use Rattle.col_model.proofs.BlockReadingLaws.{at_block-first}
 use Rattle.std.proofs.lemmas.List.{length-map}
 use Rattle.col_values.specs.Blocks.{block_slope}

@@ -1,4 +1,4 @@
-use Rattle.std.proofs.Common.{◌+◌, ◌-◌, ◌%◌, ◌^◌, slice_index_or, slice_set, ap, arith}
+use Rattle.std.proofs.Common.{◌+◌, ◌-◌, ◌%◌, ◌^◌, slice_index_or, ap, arith}
 use Rattle.col_values.specs.Slope.{slope_of}
 use Rattle.col_values.proofs.BlockOffsetLemmas.{AreOffsets-push}
 use Rattle.col_values.proofs.blockwise_linear.offsets.take_offsets.Goals as goal

@@ -1,4 +1,4 @@
-use Rattle.std.proofs.Common.{◌≡◌, ◌++◌, ◌-◌, ◌∙◌, sym, ap, refl, arith, length, map, true, false, ℕ}
+use Rattle.std.proofs.Common.{◌≡◌, ◌++◌, ◌-◌, ◌∙◌, sym, ap, refl, arith, map, false, ℕ}
 use Rattle.std.specs.List.{list_all}
 use Rattle.col_model.specs.Stats.{Stats, same_stats, stats_of}
 use Rattle.col_values.specs.declared.blockwise_linear.block.Block.{Block}

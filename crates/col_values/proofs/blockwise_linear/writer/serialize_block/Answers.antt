@@ -1,6 +1,5 @@
-use Rattle.std.proofs.Common.{◌∙◌, ap}
 use Rattle.col_values.specs.Slope.{slope_seen}
-use Rattle.col_values.proofs.BlockWritingLemmas.{IsTrained, trained-width, trained-small}
+use Rattle.col_values.proofs.BlockWritingLemmas.{trained-width, trained-small}
 use Rattle.col_values.proofs.blockwise_linear.writer.serialize_block.Goals as goal
 
 pub pack_block-requires-clause-width : goal.pack_block-requires-clause-width

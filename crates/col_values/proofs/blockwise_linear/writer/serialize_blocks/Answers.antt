@@ -1,8 +1,6 @@
-use Rattle.std.proofs.Common.{ap, ◌++◌, ◌∙◌, length}
-use Rattle.std.specs.Int.{w64, to_le_bytes}
+use Rattle.std.proofs.Common.{◌∙◌}
 use Rattle.col_common.proofs.SerializingLemmas.{serializes-then}
-use Rattle.col_model.specs.U64List.{joined_lists}
-use Rattle.col_model.specs.Codecs.{blocks_bytes, packed_block, blocks_of, steps_above}
+use Rattle.col_model.specs.Codecs.{blocks_of, steps_above}
 use Rattle.col_values.specs.ColumnStats.{stats_seen}
 use Rattle.col_values.proofs.StatsLemmas.{serializes_as}
 use Rattle.col_values.proofs.BlockWritingLemmas.{blocks_bytes-parts}

@@ -1,4 +1,4 @@
-use Rattle.std.proofs.Common.{◌≤◌, ◌∙◌, arith, ap, ℕ, length, ◌≡◌}
+use Rattle.std.proofs.Common.{◌≤◌, arith, ℕ, length, ◌≡◌}
 use Rattle.col_common.specs.VInt.{vint_bytes}
 use Rattle.col_values.proofs.LineLemmas.{vint_bytes-bound}
 use Rattle.col_values.proofs.column_stats.ColumnStats.num_bytes.Goals as goal

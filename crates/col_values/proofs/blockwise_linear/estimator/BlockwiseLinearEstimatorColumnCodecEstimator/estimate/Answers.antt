@@ -1,5 +1,4 @@
-use Rattle.std.proofs.Common.{◌≤◌, ◌+◌, ◌*◌, ◌/◌, ◌^◌, ◌∙◌, ap, Some, arith, sum, map}
-use Rattle.col_model.specs.Codecs.{block_estimate, blocks_of}
+use Rattle.std.proofs.Common.{◌∙◌, ap, Some, arith}
 use Rattle.col_values.specs.ColumnStats.{stats_seen}
 use Rattle.col_values.proofs.EstimateLemmas.{stats_bytes-bound}
 use Rattle.col_values.proofs.PossibleLemmas.{IsPossible-stats_of}

@@ -1,6 +1,5 @@
 use Rattle.std.proofs.Common.{sym, ap, ◌∙◌}
-use Rattle.col_model.specs.Stats.{Stats, stats_of, least_of}
-use Rattle.col_values.specs.ColumnStats.{stats_seen}
+use Rattle.col_model.specs.Stats.{Stats, stats_of}
 use Rattle.col_values.proofs.BoundsLemmas.{stats_of-least, least-below}
 use Rattle.col_values.proofs.blockwise_linear.reader.BlockwiseLinearReaderColumnValuesU64.min_value.Goals as goal
 

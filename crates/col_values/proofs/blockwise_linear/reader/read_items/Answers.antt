@@ -1,0 +1,27 @@
+use Rattle.std.proofs.Common.{◌+◌, ◌/◌, ◌∙◌, ◌≤◌, ◌≡◌, length, arith}
+use Rattle.col_values.specs.ColumnStats.{stats_seen}
+use Rattle.col_values.proofs.BlockStepsLemmas.{block-found}
+use Rattle.col_values.proofs.BlockRangeLemmas.{room-kept, range-more, range-read}
+use Rattle.col_values.proofs.blockwise_linear.reader.read_items.Goals as goal
+
+pub loop-filled-preserved : goal.loop-filled-preserved
+loop-filled-preserved c =
+    let filled = c.loop-filled.filled in
+    let output = c.loop-filled.output in
+    let len = c.min-len.result in
+    let idx = c.args.start + filled in
+    let b = c.index-blocks-idx.result in
+    let part = c.read_part.new.output in
+    let room : filled + len ≤ length output = omega (arith, c.min-len.ensures) in
+    let long : length part ≡ len = omega (arith, c.read_part.auto.output) in
+    let kept = room-kept filled len output part room long in
+    record {
+      room = kept ∙ c.loop-filled.invariant.room;
+      within = omega (arith, room, kept);
+      held =
+          range-more (stats_seen c.args.stats.now) c.args.blocks.now c.args.bytes.now b c.args.start filled len _ output part room (omega (arith, c.min-len.ensures))
+          (block-found c.args.blocks.now (idx / 512) b (omega arith) c.index-blocks-idx.is) long c.read_part.auto.output c.read_part.ensures c.loop-filled.invariant.held;
+    }
+
+pub returns : goal.returns
+returns c = range-read (stats_seen c.args.stats.now) c.args.blocks.now c.args.bytes.now c.args.start c.loop-filled.filled (length c.args.output.now) c.loop-filled.output c.loop-filled.invariant.room (omega (arith, c.loop-filled.invariant.within, c.loop-filled.invariant.room)) c.loop-filled.invariant.held
