@@ -1,0 +1,119 @@
+-- Parts of the bytes of indexes.
+use Rattle.std.proofs.Common.{◌≡◌, ℕ, ◌+◌, ◌-◌, ◌^◌, ◌≤◌, ◌&&◌, nat_le, nat_lt, Bool, List, ◌++◌, length, take, drop, Option, Some, None, refl, sym, ◌∙◌, ap, subst, arith, length-append, true, false}
+use Rattle.std.specs.Int.{w64, from_le_bytes}
+use Rattle.std.proofs.lemmas.Bool.{lt-ltb}
+use Rattle.std.proofs.lemmas.List.{take-append-drop}
+use Rattle.std.proofs.lemmas.Option.{option_and_then_some, cond_some}
+use Rattle.std.proofs.Math.Seq.{take-append_seam, drop-append_seam}
+use Rattle.col_common.specs.Reading.{◌>>=◌, IsBytes, only_if, front, back, parts_by_first}
+use Rattle.col_common.specs.VInt.{vint, vint_bytes}
+use Rattle.col_common.proofs.VIntLemmas.{vint_bytes-vint}
+use Rattle.col_model.specs.Index.{RowSet, row_set, row_offsets}
+use Rattle.col_model.specs.U64List.{values64}
+use Rattle.col_values.proofs.BlockStatsLemmas.{only_if-none}
+use Rattle.col_index.specs.Sets.{is_row_list, set_by}
+use Rattle.col_index.specs.Offsets.{offsets_by}
+use Rattle.col_index.specs.Opening.{row_count}
+
+-- what stands behind a number ends with the bytes
+pub vint-behind : (bytes rest : List ℕ) (n : ℕ) → IsBytes bytes → vint bytes ≡ Some (n, rest) → (length rest ≤ length bytes) × (drop (length bytes - length rest) bytes ≡ rest)
+vint-behind bytes rest n b e =
+    let spelled : bytes ≡ vint_bytes n ++ rest = vint_bytes-vint bytes n rest b e in
+    let long : length bytes ≡ length (vint_bytes n) + length rest = ap length spelled ∙ length-append (vint_bytes n) rest in
+    let start : length bytes - length rest ≡ length (vint_bytes n) = omega (arith, long) in
+    (omega (arith, long), ap (λ k. drop k bytes) start ∙ ap (drop (length (vint_bytes n))) spelled ∙ drop-append_seam (vint_bytes n) rest)
+
+-- a row count that fits 32 bits
+pub row_count-fits : (bytes rest : List ℕ) (n : ℕ) → n ≤ 4294967295 → vint bytes ≡ Some (n, rest) → Some (n, rest) ≡ row_count bytes
+row_count-fits bytes rest n h e = rw (e, lt-ltb n (2 ^ 32) (omega arith)) refl
+
+-- what is cut in two is joined again
+front-joined : (n : ℕ) (xs a b : List ℕ) → front n xs ≡ Some (a, b) → xs ≡ a ++ b
+front-joined n xs a b e =
+    let cut = (cond_some (nat_le n (length xs)) (take n xs, drop n xs) (a, b) e).1 in
+    sym (take-append-drop n xs) ∙ ap (λ p. p.0 ++ p.1) cut
+
+back-joined : (n : ℕ) (xs a b : List ℕ) → back n xs ≡ Some (a, b) → xs ≡ a ++ b
+back-joined n xs a b e =
+    let at = length xs - n in
+    let cut = (cond_some (nat_le n (length xs)) (take at xs, drop at xs) (a, b) e).1 in
+    sym (take-append-drop at xs) ∙ ap (λ p. p.0 ++ p.1) cut
+
+-- two parts stand one behind the other, and before the length of the first
+pub parts-in_front : (bytes a b : List ℕ) → parts_by_first w64 bytes ≡ Some (a, b) → (length : List ℕ) × (bytes ≡ (a ++ b) ++ length)
+unfolding parts_by_first
+parts-in_front bytes a b e =
+    option_and_then_some (λ p. front (from_le_bytes w64 p.1) p.0) (back 8 bytes) (a, b) e (λ p f g.
+    (p.1, back-joined 8 bytes p.0 p.1 f ∙ ap (λ both. both ++ p.1) (front-joined (from_le_bytes w64 p.1) p.0 a b g)))
+
+-- where two parts end
+pub parts-end : (bytes a b : List ℕ) → parts_by_first w64 bytes ≡ Some (a, b) → length a + length b ≤ length bytes
+parts-end bytes a b e =
+    let found = parts-in_front bytes a b e in
+    let long : length bytes ≡ length ((a ++ b) ++ found.0) = ap length found.1 in
+    omega (arith, long, length-append (a ++ b) found.0, length-append a b)
+
+-- two parts as cuts of the bytes
+pub parts-cut : (bytes a b : List ℕ) → parts_by_first w64 bytes ≡ Some (a, b) → Some (take (length a) (take (length a + length b) bytes), drop (length a) (take (length a + length b) bytes)) ≡ parts_by_first w64 bytes
+parts-cut bytes a b e =
+    let found = parts-in_front bytes a b e in
+    let both : take (length a + length b) bytes ≡ a ++ b =
+    ap (λ n. take n bytes) (sym (length-append a b)) ∙ ap (take (length (a ++ b))) found.1 ∙ take-append_seam (a ++ b) found.0 in
+    rw (both, take-append_seam a b, drop-append_seam a b) (sym e)
+
+-- the rows, where their count passed the test and they are a set
+abbrev tested : Bool → ℕ → List ℕ → Option RowSet
+tested fits n rows = only_if (fits && is_row_list n rows) (record { num_rows = n; rows = rows })
+
+-- the rows behind their count
+row_set-counted : (bytes rest : List ℕ) (n : ℕ) → Some (n, rest) ≡ row_count bytes → row_set bytes ≡ (values64 rest >>= set_by n)
+unfolding row_set
+row_set-counted bytes rest n e =
+    option_and_then_some (λ p. only_if (nat_lt p.0 (2 ^ 32)) p) (vint bytes) (n, rest) (sym e) (λ x o f.
+    let parts = cond_some (nat_lt x.0 (2 ^ 32)) x (n, rest) f in
+    let read : vint bytes ≡ Some (n, rest) = o ∙ ap Some parts.1 in
+    let fits : nat_lt n (2 ^ 32) ≡ true = subst (λ q. nat_lt q.0 (2 ^ 32) ≡ true) parts.1 parts.0 in
+    rw read (ap (λ t. values64 rest >>= tested t n) fits))
+
+-- no rows without a count
+pub row_set-uncounted : (bytes : List ℕ) → None ≡ row_count bytes → row_set bytes ≡ None
+unfolding row_set
+row_set-uncounted bytes e = at (vint bytes) e
+  where
+    past : (n : ℕ) (values : Option (List ℕ)) → (values >>= tested false n) ≡ None
+    past n None = refl
+    past n (Some rows) = refl
+
+    at : (o : Option (ℕ × List ℕ)) → None ≡ (o >>= λ p. only_if (nat_lt p.0 (2 ^ 32)) p) → (o >>= λ p. values64 p.1 >>= tested (nat_lt p.0 (2 ^ 32)) p.0) ≡ None
+    at None f = refl
+    at (Some p) f = ap (λ t. values64 p.1 >>= tested t p.0) (only_if-none (nat_lt p.0 (2 ^ 32)) p f) ∙ past p.0 (values64 p.1)
+
+-- rows that aren't read
+pub row_set-unread : (bytes rest : List ℕ) (n : ℕ) → Some (n, rest) ≡ row_count bytes → values64 rest ≡ None → row_set bytes ≡ None
+row_set-unread bytes rest n e f = row_set-counted bytes rest n e ∙ ap (λ values. values >>= set_by n) f
+
+-- rows that are read
+pub row_set-read : (bytes rest rows : List ℕ) (n : ℕ) → Some (n, rest) ≡ row_count bytes → values64 rest ≡ Some rows → row_set bytes ≡ set_by n rows
+row_set-read bytes rest rows n e f = row_set-counted bytes rest n e ∙ ap (λ values. values >>= set_by n) f
+
+-- the offsets behind their rows
+pub row_offsets-parted : (bytes a b : List ℕ) → parts_by_first w64 bytes ≡ Some (a, b) → row_offsets bytes ≡ (row_set a >>= λ set. values64 b >>= offsets_by set)
+unfolding row_offsets
+row_offsets-parted bytes a b e = rw e refl
+
+pub row_offsets-unparted : (bytes : List ℕ) → parts_by_first w64 bytes ≡ None → row_offsets bytes ≡ None
+unfolding row_offsets
+row_offsets-unparted bytes e = rw e refl
+
+-- no set, and no offsets
+pub row_offsets-unset : (bytes a b : List ℕ) → parts_by_first w64 bytes ≡ Some (a, b) → row_set a ≡ None → row_offsets bytes ≡ None
+row_offsets-unset bytes a b e f = row_offsets-parted bytes a b e ∙ ap (λ s. s >>= λ set. values64 b >>= offsets_by set) f
+
+pub row_offsets-unread : (bytes a b : List ℕ) (set : RowSet) → parts_by_first w64 bytes ≡ Some (a, b) → row_set a ≡ Some set → values64 b ≡ None → row_offsets bytes ≡ None
+row_offsets-unread bytes a b set e f g =
+    row_offsets-parted bytes a b e ∙ ap (λ s. s >>= λ set. values64 b >>= offsets_by set) f ∙ ap (λ values. values >>= offsets_by set) g
+
+-- a set and offsets that are read
+pub row_offsets-read : (bytes a b starts : List ℕ) (set : RowSet) → parts_by_first w64 bytes ≡ Some (a, b) → row_set a ≡ Some set → values64 b ≡ Some starts → row_offsets bytes ≡ offsets_by set starts
+row_offsets-read bytes a b starts set e f g =
+    row_offsets-parted bytes a b e ∙ ap (λ s. s >>= λ set. values64 b >>= offsets_by set) f ∙ ap (λ values. values >>= offsets_by set) g

@@ -1,0 +1,76 @@
+-- Items that are appended to a list as far as memory reaches.
+use Rattle.std.proofs.Common.{◌≡◌, ℕ, ◌+◌, ◌-◌, ◌<◌, ◌≤◌, List, [], ◌∷◌, ◌++◌, length, map, flat_map, take, get_or, Result, Ok, Err, IfErr, IsErrAnd, sym, ap, ◌∙◌, append_assoc, append-nil, arith}
+use Rattle.std.proofs.lemmas.List.{map-append, take_more, flat_map_more}
+use Rattle.col_common.specs.declared.error.ColumnarError.{ColumnarError}
+use Rattle.col_common.specs.declared.error.ColumnarError.TheVariants as refusals
+use Rattle.col_model.specs.Index.{multivalued_shape}
+use Rattle.col_model.specs.Positions.{values_in}
+use Rattle.col_index.specs.Offsets.{run, docs_of, positions_of, positions_of_rows, row_positions}
+use Rattle.col_index.specs.Sets.{BeginsWith}
+use Rattle.col_index.proofs.ValueLemmas.{run-more}
+
+-- ---- what a refusal leaves
+
+-- the list as it was
+pub begins-same : (new found front more : List ℕ) → new ≡ found → found ≡ front ++ more → BeginsWith new front
+begins-same new found front more n e = (more, n ∙ e)
+
+-- and with items behind it
+pub begins-more : (new found front more later : List ℕ) → new ≡ found ++ later → found ≡ front ++ more → BeginsWith new front
+begins-more new found front more later n e = (more ++ later, n ∙ ap (λ xs. xs ++ later) e ∙ append_assoc front more later)
+
+-- want of memory, and two facts
+pub out_of_memory : {T : Type 0} (r : Result T ColumnarError) (P Q : Type 0) → IsErrAnd r (λ e. e ≡ refusals.OutOfMemory) → P → Q → IfErr r (λ e. (e ≡ refusals.OutOfMemory) × P × Q)
+out_of_memory (Ok v) P Q h p q = tt
+out_of_memory (Err e) P Q h p q = (h, p, q)
+
+-- the same of a refusal that is passed on
+pub passed_on : {T : Type 0} (r : Result T ColumnarError) (x : ColumnarError) (P Q : Type 0) → IsErrAnd r (λ e. e ≡ x) → x ≡ refusals.OutOfMemory → P → Q → IfErr r (λ e. (e ≡ refusals.OutOfMemory) × P × Q)
+passed_on (Ok v) x P Q h o p q = tt
+passed_on (Err e) x P Q h o p q = (h ∙ o, p, q)
+
+-- ---- a run, one position after another
+
+module _ (front found new : List ℕ) (doc start position : ℕ) (h : start ≤ position) where
+  one_more : run doc start (position + 1 - start) ≡ run doc start (position - start) ++ (doc, position) ∷ []
+  one_more = ap (run doc start) up ∙ run-more doc start (position - start) position (omega arith)
+    where
+      up : position + 1 - start ≡ position - start + 1
+      up = omega arith
+
+  -- the row once more
+  pub docs-more : found ≡ front ++ docs_of (run doc start (position - start)) → new ≡ found ++ doc ∷ [] → new ≡ front ++ docs_of (run doc start (position + 1 - start))
+  docs-more e n =
+      n ∙ ap (λ xs. xs ++ doc ∷ []) e ∙ append_assoc front (docs_of (run doc start (position - start))) (doc ∷ [])
+      ∙ ap (λ xs. front ++ xs) (sym (ap docs_of one_more ∙ map-append (λ (p : ℕ × ℕ). p.0) (run doc start (position - start)) ((doc, position) ∷ [])))
+
+  -- the next position
+  pub positions-more : found ≡ front ++ positions_of (run doc start (position - start)) → new ≡ found ++ position ∷ [] → new ≡ front ++ positions_of (run doc start (position + 1 - start))
+  positions-more e n =
+      n ∙ ap (λ xs. xs ++ position ∷ []) e ∙ append_assoc front (positions_of (run doc start (position - start))) (position ∷ [])
+      ∙ ap (λ xs. front ++ xs) (sym (ap positions_of one_more ∙ map-append (λ (p : ℕ × ℕ). p.1) (run doc start (position - start)) ((doc, position) ∷ [])))
+
+-- ---- the values of rows, one row after another
+
+-- one row more
+visited-more : (counts docs : List ℕ) (i : ℕ) → i < length docs → row_positions counts (take (i + 1) docs) ≡ row_positions counts (take i docs) ++ values_in (multivalued_shape counts) (get_or docs i 0)
+unfolding positions_of_rows
+visited-more counts docs i h =
+    ap (flat_map (values_in (multivalued_shape counts))) (take_more docs i 0 h)
+    ∙ sym (flat_map_more (values_in (multivalued_shape counts)) [] (take i docs) (get_or docs i 0))
+
+-- of each value one part, its row or its position
+pub visited : (part : ℕ × ℕ → ℕ) (counts docs front found new : List ℕ) (i : ℕ) → i < length docs → found ≡ front ++ map part (row_positions counts (take i docs)) → new ≡ found ++ map part (values_in (multivalued_shape counts) (get_or docs i 0)) → new ≡ front ++ map part (row_positions counts (take (i + 1) docs))
+visited part counts docs front found new i h e n =
+    n ∙ ap (λ xs. xs ++ map part (values_in (multivalued_shape counts) (get_or docs i 0))) e
+    ∙ append_assoc front (map part (row_positions counts (take i docs))) (map part (values_in (multivalued_shape counts) (get_or docs i 0)))
+    ∙ ap (λ xs. front ++ xs) (sym (ap (map part) (visited-more counts docs i h) ∙ map-append part (row_positions counts (take i docs)) (values_in (multivalued_shape counts) (get_or docs i 0))))
+
+-- a row without values
+pub visited-free : (part : ℕ × ℕ → ℕ) (counts docs front found : List ℕ) (i : ℕ) → i < length docs → values_in (multivalued_shape counts) (get_or docs i 0) ≡ [] → found ≡ front ++ map part (row_positions counts (take i docs)) → found ≡ front ++ map part (row_positions counts (take (i + 1) docs))
+visited-free part counts docs front found i h none e = visited part counts docs front found found i h e (sym (ap (λ vs. found ++ map part vs) none ∙ append-nil found))
+
+-- the first row
+pub visited-none : (part : ℕ × ℕ → ℕ) (counts front : List ℕ) → front ≡ front ++ map part (row_positions counts [])
+unfolding positions_of_rows
+visited-none part counts front = sym (append-nil front)

@@ -1,0 +1,104 @@
+-- Rows that have a value, by their ranks and one after another.
+use Rattle.std.proofs.Common.{◌≡◌, ℕ, suc, ◌+◌, ◌-◌, ◌^◌, ◌<◌, ◌≤◌, ◌&&◌, Bool, true, false, nat_eq, nat_lt, nat_le, List, [], ◌∷◌, ◌++◌, length, drop, slice_get, slice_index_or, Some, refl, sym, ap, ◌∙◌, inl, inr, arith}
+use Rattle.std.specs.List.{list_all}
+use Rattle.std.proofs.lemmas.Bool.{and_parts, lt-ltb, le-ltb, le-leb, lt-leb, ltb-true, eq-eqb, ne_eqb, cases_lt, cases_order}
+use Rattle.std.proofs.lemmas.Bool.Decides.{nat_tests}
+use Rattle.std.proofs.lemmas.List.{append_assoc, get_or_past, drop_more}
+use Rattle.std.proofs.lemmas.Option.{get_or_from_slice_get, slice_get_within, slice_get-get_or}
+use Rattle.col_model.specs.Ascending.{is_rising}
+use Rattle.col_model.specs.Index.{RowSet}
+use Rattle.col_model.specs.Positions.{rank}
+use Rattle.col_index.specs.Sets.{AreRows, holds, is_row_list, BeginsWith}
+use Rattle.col_index.proofs.RankLaws.{tail_rises}
+use Rattle.col_index.proofs.CountLaws.{rows_below}
+use Rattle.col_index.proofs.RangeLemmas.{past-free, other-free, same-held}
+use Rattle.col_index.proofs.StartLemmas.{passes_at}
+
+-- ---- rows
+
+-- a row is below its count
+pub row_below : (s : RowSet) (k row : ℕ) → AreRows s → slice_get s.rows k ≡ Some row → row < s.num_rows
+row_below s k row a read =
+    let within = slice_get_within s.rows k row read in
+    let same = get_or_from_slice_get s.rows k row 0 read in
+    let below = ltb-true _ _ (passes_at (λ r. nat_lt r s.num_rows) s.rows k (rows_below s a) within) in
+    omega (arith, below, same)
+
+-- there are no more of them than from the first up to the count
+room : (n x : ℕ) (xs : List ℕ) → is_rising (x ∷ xs) ≡ true → list_all (λ r. nat_lt r n) (x ∷ xs) ≡ true → x + suc (length xs) ≤ n
+room n x [] e b =
+    let first : x < n = ltb-true x n (and_parts _ _ b).0 in
+    omega arith
+room n x (y ∷ ys) e b =
+    let first : x < y = ltb-true x y (and_parts (nat_lt x y) (is_rising (y ∷ ys)) e).0 in
+    let rest = room n y ys (tail_rises x (y ∷ ys) e) (and_parts (nat_lt x n) (list_all (λ r. nat_lt r n) (y ∷ ys)) b).1 in
+    omega arith
+
+pub few_rows : (n : ℕ) (rows : List ℕ) → is_row_list n rows ≡ true → length rows ≤ n
+few_rows n [] e = omega arith
+few_rows n (x ∷ xs) e =
+    let parts = and_parts (is_rising (x ∷ xs)) (list_all (λ r. nat_lt r n) (x ∷ xs)) e in
+    let fits = room n x xs parts.0 parts.1 in
+    omega arith
+
+-- ---- whether a row is in
+
+-- the row with the rank is compared
+pub holds_compared : (xs : List ℕ) (row k number : ℕ) → is_rising xs ≡ true → k ≡ rank xs row → slice_get xs k ≡ Some number → nat_eq number row ≡ holds xs row
+holds_compared xs row k number e ranked read = elim (cases_order number row) [
+  | inl same ↦ eq-eqb number row same ∙ sym (same-held xs row number k e ranked read same)
+  | inr (inl below) ↦ ne_eqb number row (λ s. omega arith) ∙ sym (other-free xs row number k e ranked read (λ s. omega arith))
+  | inr (inr above) ↦ ne_eqb number row (λ s. omega arith) ∙ sym (other-free xs row number k e ranked read (λ s. omega arith))
+]
+
+-- the row of a place is compared with the number there
+pub holds_place : (xs : List ℕ) (at next row : ℕ) → is_rising xs ≡ true → at ≡ rank xs row → next ≡ slice_index_or xs at (2 ^ 64 - 1) → row < 2 ^ 32 → nat_eq next row ≡ holds xs row
+holds_place xs at next row e ranked first h = elim (cases_lt at (length xs)) [
+  | inl inside ↦ holds_compared xs row at next e ranked (slice_get-get_or xs at (2 ^ 64 - 1) inside ∙ ap Some (sym first))
+  | inr past ↦
+      let last = get_or_past xs at (2 ^ 64 - 1) past in
+      ne_eqb next row (λ equal. omega (arith, first, last, equal)) ∙ sym (past-free xs row e (omega arith))
+]
+
+-- ---- the test of rows, one after another
+
+-- of the rows behind those below the next that may come
+abbrev pub rest_rises : ℕ → ℕ → List ℕ → Bool
+rest_rises n next [] = true
+rest_rises n next (row ∷ rows) = nat_le next row && nat_lt row n && rest_rises n (row + 1) rows
+
+rearranged : (a b c d l r : Bool) → (b && (d && l)) ≡ (d && r) → (a && b && (c && (d && l))) ≡ (c && (a && d && r))
+rearranged a b c d l r h = grind arith
+
+rises_from : (n row : ℕ) (rows : List ℕ) → (is_rising (row ∷ rows) && list_all (λ r. nat_lt r n) (row ∷ rows)) ≡ (nat_lt row n && rest_rises n (row + 1) rows)
+rises_from n row [] = refl
+rises_from n row (next ∷ rows) =
+    let above : nat_lt row next ≡ nat_le (row + 1) next = grind (arith, nat_tests) in
+    let rest = rearranged (nat_lt row next) (is_rising (next ∷ rows)) (nat_lt row n) (nat_lt next n) (list_all (λ r. nat_lt r n) rows) (rest_rises n (next + 1) rows) (rises_from n next rows) in
+    rest ∙ ap (λ b. nat_lt row n && (b && nat_lt next n && rest_rises n (next + 1) rows)) above
+
+pub rises_first : (n : ℕ) (rows : List ℕ) → is_row_list n rows ≡ rest_rises n 0 rows
+rises_first n [] = refl
+rises_first n (row ∷ rows) = rises_from n row rows ∙ ap (λ b. b && nat_lt row n && rest_rises n (row + 1) rows) (sym (le-leb 0 row (omega arith)))
+
+-- one more row
+module _ (n next : ℕ) (rows : List ℕ) (at row : ℕ) (read : slice_get rows at ≡ Some row) where
+  behind : rest_rises n next (drop at rows) ≡ (nat_le next row && nat_lt row n && rest_rises n (row + 1) (drop (at + 1) rows))
+  behind =
+      let within = slice_get_within rows at row read in
+      let same = get_or_from_slice_get rows at row 0 read in
+      ap (rest_rises n next) (drop_more rows at 0 within ∙ ap (λ x. x ∷ drop (at + 1) rows) same)
+
+  pub rises_fallen : row < next → rest_rises n next (drop at rows) ≡ false
+  rises_fallen h = rw (behind, lt-leb next row h) refl
+
+  pub rises_large : n ≤ row → rest_rises n next (drop at rows) ≡ false
+  rises_large h = rw (behind, le-ltb row n h) grind arith
+
+  pub rises_more : next ≤ row → row < n → rest_rises n next (drop at rows) ≡ rest_rises n (row + 1) (drop (at + 1) rows)
+  rises_more h k = rw (behind, le-leb next row h, lt-ltb row n k) refl
+
+-- ---- lists that were added to
+
+pub begins_later : (xs ys front more : List ℕ) → xs ≡ front ++ more → BeginsWith ys xs → BeginsWith ys front
+begins_later xs ys front more e b = (more ++ b.0, b.1 ∙ ap (λ l. l ++ b.0) e ∙ append_assoc front more b.0)

@@ -1,0 +1,44 @@
+-- A turn of the walk over positions, by its places among the start offsets.
+use Rattle.std.proofs.Common.{◌≡◌, ℕ, ◌+◌, ◌-◌, ◌<◌, ◌≤◌, true, false, List, [], ◌∷◌, ◌++◌, length, take, get_or, slice_get, Some, sum, refl, sym, ap, ◌∙◌, arith}
+use Rattle.std.proofs.lemmas.Option.{get_or_from_slice_get}
+use Rattle.col_model.specs.Ascending.{is_rising}
+use Rattle.col_model.specs.Index.{RowOffsets, offset_counts}
+use Rattle.col_model.specs.Positions.{rank, rows_at}
+use Rattle.col_views.specs.Values.{AreBelow}
+use Rattle.col_index.specs.declared.search.Place.{Place}
+use Rattle.col_index.specs.Offsets.{AreOffsets}
+use Rattle.col_index.specs.Places.{IsPlace}
+use Rattle.col_index.proofs.InRowLemmas.{some-started, end-unstarted}
+use Rattle.col_index.proofs.RowsAtLemmas.{filter-none, after, select-same, select-next}
+
+-- no position
+pub rows_at-none : (counts : List ℕ) → rows_at counts [] ≡ []
+rows_at-none counts = filter-none (λ row. false) 0 (length counts) (λ row h. refl)
+
+module _ (o : RowOffsets) (a : AreOffsets o) (ps : List ℕ) (at : ℕ) (e : is_rising ps ≡ true) (within : at < length ps) (below : AreBelow ps (sum (offset_counts o))) where
+  module _ (next : Place) (q : IsPlace o.starts next) (t : next.target ≡ get_or ps at 0 + 1) where
+    ranked : next.at ≡ rank o.starts (get_or ps at 0 + 1)
+    ranked = q.count ∙ ap (rank o.starts) t
+
+    -- a start counts
+    pub turn-some : 1 ≤ next.at
+    turn-some = let some = some-started o a (get_or ps at 0) in omega (arith, ranked)
+
+    -- the last that does is the start of a row
+    pub turn-inside : next.at - 1 < length o.set.rows
+    turn-inside = let end = end-unstarted o a (get_or ps at 0) (below at 0 within) in omega (arith, ranked, turn-some)
+
+    module _ (place : Place) (p : IsPlace o.starts place) (u : place.target ≡ after at ps) where
+      before : place.at ≡ rank o.starts (after at ps)
+      before = p.count ∙ ap (rank o.starts) u
+
+      -- no further start counts
+      pub turn-same : next.at ≡ place.at → rows_at (offset_counts o) (take (at + 1) ps) ≡ rows_at (offset_counts o) (take at ps)
+      turn-same s = select-same o a ps at e within (below at 0 within) (sym ranked ∙ s ∙ before)
+
+      -- a further start counts
+      pub turn-next : (next.at ≡ place.at → ⊥) → (row : ℕ) → slice_get o.set.rows (next.at - 1) ≡ Some row → rows_at (offset_counts o) (take (at + 1) ps) ≡ rows_at (offset_counts o) (take at ps) ++ row ∷ []
+      turn-next n row read =
+          select-next o a ps at e within (below at 0 within) (λ s. n (ranked ∙ s ∙ sym before))
+          ∙ ap (λ k. rows_at (offset_counts o) (take at ps) ++ get_or o.set.rows (k - 1) 0 ∷ []) (sym ranked)
+          ∙ ap (λ r. rows_at (offset_counts o) (take at ps) ++ r ∷ []) (get_or_from_slice_get o.set.rows (next.at - 1) row 0 read)

@@ -1,0 +1,21 @@
+use Rattle.std.proofs.Common.{◌∙◌}
+use Rattle.std.proofs.lemmas.List.{length-set}
+use Rattle.col_index.proofs.SelectLemmas.{rank_below, selected_front, selected_rest}
+use Rattle.col_index.proofs.optional_index.OptionalIndex.select_batch.Goals as goal
+
+pub select-requires : goal.select-requires
+select-requires c = rank_below c.args.self.now.rows c.args.ranks.now c.loop-at.ranks c.loop-at.at c.loop-at-test.true c.loop-at.invariant.rest c.requires
+
+pub loop-at-preserved : goal.loop-at-preserved
+loop-at-preserved c =
+    let rows = c.args.self.now.rows in
+    let old = c.args.ranks.now in
+    let xs = c.loop-at.ranks in
+    let at = c.loop-at.at in
+    let row = c.select.result in
+    let before = c.loop-at.invariant in
+    record {
+      long = length-set xs at row ∙ before.long;
+      front = selected_front rows old xs at c.loop-at-test.true before.rest row before.long before.front c.select.ensures;
+      rest = selected_rest rows old xs at c.loop-at-test.true before.rest row;
+    }

@@ -1,0 +1,61 @@
+-- Rows with a value and where their values start.
+use Rattle.std.specs.Prelude.{◌≡◌, ℕ, ◌+◌, ◌-◌, ◌^◌, ◌==◌, ◌≤◌, ◌&&◌, nat_lt, Bool, true, List, length, map, flat_map, sum, Option, if◌then◌else◌}
+use Rattle.std.specs.List.{list_all, range_with_len}
+use Rattle.col_common.specs.Reading.{only_if}
+use Rattle.col_model.specs.Ascending.{is_rising, is_never_falling}
+use Rattle.col_model.specs.Index.{RowSet, RowOffsets, Shape, empty_shape, full_shape, optional_shape, multivalued_shape, are_starts, are_offsets}
+use Rattle.col_model.specs.Positions.{values_in}
+use Rattle.col_model.specs.Table as tables
+use Rattle.col_index.specs.Sets.{AreRows}
+
+-- rows with a value, and their start offsets
+pub record AreOffsets (o : RowOffsets) : Type 0 where
+  pub rows : AreRows o.set
+  pub starts : are_starts o ≡ true
+
+-- the list has the start offsets of so many rows
+abbrev pub is_start_list : ℕ → List ℕ → Bool
+is_start_list n starts = are_offsets starts && is_rising starts && (length starts == n + 1)
+
+-- the set with these offsets, where they are its own
+abbrev pub offsets_by : RowSet → List ℕ → Option RowOffsets
+offsets_by set starts = only_if (is_start_list (length set.rows) starts) (record { set = set; starts = starts })
+
+-- one start offset more than rows, from 0 on, which never fall; at most 2 ^ 32 - 1 of them
+pub record AreOldOffsets (starts : List ℕ) : Type 0 where
+  pub offsets : are_offsets starts ≡ true
+  pub never_fall : is_never_falling starts ≡ true
+  pub few : length starts ≤ 2 ^ 32 - 1
+
+-- so many positions from one on, each beside a row
+abbrev pub run : ℕ → ℕ → ℕ → List (ℕ × ℕ)
+run row start count = map (λ p. (row, p)) (range_with_len start count)
+
+-- the values of rows, each value as its row and its position
+unfoldable pub positions_of_rows : Shape → List ℕ → List (ℕ × ℕ)
+positions_of_rows s rows = flat_map (values_in s) rows
+
+-- the same by counts
+abbrev pub row_positions : List ℕ → List ℕ → List (ℕ × ℕ)
+row_positions counts rows = positions_of_rows (multivalued_shape counts) rows
+
+-- the rows of these values, and their positions
+abbrev pub docs_of : List (ℕ × ℕ) → List ℕ
+docs_of ps = map (λ p. p.0) ps
+
+abbrev pub positions_of : List (ℕ × ℕ) → List ℕ
+positions_of ps = map (λ p. p.1) ps
+
+-- the cardinality of a shape; without rows it is Full
+abbrev pub cardinality_in : Shape → tables.Cardinality
+cardinality_in (empty_shape n) = if n == 0 then tables.full else tables.optional
+cardinality_in full_shape = tables.full
+cardinality_in (optional_shape cs) = tables.optional
+cardinality_in (multivalued_shape cs) = tables.multivalued
+
+-- ascending positions of values of a shape, none before the values of a row
+abbrev pub AreInside : Shape → List ℕ → Type 0
+AreInside (empty_shape n) positions = length positions ≡ 0
+AreInside full_shape positions = Unit {0}
+AreInside (optional_shape cs) positions = list_all (λ p. nat_lt p (sum cs)) positions ≡ true
+AreInside (multivalued_shape cs) positions = list_all (λ p. nat_lt p (sum cs)) positions ≡ true

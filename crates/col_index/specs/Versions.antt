@@ -1,0 +1,17 @@
+-- Cardinalities and versions, by the numbers that a file has for them. States docs/FORMAT.md, sections 8 and 11.
+use Rattle.std.specs.Prelude.{ℕ}
+use Rattle.col_model.specs.Table as tables
+use Rattle.col_index.specs.declared.cardinality.Cardinality.{Cardinality}
+use Rattle.col_index.specs.declared.cardinality.Cardinality.TheVariants.{Full, Optional, Multivalued}
+use Rattle.col_index.specs.declared.format_version.Version.{Version}
+use Rattle.col_index.specs.declared.format_version.Version.TheVariants.{V2}
+
+-- the cardinality by its definition
+abbrev pub cardinality_of : Cardinality → tables.Cardinality
+cardinality_of Full = tables.full
+cardinality_of Optional = tables.optional
+cardinality_of Multivalued = tables.multivalued
+
+-- the number of a version
+abbrev pub version_number : Version → ℕ
+version_number V2 = 2

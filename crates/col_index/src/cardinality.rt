@@ -1,0 +1,75 @@
+//! How many values a row may have.
+ghost use Rattle.std.specs.Prelude.{◌≡◌, ◌==◌, option_map};
+ghost use Rattle.col_model.specs.Table.{cardinality_code, cardinality_of_code};
+
+use std::fmt;
+
+/// How many values a row may have; a later one allows more.
+#[derive(Clone, Copy, Debug, Default, PartialEq, Eq, PartialOrd, Ord, Hash)]
+pub enum Cardinality {
+    /// Each row has one value.
+    #[default]
+    Full,
+    /// Each row has at most one.
+    Optional,
+    /// Each row has any number.
+    Multivalued,
+}
+
+impl Cardinality {
+    ghost use Rattle.col_index.specs.Versions.{cardinality_of};
+
+    /// Whether each row has one value.
+    pub fn is_full(&self) -> bool
+        ensures { result ≡ (cardinality_code (cardinality_of self.now) == 0) }
+    {
+        matches!(self, Cardinality::Full)
+    }
+
+    /// Whether each row has at most one value, and some may have none.
+    pub fn is_optional(&self) -> bool
+        ensures { result ≡ (cardinality_code (cardinality_of self.now) == 1) }
+    {
+        matches!(self, Cardinality::Optional)
+    }
+
+    /// Whether a row may have any number of values.
+    pub fn is_multivalue(&self) -> bool
+        ensures { result ≡ (cardinality_code (cardinality_of self.now) == 2) }
+    {
+        matches!(self, Cardinality::Multivalued)
+    }
+
+    /// The code in an index.
+    pub fn to_code(self) -> u8
+        ensures { result ≡ cardinality_code (cardinality_of self) }
+    {
+        match self {
+            Cardinality::Full => 0,
+            Cardinality::Optional => 1,
+            Cardinality::Multivalued => 2,
+        }
+    }
+
+    /// The cardinality of a code.
+    pub fn try_from_code(code: u8) -> Option<Cardinality>
+        ensures { option_map cardinality_of result ≡ cardinality_of_code code }
+    {
+        match code {
+            0 => Some(Cardinality::Full),
+            1 => Some(Cardinality::Optional),
+            2 => Some(Cardinality::Multivalued),
+            _ => None,
+        }
+    }
+}
+
+impl fmt::Display for Cardinality {
+    fn fmt<W: fmt::Write>(&self, f: &mut fmt::Formatter<W>) -> fmt::Result {
+        f.write_str(match self {
+            Cardinality::Full => "full",
+            Cardinality::Optional => "opt",
+            Cardinality::Multivalued => "mult",
+        })
+    }
+}

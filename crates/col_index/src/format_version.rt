@@ -1,0 +1,47 @@
+//! Versions of files.
+ghost use Rattle.std.specs.Prelude.{◌≡◌, ◌==◌, false, IfOk, IfErr};
+ghost use Rattle.std.specs.Int.{w32, to_le_bytes, from_le_bytes};
+
+use col_common::InvalidData;
+use std::fmt;
+
+/// The version of a file.
+#[derive(Clone, Copy, Debug, PartialEq, Eq)]
+pub enum Version {
+    V2,
+}
+
+/// The version that is written.
+pub const CURRENT_VERSION: Version = Version::V2;
+
+impl Version {
+    ghost use Rattle.col_index.specs.Versions.{version_number};
+
+    /// The four bytes in a file, the lowest first.
+    pub fn to_bytes(&self) -> [u8; 4]
+        ensures { result ≡ to_le_bytes w32 (version_number self.now) }
+    {
+        match self {
+            Version::V2 => 2u32.to_le_bytes(),
+        }
+    }
+
+    /// The version of four bytes.
+    pub fn try_from_bytes(bytes: [u8; 4]) -> Result<Version, InvalidData>
+        ensures ok { IfOk result (λ version. version_number version ≡ from_le_bytes w32 bytes) }
+        ensures invalid_data { IfErr result (λ _. (from_le_bytes w32 bytes == 2) ≡ false) }
+    {
+        match u32::from_le_bytes(bytes) {
+            2 => Ok(Version::V2),
+            _ => Err(InvalidData),
+        }
+    }
+}
+
+impl fmt::Display for Version {
+    fn fmt<W: fmt::Write>(&self, f: &mut fmt::Formatter<W>) -> fmt::Result {
+        f.write_str(match self {
+            Version::V2 => "v2",
+        })
+    }
+}

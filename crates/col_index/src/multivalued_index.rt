@@ -1,0 +1,153 @@
+//! Rows that have any number of values.
+ghost use Rattle.std.specs.Prelude.{◌≡◌, ◌^◌, ◌++◌, ◌==◌, not, true, nat_le, length, sum, slice_index, IfOk, IfErr, OnOk};
+ghost use Rattle.std.specs.List.{list_all};
+ghost use Rattle.col_common.specs.declared.error.ColumnarError.TheVariants as refusals;
+ghost use Rattle.col_model.specs.Ascending.{is_rising, differences};
+ghost use Rattle.col_model.specs.Positions.{start_of, index_range, rows_with_value, next_row, starts_of, rows_at};
+ghost use Rattle.col_values.specs.Readers.{list_of};
+ghost use Rattle.col_views.specs.Values.{AreBelow};
+ghost use Rattle.col_index.specs.Offsets.{AreOldOffsets, row_positions, docs_of, positions_of};
+ghost use Rattle.col_index.specs.Sets.{BeginsWith};
+
+use crate::multivalued_index_v2::MultiValueIndexV2;
+use crate::optional_index::NonNullDocs;
+use col_common::{ColumnarError, DocId, RowId};
+use col_values::U64Values;
+use std::alloc::Global;
+use std::ops::Range;
+
+/// How many values each row has.
+#[derive(Drop)]
+pub enum MultiValueIndex {
+    MultiValueIndexV2(MultiValueIndexV2),
+}
+
+impl MultiValueIndex {
+    ghost use Rattle.col_index.specs.MultiValues.{counts_of};
+
+    /// The index with one more start offset than rows, from 0 on, which never fall.
+    pub fn for_test(
+        alloc: Global,
+        start_offsets: &[RowId],
+    ) -> Result<MultiValueIndex, ColumnarError>
+        requires { AreOldOffsets start_offsets.now }
+        ensures ok { IfOk result (λ index. counts_of index ≡ differences start_offsets.now) }
+        ensures err { IfErr result (λ e. e ≡ refusals.OutOfMemory) }
+    {
+        Ok(MultiValueIndex::MultiValueIndexV2(MultiValueIndexV2::for_test(alloc, start_offsets)?))
+    }
+
+    /// The same index once more, which shares its bytes.
+    pub fn try_clone(&self, alloc: Global) -> Result<MultiValueIndex, ColumnarError>
+        ensures ok { IfOk result (λ index. counts_of index ≡ counts_of self.now) }
+        ensures err { IfErr result (λ e. e ≡ refusals.OutOfMemory) }
+    {
+        match self {
+            MultiValueIndex::MultiValueIndexV2(index) => {
+                Ok(MultiValueIndex::MultiValueIndexV2(index.try_clone(alloc)?))
+            }
+        }
+    }
+
+    /// Where the values of each row with a value start, and behind the last where they end.
+    pub fn get_start_index_column(&self) -> &U64Values
+        ensures counts { list_of result.now ≡ starts_of (counts_of self.now) }
+        ensures fits { AreBelow (list_of result.now) (2 ^ 32) }
+    {
+        match self {
+            MultiValueIndex::MultiValueIndexV2(index) => index.start_index_column(),
+        }
+    }
+
+    /// The positions of a row's values; 0..0 for a number that is no row.
+    pub fn range(&self, doc_id: DocId) -> Range<RowId>
+        ensures start { result.start ≡ (index_range (counts_of self.now) doc_id).0 }
+        ensures end { result.end ≡ (index_range (counts_of self.now) doc_id).1 }
+    {
+        match self {
+            MultiValueIndex::MultiValueIndexV2(index) => index.range(doc_id),
+        }
+    }
+
+    /// How many values stand before a row.
+    pub(crate) fn start_of(&self, doc_id: DocId) -> RowId
+        ensures { result ≡ start_of (counts_of self.now) doc_id }
+    {
+        match self {
+            MultiValueIndex::MultiValueIndexV2(index) => index.start_of(doc_id),
+        }
+    }
+
+    /// How many rows there are.
+    pub fn num_docs(&self) -> u32
+        ensures { result ≡ length (counts_of self.now) }
+    {
+        match self {
+            MultiValueIndex::MultiValueIndexV2(index) => index.num_docs(),
+        }
+    }
+
+    /// Whether a row has a value.
+    pub fn has_value(&self, doc_id: DocId) -> bool
+        ensures { result ≡ not (slice_index (counts_of self.now) doc_id == 0) }
+    {
+        match self {
+            MultiValueIndex::MultiValueIndexV2(index) => index.has_value(doc_id),
+        }
+    }
+
+    /// The first row with a value that isn't before a target.
+    pub fn next_non_null_doc(&self, target: DocId) -> Option<DocId>
+        ensures { result ≡ next_row (rows_with_value (counts_of self.now)) target }
+    {
+        match self {
+            MultiValueIndex::MultiValueIndexV2(index) => index.next_non_null_doc(target),
+        }
+    }
+
+    /// The rows with a value, ascending.
+    pub fn iter_non_null_docs(&self) -> NonNullDocs<'_>
+        ensures { result ≡ rows_with_value (counts_of self.now) }
+    {
+        match self {
+            MultiValueIndex::MultiValueIndexV2(index) => index.iter_non_null_docs(),
+        }
+    }
+
+    /// Appends each document once for each of its values, and these values' positions, as far as
+    /// memory reaches.
+    pub(crate) fn push_positions(
+        &self,
+        docs: &[DocId],
+        docs_out: &mut Vec<DocId>,
+        rows_out: &mut Vec<RowId>,
+    ) -> Result<(), ColumnarError>
+        ensures docs { OnOk result (docs_out.new.items ≡ docs_out.old.items
+            ++ docs_of (row_positions (counts_of self.now) docs.now)) }
+        ensures rows { OnOk result (rows_out.new.items ≡ rows_out.old.items
+            ++ positions_of (row_positions (counts_of self.now) docs.now)) }
+        ensures err { IfErr result (λ e. (e ≡ refusals.OutOfMemory)
+            × BeginsWith docs_out.new.items docs_out.old.items × BeginsWith rows_out.new.items rows_out.old.items) }
+    {
+        match self {
+            MultiValueIndex::MultiValueIndexV2(index) => {
+                index.push_positions(docs, docs_out, rows_out)
+            }
+        }
+    }
+
+    /// Puts in the place of ascending positions the rows that have them, each once. No position is
+    /// before the values of the start.
+    pub fn select_batch_in_place(&self, doc_id_start: DocId, ranks: &mut Vec<RowId>)
+        requires rising { is_rising ranks.old.items ≡ true }
+        requires below { AreBelow ranks.old.items (sum (counts_of self.now)) }
+        requires start { list_all (λ p. nat_le (start_of (counts_of self.now) doc_id_start) p) ranks.old.items ≡ true }
+        ensures { ranks.new.items ≡ rows_at (counts_of self.now) ranks.old.items }
+    {
+        match self {
+            MultiValueIndex::MultiValueIndexV2(index) => {
+                index.select_batch_in_place(doc_id_start, ranks)
+            }
+        }
+    }
+}

@@ -1,0 +1,306 @@
+//! Rows that have any number of values, in version 2.
+ghost use Rattle.std.specs.Prelude.{◌≡◌, ◌≤◌, ◌-◌, ◌^◌, ◌++◌, ◌==◌, not, true, length, take, sum, slice_index, IfOk, IfErr, OnOk};
+ghost use Rattle.col_common.specs.declared.error.ColumnarError.TheVariants as refusals;
+ghost use Rattle.col_model.specs.Ascending.{is_rising, differences};
+ghost use Rattle.col_model.specs.Index.{offset_counts};
+ghost use Rattle.col_model.specs.Positions.{start_of, index_range, rows_with_value, next_row, starts_of, rows_at};
+ghost use Rattle.col_values.specs.Readers.{list_of};
+ghost use Rattle.col_views.specs.Values.{AreBelow};
+ghost use Rattle.col_index.specs.Offsets.{AreOldOffsets, row_positions, docs_of, positions_of, is_start_list, offsets_by, run};
+ghost use Rattle.col_index.specs.Sets.{BeginsWith};
+
+use crate::optional_index::{NonNullDocs, OptionalIndex, load_numbers};
+use crate::search::Place;
+use crate::set::Set;
+use col_common::{ColumnarError, DocId, RowId};
+use col_values::U64Values;
+use col_views::ColumnValues;
+use std::alloc::Global;
+use std::marker::Model;
+use std::ops::Range;
+
+/// The index of version 2: rows with a value, and where the values of each start. Contracts see
+/// both lists.
+#[derive(Drop)]
+pub struct MultiValueIndexV2 {
+    optional_index: OptionalIndex,
+    start_index_column: U64Values,
+}
+
+impl Model for MultiValueIndexV2 {
+    ghost use Rattle.std.specs.Prelude.{◌≡◌, true};
+    ghost use Rattle.col_model.specs.Index.{RowOffsets, are_starts};
+    ghost use Rattle.col_values.specs.Readers.{list_of};
+    ghost use Rattle.col_index.specs.Sets.{AreRows};
+    ghost use Rattle.col_index.specs.Offsets.{AreOffsets};
+
+    ghost Value = { RowOffsets };
+
+    ghost view = { λ i. record { set = i.optional_index; starts = list_of i.start_index_column } };
+
+    ghost invariant = { λ i. AreOffsets
+        (record { set = i.optional_index; starts = list_of i.start_index_column }) };
+}
+
+impl MultiValueIndexV2 {
+    /// The index with one more start offset than rows, from 0 on, which never fall.
+    pub fn for_test(
+        alloc: Global,
+        start_offsets: &[RowId],
+    ) -> Result<MultiValueIndexV2, ColumnarError>
+        requires { AreOldOffsets start_offsets.now }
+        ensures ok { IfOk result (λ index. offset_counts index ≡ differences start_offsets.now) }
+        ensures err { IfErr result (λ e. e ≡ refusals.OutOfMemory) }
+    {
+        let mut rows = Vec::new(alloc);
+        let mut starts = Vec::new(alloc);
+        push_runs(start_offsets, &mut rows, &mut starts)?;
+        let num_rows = (start_offsets.len() - 1) as RowId;
+        let optional_index = OptionalIndex::for_test(alloc, num_rows, &rows)?;
+        let start_index_column = load_numbers(alloc, &starts)?;
+        Ok(MultiValueIndexV2 {
+            optional_index,
+            start_index_column,
+        })
+    }
+
+    /// The index of rows with these offsets, if they are the rows' offsets.
+    pub(crate) fn from_parts(
+        optional_index: OptionalIndex,
+        start_index_column: U64Values,
+    ) -> Option<MultiValueIndexV2>
+        ensures { result ≡ offsets_by optional_index (list_of start_index_column) }
+    {
+        if !are_starts(optional_index.num_non_nulls(), &start_index_column) {
+            return None;
+        }
+        Some(MultiValueIndexV2 {
+            optional_index,
+            start_index_column,
+        })
+    }
+
+    /// The rows with a value.
+    pub fn optional_index(&self) -> &OptionalIndex
+        ensures { result.now ≡ self.now.set }
+    {
+        &self.optional_index
+    }
+
+    /// Where the values of each row with a value start, and behind the last where they end.
+    pub fn start_index_column(&self) -> &U64Values
+        ensures offsets { list_of result.now ≡ self.now.starts }
+        ensures counts { list_of result.now ≡ starts_of (offset_counts self.now) }
+        ensures fits { AreBelow (list_of result.now) (2 ^ 32) }
+    {
+        &self.start_index_column
+    }
+
+    /// How many rows there are.
+    pub(crate) fn num_docs(&self) -> u32
+        ensures { result ≡ length (offset_counts self.now) }
+    {
+        self.optional_index.num_docs()
+    }
+
+    /// Whether a row has a value.
+    pub(crate) fn has_value(&self, doc_id: DocId) -> bool
+        ensures { result ≡ not (slice_index (offset_counts self.now) doc_id == 0) }
+    {
+        self.optional_index.contains(doc_id)
+    }
+
+    /// The first row with a value that isn't before a target.
+    pub(crate) fn next_non_null_doc(&self, target: DocId) -> Option<DocId>
+        ensures { result ≡ next_row (rows_with_value (offset_counts self.now)) target }
+    {
+        self.optional_index.next_non_null_doc(target)
+    }
+
+    /// The rows with a value, ascending.
+    pub(crate) fn iter_non_null_docs(&self) -> NonNullDocs<'_>
+        ensures { result ≡ rows_with_value (offset_counts self.now) }
+    {
+        self.optional_index.iter_non_null_docs()
+    }
+
+    /// The same index once more, which shares its bytes.
+    pub fn try_clone(&self, alloc: Global) -> Result<MultiValueIndexV2, ColumnarError>
+        ensures ok { IfOk result (λ index. index ≡ self.now) }
+        ensures err { IfErr result (λ e. e ≡ refusals.OutOfMemory) }
+    {
+        Ok(MultiValueIndexV2 {
+            optional_index: self.optional_index.try_clone(alloc)?,
+            start_index_column: self.start_index_column.try_clone(alloc)?,
+        })
+    }
+
+    // Where the values of the row with a rank start.
+    #[inline]
+    fn start_at(&self, rank: RowId) -> RowId
+        requires { rank ≤ length self.now.set.rows }
+        ensures { result ≡ slice_index self.now.starts rank }
+    {
+        self.start_index_column.get_val(rank) as RowId
+    }
+
+    /// How many values stand before a row.
+    pub fn start_of(&self, doc_id: DocId) -> RowId
+        ensures { result ≡ start_of (offset_counts self.now) doc_id }
+    {
+        self.start_at(self.optional_index.rank(doc_id))
+    }
+
+    /// The positions of a row's values.
+    pub fn range(&self, doc_id: DocId) -> Range<RowId>
+        ensures start { result.start ≡ (index_range (offset_counts self.now) doc_id).0 }
+        ensures end { result.end ≡ (index_range (offset_counts self.now) doc_id).1 }
+    {
+        if doc_id >= self.optional_index.num_docs() {
+            return 0..0;
+        }
+        let rank = self.optional_index.rank(doc_id);
+        let start = self.start_at(rank);
+        if rank >= self.optional_index.num_non_nulls() {
+            return start..start;
+        }
+        if self.optional_index.select(rank) != doc_id {
+            return start..start;
+        }
+        start..self.start_at(rank + 1)
+    }
+
+    /// Appends each document once for each of its values, and these values' positions, as far as
+    /// memory reaches.
+    pub(crate) fn push_positions(
+        &self,
+        docs: &[DocId],
+        docs_out: &mut Vec<DocId>,
+        rows_out: &mut Vec<RowId>,
+    ) -> Result<(), ColumnarError>
+        ensures docs { OnOk result (docs_out.new.items ≡ docs_out.old.items
+            ++ docs_of (row_positions (offset_counts self.now) docs.now)) }
+        ensures rows { OnOk result (rows_out.new.items ≡ rows_out.old.items
+            ++ positions_of (row_positions (offset_counts self.now) docs.now)) }
+        ensures err { IfErr result (λ e. (e ≡ refusals.OutOfMemory)
+            × BeginsWith docs_out.new.items docs_out.old.items
+            × BeginsWith rows_out.new.items rows_out.old.items) }
+    {
+        let mut place = self.optional_index.first_place();
+        for doc in docs {
+            let doc = *doc;
+            place = self.optional_index.seek(place, doc);
+            if place.next != u64::from(doc) {
+                continue;
+            }
+            let start = self.start_at(place.at);
+            let end = self.start_at(place.at + 1);
+            push_run(doc, start, end, docs_out, rows_out)?;
+        }
+        Ok(())
+    }
+
+    /// Puts in the place of ascending positions the rows that have them, each once.
+    pub fn select_batch_in_place(&self, doc_id_start: DocId, ranks: &mut Vec<RowId>)
+        requires rising { is_rising ranks.old.items ≡ true }
+        requires below { AreBelow ranks.old.items (sum (offset_counts self.now)) }
+        ensures { ranks.new.items ≡ rows_at (offset_counts self.now) ranks.old.items }
+    {
+        let kept = self.select_rows(ranks);
+        ranks.truncate(kept);
+    }
+
+    // The same in the front of a list; how many rows there are.
+    fn select_rows(&self, ranks: &mut [RowId]) -> usize
+        requires rising { is_rising ranks.old ≡ true }
+        requires below { AreBelow ranks.old (sum (offset_counts self.now)) }
+        ensures { take result ranks.new ≡ rows_at (offset_counts self.now) ranks.old }
+    {
+        let mut place = Place::first(&self.start_index_column);
+        let mut kept = 0;
+        for at in 0..ranks.len() {
+            let before = place.at;
+            place = place.seek(&self.start_index_column, u64::from(ranks[at]) + 1);
+            if place.at == before {
+                continue;
+            }
+            ranks[kept] = self.optional_index.select(place.at - 1);
+            kept += 1;
+        }
+        kept
+    }
+}
+
+// Appends a document once for each position of a range, and these, as far as memory reaches.
+fn push_run(
+    doc: DocId,
+    start: RowId,
+    end: RowId,
+    docs_out: &mut Vec<DocId>,
+    rows_out: &mut Vec<RowId>,
+) -> Result<(), ColumnarError>
+    ensures docs { OnOk result (docs_out.new.items ≡ docs_out.old.items
+        ++ docs_of (run doc start (end - start))) }
+    ensures rows { OnOk result (rows_out.new.items ≡ rows_out.old.items
+        ++ positions_of (run doc start (end - start))) }
+    ensures err { IfErr result (λ e. (e ≡ refusals.OutOfMemory)
+        × BeginsWith docs_out.new.items docs_out.old.items
+        × BeginsWith rows_out.new.items rows_out.old.items) }
+{
+    for position in start..end {
+        docs_out.push(doc)?;
+        rows_out.push(position)?;
+    }
+    Ok(())
+}
+
+// Whether numbers are start offsets of so many rows.
+fn are_starts(num_rows: RowId, starts: &U64Values) -> bool
+    ensures { result ≡ is_start_list num_rows (list_of starts.now) }
+{
+    let count = starts.num_vals();
+    if u64::from(count) != u64::from(num_rows) + 1 {
+        return false;
+    }
+    if starts.get_val(0) != 0 {
+        return false;
+    }
+    let mut last = 0;
+    for at in 1..count {
+        let start = starts.get_val(at);
+        if start <= last {
+            return false;
+        }
+        if start > u64::from(u32::MAX) {
+            return false;
+        }
+        last = start;
+    }
+    true
+}
+
+// Appends the rows with a value, and where the values of each start, and those of the last end.
+fn push_runs(
+    start_offsets: &[RowId],
+    rows: &mut Vec<RowId>,
+    starts: &mut Vec<RowId>,
+) -> Result<(), ColumnarError>
+    requires { AreOldOffsets start_offsets.now }
+    ensures rows { OnOk result (rows.new.items ≡ rows.old.items
+        ++ rows_with_value (differences start_offsets.now)) }
+    ensures starts { OnOk result (starts.new.items ≡ starts.old.items
+        ++ starts_of (differences start_offsets.now)) }
+    ensures err { IfErr result (λ e. e ≡ refusals.OutOfMemory) }
+{
+    let last = start_offsets.len() - 1;
+    for row in 0..last {
+        let start = start_offsets[row];
+        if start_offsets[row + 1] == start {
+            continue;
+        }
+        rows.push(row as RowId)?;
+        starts.push(start)?;
+    }
+    starts.push(start_offsets[last])?;
+    Ok(())
+}

@@ -1,0 +1,381 @@
+//! Rows that have at most one value.
+ghost use Rattle.std.specs.Prelude.{◌≡◌, [], ◌∷◌, ◌++◌, ◌^◌, ◌<◌, length, map, slice_get, Some, IfOk, IfErr, OnOk};
+ghost use Rattle.col_common.specs.declared.error.ColumnarError.TheVariants as refusals;
+ghost use Rattle.col_model.specs.Index.{RowSet, set_counts};
+ghost use Rattle.col_model.specs.Positions.{rank, next_row, index_range};
+ghost use Rattle.col_views.specs.Values.{AreBelow};
+ghost use Rattle.col_index.specs.Sets.{AreRows, BeginsWith, holds, held, held_ranks, is_row_list, set_by};
+ghost use Rattle.col_values.specs.Readers.{list_of};
+
+use crate::search::{Place, rank_in};
+use crate::set::{SelectCursor, Set};
+use col_common::{ColumnarError, DocId, Iterable, RowId, Walk};
+use col_values::{CodecType, U64Values, serialize_and_load_u64_values};
+use col_views::ColumnValues;
+use std::alloc::Global;
+use std::marker::Model;
+use std::ops::Range;
+
+/// Which rows have a value. Contracts see the row count and these rows.
+#[derive(Drop)]
+pub struct OptionalIndex {
+    num_rows: RowId,
+    rows: U64Values,
+}
+
+impl Model for OptionalIndex {
+    ghost use Rattle.col_model.specs.Index.{RowSet};
+    ghost use Rattle.col_values.specs.Readers.{list_of};
+    ghost use Rattle.col_index.specs.Sets.{AreRows};
+
+    ghost Value = { RowSet };
+
+    ghost view = { λ i. record { num_rows = i.num_rows; rows = list_of i.rows } };
+
+    ghost invariant = { λ i. AreRows (record { num_rows = i.num_rows; rows = list_of i.rows }) };
+}
+
+impl OptionalIndex {
+    /// The index of rows, which rise and stay below the count.
+    pub fn for_test(
+        alloc: Global,
+        num_rows: RowId,
+        row_ids: &[RowId],
+    ) -> Result<OptionalIndex, ColumnarError>
+        requires { AreRows (record { num_rows = num_rows; rows = row_ids.now }) }
+        ensures ok { IfOk result (λ index. index ≡ record { num_rows = num_rows; rows = row_ids.now }) }
+        ensures err { IfErr result (λ e. e ≡ refusals.OutOfMemory) }
+    {
+        let rows = load_numbers(alloc, row_ids)?;
+        Ok(OptionalIndex { num_rows, rows })
+    }
+
+    /// The index with a list of its rows, if this rises and stays below the count.
+    pub(crate) fn from_rows(num_rows: RowId, rows: U64Values) -> Option<OptionalIndex>
+        ensures { result ≡ set_by num_rows (list_of rows) }
+    {
+        if !are_rows(num_rows, &rows) {
+            return None;
+        }
+        Some(OptionalIndex { num_rows, rows })
+    }
+
+    /// The same index once more, which shares its bytes.
+    pub fn try_clone(&self, alloc: Global) -> Result<OptionalIndex, ColumnarError>
+        ensures ok { IfOk result (λ index. index ≡ self.now) }
+        ensures err { IfErr result (λ e. e ≡ refusals.OutOfMemory) }
+    {
+        Ok(OptionalIndex {
+            num_rows: self.num_rows,
+            rows: self.rows.try_clone(alloc)?,
+        })
+    }
+
+    /// How many rows there are.
+    pub fn num_docs(&self) -> RowId
+        ensures { result ≡ self.now.num_rows }
+    {
+        self.num_rows
+    }
+
+    /// How many rows have a value.
+    pub fn num_non_nulls(&self) -> RowId
+        ensures { result ≡ length self.now.rows }
+    {
+        self.rows.num_vals()
+    }
+
+    /// The rows rise and stay below the count.
+    pub fn rows_rise(&self)
+        ensures { AreRows self.now }
+    {
+        let _ = &self.rows;
+    }
+
+    /// The first row with a value that isn't before a target.
+    pub fn next_non_null_doc(&self, target: DocId) -> Option<DocId>
+        ensures { result ≡ next_row self.now.rows target }
+    {
+        self.rows_rise();
+        let rank = self.rank(target);
+        if rank < self.num_non_nulls() {
+            Some(self.select(rank))
+        } else {
+            None
+        }
+    }
+
+    /// The rows with a value, ascending.
+    pub fn iter_non_null_docs(&self) -> NonNullDocs<'_>
+        ensures { result ≡ self.now.rows }
+    {
+        NonNullDocs { index: self }
+    }
+
+    /// Appends those of the documents that have a value, and their ranks. Documents that ascend are
+    /// walked.
+    pub fn rank_if_exists_batch(
+        &self,
+        docs: &[DocId],
+        docs_out: &mut Vec<DocId>,
+        rows_out: &mut Vec<RowId>,
+    ) -> Result<(), ColumnarError>
+        ensures docs { OnOk result (docs_out.new.items ≡ docs_out.old.items ++ held self.now.rows docs.now) }
+        ensures rows { OnOk result (rows_out.new.items ≡ rows_out.old.items ++ held_ranks self.now.rows docs.now) }
+        ensures err { IfErr result (λ e. (e ≡ refusals.OutOfMemory)
+            × (docs_out.new.items ≡ docs_out.old.items) × (rows_out.new.items ≡ rows_out.old.items)) }
+    {
+        let num_docs = docs_out.len();
+        let num_rows = rows_out.len();
+        let result = self.push_ranks(docs, docs_out, rows_out);
+        if result.is_err() {
+            docs_out.truncate(num_docs);
+            rows_out.truncate(num_rows);
+        }
+        result
+    }
+
+    /// Puts the row of each rank in its place.
+    pub fn select_batch(&self, ranks: &mut [RowId])
+        requires { AreBelow ranks.old (length self.now.rows) }
+        ensures { map Some ranks.new ≡ map (slice_get self.now.rows) ranks.old }
+    {
+        for at in 0..ranks.len() {
+            ranks[at] = self.select(ranks[at]);
+        }
+    }
+
+    /// A reader of rows by their ranks.
+    pub fn select_cursor(&self) -> OptionalIndexSelectCursor<'_>
+        ensures { result ≡ self.now.rows }
+    {
+        OptionalIndexSelectCursor { index: self }
+    }
+}
+
+impl Set<RowId> for OptionalIndex {
+    ghost use Rattle.std.specs.Prelude.{◌<◌, length, slice_get};
+    ghost use Rattle.col_model.specs.Positions.{rank};
+    ghost use Rattle.col_index.specs.Sets.{holds};
+
+    ghost holds = { λ s row. holds s.rows row };
+
+    ghost rank_of = { λ s row. rank s.rows row };
+
+    ghost at_rank = { λ s k. slice_get s.rows k };
+
+    ghost IsRank = { λ s k. k < length s.rows };
+
+    fn contains(&self, row_id: RowId) -> bool {
+        self.holds_at(self.rank(row_id), row_id)
+    }
+
+    fn rank(&self, row_id: RowId) -> RowId {
+        rank_in(&self.rows, u64::from(row_id))
+    }
+
+    fn rank_if_exists(&self, row_id: RowId) -> Option<RowId> {
+        let rank = self.rank(row_id);
+        if self.holds_at(rank, row_id) {
+            Some(rank)
+        } else {
+            None
+        }
+    }
+
+    #[inline(always)]
+    fn select(&self, rank: RowId) -> RowId {
+        // Rows are below a count of 32 bits.
+        let _num_rows = self.num_rows;
+        self.rows.get_val(rank) as RowId
+    }
+}
+
+/// A reader of rows by their ranks. Contracts see the rows.
+#[derive(Drop)]
+pub struct OptionalIndexSelectCursor<'a> {
+    index: &'a OptionalIndex,
+}
+
+impl<'a> Model for OptionalIndexSelectCursor<'a> {
+    ghost use Rattle.std.specs.Prelude.{List, ℕ};
+
+    ghost Value = { List ℕ };
+
+    ghost view = { λ c. c.index.now.rows };
+}
+
+impl SelectCursor<RowId> for OptionalIndexSelectCursor<'_> {
+    ghost use Rattle.std.specs.Prelude.{◌<◌, length, slice_get};
+
+    ghost at_rank = { λ rows k. slice_get rows k };
+
+    ghost IsRank = { λ rows k. k < length rows };
+
+    #[inline(always)]
+    fn select(&mut self, rank: RowId) -> RowId {
+        self.index.select(rank)
+    }
+}
+
+/// The rows with a value, ascending; `place` of a walk is the rank of the next. Contracts see the rows.
+#[derive(Drop)]
+pub struct NonNullDocs<'a> {
+    index: &'a OptionalIndex,
+}
+
+impl<'a> Model for NonNullDocs<'a> {
+    ghost use Rattle.std.specs.Prelude.{List, ℕ};
+
+    ghost Value = { List ℕ };
+
+    ghost view = { λ d. d.index.now.rows };
+}
+
+impl Iterable<DocId> for NonNullDocs<'_> {
+    ghost use Rattle.std.specs.Prelude.{◌≤◌, drop, length};
+
+    ghost items = { λ rows. rows };
+
+    ghost stands = { λ rows w. w.place ≤ length rows };
+
+    ghost left = { λ rows w. drop w.place rows };
+
+    fn walk(&self) -> Walk {
+        Walk::default()
+    }
+
+    #[inline(always)]
+    fn next(&self, at: &mut Walk) -> Option<DocId> {
+        let place = at.place;
+        if place >= u64::from(self.index.num_non_nulls()) {
+            return None;
+        }
+        at.place = place + 1;
+        Some(self.index.select(place as u32))
+    }
+}
+
+impl OptionalIndex {
+    ghost use Rattle.col_index.specs.Places.{IsPlace};
+
+    // Whether the row with a rank has a value.
+    #[inline]
+    fn holds_at(&self, at: RowId, row_id: RowId) -> bool
+        requires { at ≡ rank self.now.rows row_id }
+        ensures { result ≡ holds self.now.rows row_id }
+    {
+        self.rows_rise();
+        at < self.num_non_nulls() && self.select(at) == row_id
+    }
+
+    /// The positions of a row's values.
+    pub(crate) fn range(&self, doc_id: DocId) -> Range<RowId>
+        ensures start { result.start ≡ (index_range (set_counts self.now) doc_id).0 }
+        ensures end { result.end ≡ (index_range (set_counts self.now) doc_id).1 }
+    {
+        if doc_id >= self.num_rows {
+            return 0..0;
+        }
+        let rank = self.rank(doc_id);
+        if self.holds_at(rank, doc_id) {
+            rank..rank + 1
+        } else {
+            rank..rank
+        }
+    }
+
+    /// The place of row 0.
+    pub(crate) fn first_place(&self) -> Place
+        ensures place { IsPlace self.now.rows result }
+        ensures target { result.target ≡ 0 }
+    {
+        Place::first(&self.rows)
+    }
+
+    /// The place of a row; in few steps where it isn't far behind another place.
+    #[inline(always)]
+    pub(crate) fn seek(&self, place: Place, doc_id: DocId) -> Place
+        requires { IsPlace self.now.rows place }
+        ensures place { IsPlace self.now.rows result }
+        ensures target { result.target ≡ doc_id }
+    {
+        place.seek(&self.rows, u64::from(doc_id))
+    }
+
+    /// Whether the row of a place has a value.
+    #[inline]
+    pub(crate) fn is_at(&self, place: Place) -> bool
+        requires place { IsPlace self.now.rows place }
+        requires row { place.target < 2 ^ 32 }
+        ensures { result ≡ holds self.now.rows place.target }
+    {
+        self.rows_rise();
+        place.next == place.target
+    }
+
+    /// Appends those of the documents that have a value, and their ranks, as far as memory reaches.
+    pub(crate) fn push_ranks(
+        &self,
+        docs: &[DocId],
+        docs_out: &mut Vec<DocId>,
+        rows_out: &mut Vec<RowId>,
+    ) -> Result<(), ColumnarError>
+        ensures docs { OnOk result (docs_out.new.items ≡ docs_out.old.items ++ held self.now.rows docs.now) }
+        ensures rows { OnOk result (rows_out.new.items ≡ rows_out.old.items ++ held_ranks self.now.rows docs.now) }
+        ensures err { IfErr result (λ e. (e ≡ refusals.OutOfMemory)
+            × BeginsWith docs_out.new.items docs_out.old.items × BeginsWith rows_out.new.items rows_out.old.items) }
+    {
+        let mut place = self.first_place();
+        for doc in docs {
+            let doc = *doc;
+            place = self.seek(place, doc);
+            if self.is_at(place) {
+                push_pair(docs_out, rows_out, doc, place.at)?;
+            }
+        }
+        Ok(())
+    }
+}
+
+/// Appends a document and the position of one of its values, as far as memory reaches.
+#[inline]
+pub(crate) fn push_pair(
+    docs_out: &mut Vec<DocId>,
+    rows_out: &mut Vec<RowId>,
+    doc: DocId,
+    row: RowId,
+) -> Result<(), ColumnarError>
+    ensures docs { OnOk result (docs_out.new.items ≡ docs_out.old.items ++ doc ∷ []) }
+    ensures rows { OnOk result (rows_out.new.items ≡ rows_out.old.items ++ row ∷ []) }
+    ensures err { IfErr result (λ e. (e ≡ refusals.OutOfMemory)
+        × BeginsWith docs_out.new.items docs_out.old.items × BeginsWith rows_out.new.items rows_out.old.items) }
+{
+    docs_out.push(doc)?;
+    rows_out.push(row)?;
+    Ok(())
+}
+
+/// Numbers as a list that is read in place.
+pub(crate) fn load_numbers(alloc: Global, numbers: &[u32]) -> Result<U64Values, ColumnarError>
+    requires { length numbers.now < 2 ^ 32 }
+    ensures ok { IfOk result (λ values. list_of values ≡ numbers.now) }
+    ensures err { IfErr result (λ e. e ≡ refusals.OutOfMemory) }
+{
+    serialize_and_load_u64_values(alloc, &numbers, &[CodecType::Bitpacked])
+}
+
+// Whether numbers rise and stay below a count.
+fn are_rows(num_rows: RowId, rows: &U64Values) -> bool
+    ensures { result ≡ is_row_list num_rows (list_of rows.now) }
+{
+    let mut next = 0;
+    for at in 0..rows.num_vals() {
+        let row = rows.get_val(at);
+        if row < next || row >= u64::from(num_rows) {
+            return false;
+        }
+        next = row + 1;
+    }
+    true
+}

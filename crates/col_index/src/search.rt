@@ -1,0 +1,147 @@
+//! Places in rising lists.
+ghost use Rattle.std.specs.Prelude.{◌≡◌, ◌^◌, ◌-◌, ◌+◌, ◌<◌, true, length, slice_index_or};
+ghost use Rattle.col_model.specs.Ascending.{is_rising};
+ghost use Rattle.col_model.specs.Positions.{rank};
+ghost use Rattle.col_values.specs.Readers.{list_of};
+ghost use Rattle.col_index.specs.Search.{IsNarrowed};
+
+use col_values::U64Values;
+use col_views::ColumnValues;
+
+// How many numbers of the list are below a target, where those below `low` are, and those from
+// `high` on are not: by halves.
+#[inline(never)]
+fn narrow(values: &U64Values, low: u32, high: u32, target: u64) -> u32
+    requires rising { is_rising (list_of values.now) ≡ true }
+    requires narrowed { IsNarrowed (list_of values.now) target low high }
+    ensures { result ≡ rank (list_of values.now) target }
+{
+    let mut low = low;
+    let mut high = high;
+    while low < high {
+        let middle = low + (high - low) / 2;
+        if values.get_val(middle) < target {
+            low = middle + 1;
+        } else {
+            high = middle;
+        }
+    }
+    low
+}
+
+/// How many numbers of a rising list are below a target.
+pub fn rank_in(values: &U64Values, target: u64) -> u32
+    requires { is_rising (list_of values.now) ≡ true }
+    ensures { result ≡ rank (list_of values.now) target }
+{
+    narrow(values, 0, values.num_vals(), target)
+}
+
+/// A place in a rising list: how many numbers are below a target, and the first that isn't, or the
+/// greatest number where there is none.
+#[derive(Clone, Copy)]
+pub struct Place {
+    pub at: u32,
+    pub next: u64,
+    pub target: u64,
+}
+
+impl Place {
+    ghost use Rattle.col_index.specs.Places.{IsPlace};
+
+    /// The place of 0.
+    pub fn first(values: &U64Values) -> Place
+        ensures place { IsPlace (list_of values.now) result }
+        ensures target { result.target ≡ 0 }
+    {
+        Place {
+            at: 0,
+            next: number_at(values, 0),
+            target: 0,
+        }
+    }
+
+    // The place behind the first number that isn't below the target.
+    #[inline(always)]
+    fn step(self, values: &U64Values) -> Place
+        requires rising { is_rising (list_of values.now) ≡ true }
+        requires place { IsPlace (list_of values.now) self }
+        requires number { self.next < 2 ^ 64 - 1 }
+        ensures place { IsPlace (list_of values.now) result }
+        ensures target { result.target ≡ self.next + 1 }
+    {
+        let _count = values.num_vals();
+        let at = self.at + 1;
+        Place {
+            at,
+            next: number_at(values, at),
+            target: self.next + 1,
+        }
+    }
+
+    /// The place of a target; in few steps where it isn't far behind this one.
+    #[inline(always)]
+    pub fn seek(self, values: &U64Values, target: u64) -> Place
+        requires rising { is_rising (list_of values.now) ≡ true }
+        requires place { IsPlace (list_of values.now) self }
+        ensures place { IsPlace (list_of values.now) result }
+        ensures target { result.target ≡ target }
+    {
+        if target < self.target {
+            return Place::of(values, rank_in(values, target), target);
+        }
+        if target <= self.next {
+            return Place { target, ..self };
+        }
+        let behind = self.step(values);
+        if target <= behind.next {
+            return Place { target, ..behind };
+        }
+        Place::of(values, gallop(values, behind.at, target), target)
+    }
+
+    // The place of a target, by how many numbers are below it.
+    fn of(values: &U64Values, at: u32, target: u64) -> Place
+        requires { at ≡ rank (list_of values.now) target }
+        ensures place { IsPlace (list_of values.now) result }
+        ensures target { result.target ≡ target }
+    {
+        Place {
+            at,
+            next: number_at(values, at),
+            target,
+        }
+    }
+}
+
+// The number at an index, or the greatest of 64 bits past the end.
+fn number_at(values: &U64Values, at: u32) -> u64
+    ensures { result ≡ slice_index_or (list_of values.now) at (2 ^ 64 - 1) }
+{
+    if at < values.num_vals() {
+        values.get_val(at)
+    } else {
+        u64::MAX
+    }
+}
+
+// How many numbers are below a target, where those before a place are: in steps that double.
+#[inline(never)]
+fn gallop(values: &U64Values, near: u32, target: u64) -> u32
+    requires rising { is_rising (list_of values.now) ≡ true }
+    requires narrowed { IsNarrowed (list_of values.now) target near (length (list_of values.now)) }
+    ensures { result ≡ rank (list_of values.now) target }
+{
+    let count = values.num_vals();
+    let mut low = near;
+    let mut step = 1;
+    while low < count {
+        let probe = low + (step - 1).min(count - 1 - low);
+        if values.get_val(probe) >= target {
+            return narrow(values, low, probe, target);
+        }
+        low = probe + 1;
+        step = step.saturating_mul(2);
+    }
+    low
+}

@@ -1,0 +1,4 @@
+//! Indexes by examples.
+mod kinds;
+mod openings;
+mod readings;
