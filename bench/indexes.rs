@@ -1,0 +1,456 @@
+// The same indexes in Rust. Where a proof makes a test needless, `unsafe` leaves it out here too.
+mod shared;
+
+use shared::{BLOCK, Bitpacked, Blockwise, Linear, List, best, draws, load, put_vint, take_vint};
+use std::hint::black_box;
+
+const BLOCK_LEN: usize = 1024;
+const NUM_SEGMENTS: usize = 8;
+
+enum Codec { Bitpacked(Bitpacked), Linear(Linear), Blockwise(Blockwise) }
+
+// An ascending list.
+struct Numbers { codec: Codec, count: u32 }
+
+impl Numbers {
+    fn open(bytes: &'static [u8]) -> Option<Numbers> {
+        let (codec, told) = match bytes.first()? {
+            0 => load(bytes).map(|(list, told)| (Codec::Bitpacked(list), told))?,
+            1 => load(bytes).map(|(list, told)| (Codec::Linear(list), told))?,
+            _ => load(bytes).map(|(list, told)| (Codec::Blockwise(list), told))?,
+        };
+        Some(Numbers { codec, count: told.count as u32 })
+    }
+
+    #[inline(always)]
+    fn get(&self, at: u32) -> u64 {
+        match &self.codec {
+            Codec::Bitpacked(list) => list.get(at as usize),
+            Codec::Linear(list) => list.get(at as usize),
+            Codec::Blockwise(list) => list.get(at as usize),
+        }
+    }
+
+    // How many are below a target, by halves. Out of line, which keeps walks short.
+    #[inline(never)]
+    fn narrow(&self, mut low: u32, mut high: u32, target: u64) -> u32 {
+        while low < high {
+            let middle = low + (high - low) / 2;
+            if self.get(middle) < target { low = middle + 1 } else { high = middle }
+        }
+        low
+    }
+
+    fn rank(&self, target: u64) -> u32 { self.narrow(0, self.count, target) }
+
+    // The same in steps that double, where those before a place are below the target.
+    #[inline(never)]
+    fn gallop(&self, mut low: u32, target: u64) -> u32 {
+        let mut step = 1u32;
+        while low < self.count {
+            let probe = low + (step - 1).min(self.count - 1 - low);
+            if self.get(probe) >= target { return self.narrow(low, probe, target); }
+            low = probe + 1;
+            step = step.saturating_mul(2);
+        }
+        low
+    }
+
+    fn place(&self, at: u32, target: u64) -> Place {
+        Place { at, next: if at < self.count { self.get(at) } else { u64::MAX }, target }
+    }
+}
+
+// How many numbers are below a target, and the first that isn't.
+#[derive(Clone, Copy)]
+struct Place { at: u32, next: u64, target: u64 }
+
+impl Place {
+    #[inline(always)]
+    fn seek(self, numbers: &Numbers, target: u64) -> Place {
+        if target < self.target { return numbers.place(numbers.rank(target), target); }
+        if target <= self.next { return Place { target, ..self }; }
+        let behind = numbers.place(self.at + 1, self.next + 1);
+        if target <= behind.next { return Place { target, ..behind }; }
+        numbers.place(numbers.gallop(behind.at, target), target)
+    }
+}
+
+struct Optional { num_rows: u32, rows: Numbers }
+
+impl Optional {
+    fn open(mut bytes: &'static [u8]) -> Option<Optional> {
+        let num_rows = u32::try_from(take_vint(&mut bytes)).ok()?;
+        let rows = Numbers::open(bytes)?;
+        let mut next = 0;
+        for at in 0..rows.count {
+            let row = rows.get(at);
+            if row < next || row >= u64::from(num_rows) { return None; }
+            next = row + 1;
+        }
+        Some(Optional { num_rows, rows })
+    }
+
+    #[inline(always)]
+    fn select(&self, rank: u32) -> u32 { self.rows.get(rank) as u32 }
+
+    fn rank(&self, row: u32) -> u32 { self.rows.rank(u64::from(row)) }
+
+    fn contains(&self, row: u32) -> bool {
+        let rank = self.rank(row);
+        rank < self.rows.count && self.select(rank) == row
+    }
+
+    // Sees those of the documents that have a value, with their ranks.
+    #[inline(always)]
+    fn each_rank(&self, docs: &[u32], mut f: impl FnMut(u32, u32)) {
+        let mut place = self.rows.place(0, 0);
+        for &doc in docs {
+            place = place.seek(&self.rows, u64::from(doc));
+            if place.next == u64::from(doc) { f(doc, place.at) }
+        }
+    }
+
+    #[inline(never)]
+    fn push_ranks(&self, docs: &[u32], out: &mut Pairs) {
+        self.each_rank(docs, |doc, rank| out.push(doc, rank));
+    }
+}
+
+struct Multivalued { rows: Optional, starts: Numbers }
+
+impl Multivalued {
+    fn open(bytes: &'static [u8]) -> Option<Multivalued> {
+        let (parts, len) = bytes.split_last_chunk()?;
+        let (rows, starts) = parts.split_at_checked(u64::from_le_bytes(*len) as usize)?;
+        let rows = Optional::open(rows)?;
+        let starts = Numbers::open(starts)?;
+        if u64::from(starts.count) != u64::from(rows.rows.count) + 1 || starts.get(0) != 0 { return None; }
+        let mut last = 0;
+        for at in 1..starts.count {
+            let start = starts.get(at);
+            if start <= last || start > u64::from(u32::MAX) { return None; }
+            last = start;
+        }
+        Some(Multivalued { rows, starts })
+    }
+
+    #[inline(always)]
+    fn start_at(&self, rank: u32) -> u32 { self.starts.get(rank) as u32 }
+
+    fn num_values(&self, row: u32) -> u32 {
+        if row >= self.rows.num_rows { return 0; }
+        let rank = self.rows.rank(row);
+        let start = self.start_at(rank);
+        if rank >= self.rows.rows.count || self.rows.select(rank) != row { return 0; }
+        self.start_at(rank + 1) - start
+    }
+
+    #[inline(never)]
+    fn push_positions(&self, docs: &[u32], out: &mut Pairs) {
+        self.rows.each_rank(docs, |doc, rank| {
+            for position in self.start_at(rank)..self.start_at(rank + 1) { out.push(doc, position) }
+        });
+    }
+}
+
+enum Index { Optional(Optional), Multivalued(Multivalued) }
+
+impl Index {
+    #[inline(never)]
+    fn open(bytes: &'static [u8]) -> Option<Index> {
+        match bytes.split_first()? {
+            (1, behind) => Optional::open(behind).map(Index::Optional),
+            (2, behind) => Multivalued::open(behind).map(Index::Multivalued),
+            _ => None,
+        }
+    }
+
+    fn set(&self) -> &Optional {
+        match self {
+            Index::Optional(index) => index,
+            Index::Multivalued(index) => &index.rows,
+        }
+    }
+
+    fn push_positions(&self, docs: &[u32], out: &mut Pairs) {
+        match self {
+            Index::Optional(index) => index.push_ranks(docs, out),
+            Index::Multivalued(index) => index.push_positions(docs, out),
+        }
+    }
+
+    fn has_value(&self, row: u32) -> bool { self.set().contains(row) }
+
+    fn num_values(&self, row: u32) -> u32 {
+        match self {
+            Index::Optional(index) => u32::from(index.contains(row)),
+            Index::Multivalued(index) => index.num_values(row),
+        }
+    }
+
+    fn start(&self, place: u64) -> Option<u32> {
+        match self {
+            Index::Optional(index) => (place <= u64::from(index.rows.count)).then_some(place as u32),
+            Index::Multivalued(index) => {
+                (place < u64::from(index.starts.count)).then(|| index.start_at(place as u32))
+            }
+        }
+    }
+
+    fn last_start(&self) -> u32 {
+        match self {
+            Index::Optional(index) => index.rows.count,
+            Index::Multivalued(index) => index.start_at(index.starts.count - 1),
+        }
+    }
+}
+
+#[derive(Default)]
+struct Pairs { docs: Vec<u32>, rows: Vec<u32> }
+
+impl Pairs {
+    #[inline(always)]
+    fn push(&mut self, doc: u32, row: u32) {
+        self.docs.push(doc);
+        self.rows.push(row);
+    }
+
+    fn clear(&mut self) {
+        self.docs.clear();
+        self.rows.clear();
+    }
+
+    fn sum(&self) -> u64 {
+        let last = |list: &[u32]| u64::from(list.last().copied().unwrap_or_default());
+        self.rows.len() as u64 + last(&self.docs) + last(&self.rows)
+    }
+}
+
+#[derive(Clone, Copy, Default)]
+struct Walk { segment: usize, place: u64, sum: u64 }
+
+// A list that is walked from the front.
+trait Walked {
+    fn next(&self, at: &mut Walk) -> Option<u32>;
+
+    #[inline(never)]
+    fn sum(&self) -> u64 {
+        let (mut sum, mut at) = (0u64, Walk::default());
+        while let Some(item) = self.next(&mut at) {
+            sum = sum.wrapping_add(u64::from(item));
+        }
+        sum
+    }
+}
+
+impl Walked for &Optional {
+    #[inline(always)]
+    fn next(&self, at: &mut Walk) -> Option<u32> {
+        if at.place >= u64::from(self.rows.count) { return None; }
+        at.place += 1;
+        Some(self.select(at.place as u32 - 1))
+    }
+}
+
+struct StackedRows<'a>(&'a [Index]);
+
+impl Walked for StackedRows<'_> {
+    #[inline(always)]
+    fn next(&self, at: &mut Walk) -> Option<u32> {
+        while at.segment < self.0.len() {
+            let set = unsafe { self.0.get_unchecked(at.segment) }.set();
+            if at.place < u64::from(set.rows.count) {
+                at.place += 1;
+                return Some(at.sum as u32 + set.select(at.place as u32 - 1));
+            }
+            *at = Walk { segment: at.segment + 1, place: 0, sum: at.sum + u64::from(set.num_rows) };
+        }
+        None
+    }
+}
+
+struct StackedStarts<'a>(&'a [Index]);
+
+impl Walked for StackedStarts<'_> {
+    #[inline(always)]
+    fn next(&self, at: &mut Walk) -> Option<u32> {
+        if at.place == 0 {
+            at.place = 1;
+            return Some(at.sum as u32);
+        }
+        while at.segment < self.0.len() {
+            let index = unsafe { self.0.get_unchecked(at.segment) };
+            if let Some(start) = index.start(at.place) {
+                at.place += 1;
+                return Some(at.sum as u32 + start);
+            }
+            *at = Walk { segment: at.segment + 1, place: 1, sum: at.sum + u64::from(index.last_start()) };
+        }
+        None
+    }
+}
+
+// Rows by segment and row there.
+type Addresses = [(u32, u32)];
+
+struct ShuffledRows<'a>(&'a [Index], &'a Addresses);
+
+impl Walked for ShuffledRows<'_> {
+    #[inline(always)]
+    fn next(&self, at: &mut Walk) -> Option<u32> {
+        while at.place < self.1.len() as u64 {
+            let (segment, row) = unsafe { *self.1.get_unchecked(at.place as usize) };
+            at.place += 1;
+            if unsafe { self.0.get_unchecked(segment as usize) }.has_value(row) {
+                return Some(at.place as u32 - 1);
+            }
+        }
+        None
+    }
+}
+
+struct ShuffledStarts<'a>(&'a [Index], &'a Addresses);
+
+impl Walked for ShuffledStarts<'_> {
+    #[inline(always)]
+    fn next(&self, at: &mut Walk) -> Option<u32> {
+        if at.segment == 0 {
+            at.segment = 1;
+            return Some(0);
+        }
+        while at.place < self.1.len() as u64 {
+            let (segment, row) = unsafe { *self.1.get_unchecked(at.place as usize) };
+            at.place += 1;
+            let count = unsafe { self.0.get_unchecked(segment as usize) }.num_values(row);
+            if count != 0 {
+                at.sum += u64::from(count);
+                return Some(at.sum as u32);
+            }
+        }
+        None
+    }
+}
+
+// Writes a list under Bitpacked or Linear, whichever takes fewer bytes.
+fn put_list(vals: &[u64], out: &mut Vec<u8>) {
+    let mut packed = vec![Bitpacked::CODE];
+    Bitpacked::write(vals, &mut packed);
+    if vals.len() >= BLOCK {
+        let mut linear = vec![Linear::CODE];
+        Linear::write(vals, &mut linear);
+        if linear.len() < packed.len() { packed = linear }
+    }
+    out.extend_from_slice(&packed);
+}
+
+fn set_bytes(num_rows: usize, rows: &[u64]) -> Vec<u8> {
+    let mut out = Vec::new();
+    put_vint(num_rows as u64, &mut out);
+    put_list(rows, &mut out);
+    out
+}
+
+// The bytes of an index of the documents with these draws.
+fn index_bytes(xs: &[u64], density: u64, multivalued: bool) -> &'static [u8] {
+    let (mut rows, mut starts, mut start) = (vec![], vec![], 0);
+    for (doc, x) in xs.iter().enumerate().filter(|(_, x)| **x % 100 < density) {
+        rows.push(doc as u64);
+        starts.push(start);
+        start += 1 + x % 3;
+    }
+    starts.push(start);
+    let set = set_bytes(xs.len(), &rows);
+    let mut out = vec![if multivalued { 2 } else { 1 }];
+    out.extend_from_slice(&set);
+    if multivalued {
+        put_list(&starts, &mut out);
+        out.extend_from_slice(&(set.len() as u64).to_le_bytes());
+    }
+    out.leak()
+}
+
+#[inline(never)]
+fn sum_of_ranks(index: &Optional, rows: &[u32]) -> u64 {
+    rows.iter().fold(0, |sum, row| sum.wrapping_add(u64::from(index.rank(*row))))
+}
+
+#[inline(never)]
+fn sum_by_select(index: &Optional) -> u64 {
+    (0..index.rows.count).fold(0, |sum, rank| sum.wrapping_add(u64::from(index.select(rank))))
+}
+
+// Asks for blocks of documents, into lists that keep their room.
+fn sum_of_blocks(docs: &[u32], out: &mut Pairs, mut ask: impl FnMut(&[u32], &mut Pairs)) -> u64 {
+    docs.chunks(BLOCK_LEN).fold(0, |sum, block| {
+        out.clear();
+        ask(block, out);
+        sum.wrapping_add(out.sum())
+    })
+}
+
+// Prints a line: density, name, nanoseconds, items and sum.
+fn say(density: u64, name: &str, count: usize, (nanos, sum): (u128, u64)) {
+    println!("{density} {name} {nanos} {count} {sum}");
+}
+
+fn measure_positions(density: u64, kind: &str, index: &Index) {
+    let mut out = Pairs::default();
+    let count = index.set().num_rows as usize;
+    for percent in [1, 10, 50] {
+        let picks = draws(count, 2).enumerate().filter(|(_, x)| x % 100 < percent);
+        let docs: Vec<u32> = picks.map(|(doc, _)| doc as u32).collect();
+        let ask = |block: &[u32], out: &mut Pairs| black_box(index).push_positions(block, out);
+        let name = format!("{kind}docids_{percent}");
+        say(density, &name, docs.len(), best(|| sum_of_blocks(black_box(&docs), &mut out, ask)));
+    }
+}
+
+fn measure_open(density: u64, kind: &str, bytes: &'static [u8]) -> Index {
+    let hash = bytes.iter().fold(0u64, |sum, byte| sum.wrapping_mul(31).wrapping_add(u64::from(*byte)));
+    let (nanos, count) = best(|| Index::open(black_box(bytes)).unwrap().set().rows.count as usize);
+    say(density, &format!("{kind}open"), count, (nanos, hash));
+    Index::open(bytes).unwrap()
+}
+
+fn measure_optional(density: u64, xs: &[u64]) {
+    let index = measure_open(density, "", index_bytes(xs, density, false));
+    let set = index.set();
+    let count = xs.len();
+    let random: Vec<u32> = draws(count, 3).map(|x| (x % count as u64) as u32).collect();
+    let all: Vec<u32> = (0..count as u32).collect();
+    let mut out = Pairs::default();
+    say(density, "rank_random", count, best(|| sum_of_ranks(black_box(set), black_box(&random))));
+    let ask = |block: &[u32], out: &mut Pairs| black_box(set).push_ranks(block, out);
+    say(density, "rank_in_order", count, best(|| sum_of_blocks(black_box(&all), &mut out, ask)));
+    let with_value = set.rows.count as usize;
+    say(density, "select_in_order", with_value, best(|| sum_by_select(black_box(set))));
+    say(density, "iter", with_value, best(|| black_box(set).sum()));
+    measure_positions(density, "", &index);
+}
+
+fn measure_merges(density: u64, xs: &[u64]) {
+    let len = xs.len() / NUM_SEGMENTS;
+    let segments = xs.chunks_exact(len).take(NUM_SEGMENTS);
+    let indexes = segments.map(|xs| Index::open(index_bytes(xs, density, true)).unwrap());
+    let indexes: &[Index] = &indexes.collect::<Vec<_>>();
+    let count = len * NUM_SEGMENTS;
+    let address = |at: usize| ((at % NUM_SEGMENTS) as u32, (at / NUM_SEGMENTS) as u32);
+    let addresses: &Addresses = &(0..count).map(address).collect::<Vec<_>>();
+    say(density, "stacked_rows", count, best(|| StackedRows(black_box(indexes)).sum()));
+    say(density, "stacked_starts", count, best(|| StackedStarts(black_box(indexes)).sum()));
+    say(density, "shuffled_rows", count, best(|| ShuffledRows(black_box(indexes), addresses).sum()));
+    say(density, "shuffled_starts", count, best(|| ShuffledStarts(black_box(indexes), addresses).sum()));
+}
+
+fn main() {
+    for word in std::env::args().skip(1) {
+        let xs: Vec<u64> = draws(word.parse().unwrap(), 1).collect();
+        for density in [80, 20, 2] {
+            measure_optional(density, &xs);
+            let index = measure_open(density, "multi_", index_bytes(&xs, density, true));
+            measure_positions(density, "multi_", &index);
+            measure_merges(density, &xs);
+        }
+    }
+}
