@@ -1,42 +1,33 @@
-//! Lists of u64 as bytes: statistics, three codecs with their readers, the choice among them, and values of other types over them.
+//! Values by position: what a list of values can be asked, views of such lists, and maps that keep an order.
 #![tactic(auto)]
 
-mod bitpacked;
-mod blockwise_linear;
-mod buffer;
-mod codec;
-mod codec_type;
-mod column_stats;
-mod estimator;
-mod header;
+mod column_values;
+mod empty_column_values;
 mod laws;
-mod line;
-mod linear;
-mod num_values;
-mod packing;
-mod positions;
-mod serialize;
-mod slope;
-mod stats_collector;
-mod u64_values;
+mod monotonic_column;
+mod monotonic_mapping;
+mod monotonic_mapping_to_internal;
+mod monotonic_mapping_u128;
+mod monotonic_mapping_u64;
+mod values_iter;
+mod vec_column;
 
-pub use bitpacked::{BitpackedCodec, BitpackedCodecEstimator, BitpackedReader};
-pub use blockwise_linear::{BlockwiseLinearCodec, BlockwiseLinearEstimator, BlockwiseLinearReader};
-pub use codec::{ColumnCodec, ColumnCodecEstimator};
-pub use codec_type::{ALL_U64_CODEC_TYPES, CodecType};
-pub use column_stats::ColumnStats;
-pub use estimator::Estimator;
-pub use laws::count_items;
-pub use line::Line;
-pub use linear::{LinearCodec, LinearCodecEstimator, LinearReader};
-pub use num_values::{NumValues, NumView, load_u64_based_column_values, load_u64_values};
-pub use positions::Positions;
-pub use serialize::{
-    serialize_and_load_u64_based_column_values, serialize_and_load_u64_values,
-    serialize_estimated_values, serialize_u64_based_column_values,
+pub use column_values::ColumnValues;
+pub use empty_column_values::EmptyColumnValues;
+pub use laws::{
+    images_are_told, images_reach_down, inverses_lead_back, maps_increase,
+    numbers_of_64_bits_are_read_back, numbers_of_64_bits_increase, numbers_of_128_bits_are_images,
+    numbers_of_128_bits_are_read_back, numbers_of_128_bits_increase,
 };
-pub use stats_collector::{StatsCollector, compute_gcd};
-pub use u64_values::U64Values;
+pub use monotonic_column::{MonotonicColumn, monotonic_map_column};
+pub use monotonic_mapping::StrictlyMonotonicFn;
+pub use monotonic_mapping_to_internal::{
+    StrictlyMonotonicMappingInverter, StrictlyMonotonicMappingToInternal,
+};
+pub use monotonic_mapping_u64::MonotonicallyMappableToU64;
+pub use monotonic_mapping_u128::MonotonicallyMappableToU128;
+pub use values_iter::ValuesIter;
+pub use vec_column::VecColumn;
 
 #[cfg(test)]
 mod tests;

@@ -1,9 +1,5 @@
-//! Lists of u64 under each codec, by examples.
+//! Maps and lists of values by examples.
 
-mod bitpacked;
-mod blockwise_linear;
-mod choice;
-mod line;
-mod linear;
+mod doubling;
 mod lists;
-mod stats;
+mod maps;

@@ -1,0 +1,13 @@
+pub mod ColumnStats
+pub mod Bitpacked
+pub mod CodecTypes
+pub mod Estimators
+pub mod Readers
+pub mod NumValues
+pub mod Written
+pub mod Slope
+pub mod Line
+pub mod Linear
+pub mod Blockwise
+pub mod Blocks
+pub mod Header

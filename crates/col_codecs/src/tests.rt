@@ -1,0 +1,9 @@
+//! Lists of u64 under each codec, by examples.
+
+mod bitpacked;
+mod blockwise_linear;
+mod choice;
+mod line;
+mod linear;
+mod lists;
+mod stats;

@@ -1,4 +1,0 @@
-pub mod HitLemmas
-pub mod OrderLemmas
-pub mod MonotonicLemmas
-pub mod CodeLemmas

@@ -1,6 +1,0 @@
-pub mod Values
-pub mod Bounds
-pub mod Monotonic
-pub mod Codes
-pub mod CodeLaws
-pub mod Laws
