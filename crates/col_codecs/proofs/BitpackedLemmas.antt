@@ -14,11 +14,11 @@ use Rattle.col_model.specs.U64List.{bitpacked_values}
 use Rattle.col_model.proofs.StatsLaws.{map-map, fold-max}
 use Rattle.col_model.proofs.ItemLaws.{packed-items, only_if-then}
 use Rattle.col_model.proofs.OneFormLaws.{same_stats-equal}
-use Rattle.col_values.specs.Header.{list_by}
-use Rattle.col_values.specs.ColumnStats.{Collected, collected_of, IsPossible}
-use Rattle.col_values.specs.Bitpacked.{bitpacked_item, bitpacked_items, IsReader}
-use Rattle.col_values.proofs.StatsLemmas.{collected-count}
-use Rattle.col_values.proofs.StepsLemmas.{steps_stats, same_stats-stepped, same_stats-level}
+use Rattle.col_codecs.specs.Header.{list_by}
+use Rattle.col_codecs.specs.ColumnStats.{Collected, collected_of, IsPossible}
+use Rattle.col_codecs.specs.Bitpacked.{bitpacked_item, bitpacked_items, IsReader}
+use Rattle.col_codecs.proofs.StatsLemmas.{collected-count}
+use Rattle.col_codecs.proofs.StepsLemmas.{steps_stats, same_stats-stepped, same_stats-level}
 
 -- ---- packed items one by one
 

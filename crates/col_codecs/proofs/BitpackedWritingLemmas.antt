@@ -15,10 +15,10 @@ use Rattle.col_model.specs.Codecs.{steps_above, bitpacked_body, bitpacked_estima
 use Rattle.col_model.proofs.StatsLaws.{all_by, mapped_all, all_both}
 use Rattle.col_model.proofs.U64ListLaws.{Describes, stats_of-describes}
 use Rattle.col_model.proofs.WidthLaws.{width-above}
-use Rattle.col_values.specs.Bitpacked.{FitSteps}
-use Rattle.col_values.proofs.PossibleLemmas.{small_by_greatest}
-use Rattle.col_values.proofs.PackingLemmas.{packed_bytes-append}
-use Rattle.col_values.proofs.StatsLemmas.{serializes_as}
+use Rattle.col_codecs.specs.Bitpacked.{FitSteps}
+use Rattle.col_codecs.proofs.PossibleLemmas.{small_by_greatest}
+use Rattle.col_codecs.proofs.PackingLemmas.{packed_bytes-append}
+use Rattle.col_codecs.proofs.StatsLemmas.{serializes_as}
 
 all-take : (P : ℕ → Type 0) (n : ℕ) (xs : List ℕ) → AllByRecursion P xs → AllByRecursion P (take n xs)
 all-take P zero xs all = tt

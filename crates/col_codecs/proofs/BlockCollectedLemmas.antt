@@ -4,9 +4,9 @@ use Rattle.std.specs.Prelude.{Vec}
 use Rattle.std.specs.declared.alloc.Global.{Global}
 use Rattle.std.proofs.lemmas.List.{take_all, take_more_set, length-take-le}
 use Rattle.col_model.specs.Codecs.{block_size, block_estimate, blocks_of}
-use Rattle.col_values.specs.declared.blockwise_linear.estimator.BlockwiseLinearEstimator.{BlockwiseLinearEstimator}
-use Rattle.col_values.specs.Blockwise.{IsCollected}
-use Rattle.col_values.proofs.BlockEstimateLemmas.{estimated, estimated-push, estimated-bound, estimated-last}
+use Rattle.col_codecs.specs.declared.blockwise_linear.estimator.BlockwiseLinearEstimator.{BlockwiseLinearEstimator}
+use Rattle.col_codecs.specs.Blockwise.{IsCollected}
+use Rattle.col_codecs.proofs.BlockEstimateLemmas.{estimated, estimated-push, estimated-bound, estimated-last}
 
 module _ (e : BlockwiseLinearEstimator) (xs : List ℕ) (h : IsCollected e xs) where
   length-held : length (take e.len e.block.items) ≡ e.len

@@ -13,8 +13,8 @@ use Rattle.col_model.specs.U64List.{Slope}
 use Rattle.col_model.specs.Codecs.{block_size, block_estimate, block_line, cut_blocks, blocks_of, block_count, line_len, offsets_from, log2, blockwise_estimate, blockwise_body, blocks_bytes, steps_above}
 use Rattle.col_model.proofs.ReadingLaws.{drop-front}
 use Rattle.col_model.proofs.CutLaws.{block_at, cut_blocks-more, cut_blocks-append}
-use Rattle.col_values.proofs.LineLemmas.{vint_bytes-bound}
-use Rattle.col_values.proofs.WidthLemmas.{width-bound}
+use Rattle.col_codecs.proofs.LineLemmas.{vint_bytes-bound}
+use Rattle.col_codecs.proofs.WidthLemmas.{width-bound}
 
 -- the binary logarithm by leading zeros
 pub log2-zeros : (n : ℕ) → 0 < n → n < 2 ^ 64 → 63 - count_leading_zeros 64 n ≡ log2 n

@@ -8,10 +8,10 @@ use Rattle.col_model.specs.Training.{line_of, less_wrapped}
 use Rattle.col_model.specs.Line.{line}
 use Rattle.col_model.specs.U64List.{Slope}
 use Rattle.col_model.specs.Codecs.{offset_from, offsets_from, block_line}
-use Rattle.col_values.specs.declared.line.Line.{Line}
-use Rattle.col_values.specs.Slope.{slope_of}
-use Rattle.col_values.proofs.StatsLemmas.{fold-max-push}
-use Rattle.col_values.proofs.OffsetLemmas.{by_position-append}
+use Rattle.col_codecs.specs.declared.line.Line.{Line}
+use Rattle.col_codecs.specs.Slope.{slope_of}
+use Rattle.col_codecs.proofs.StatsLemmas.{fold-max-push}
+use Rattle.col_codecs.proofs.OffsetLemmas.{by_position-append}
 
 pub offsets-push : (l : Slope) (xs : List ℕ) (x i : ℕ) → i ≡ length xs → offsets_from l (xs ++ x ∷ []) ≡ offsets_from l xs ++ offset_from l (i, x) ∷ []
 offsets-push l xs x i e =

@@ -6,11 +6,11 @@ use Rattle.std.proofs.lemmas.List.FromFn.{length-map-range_with_len, get_or-map-
 use Rattle.std.proofs.lemmas.Slice.{take-put_mid}
 use borrow.Rule.Slice.PartMut.{put_mid, same_len_mid}
 use Rattle.col_model.specs.Stats.{Stats}
-use Rattle.col_values.specs.declared.blockwise_linear.block.Block.{Block}
-use Rattle.col_values.specs.Blocks.{block_of, step_in, step_of, item_of, items_in}
-use Rattle.col_values.proofs.LinearReaderLemmas.{filled_from, range-part}
-use Rattle.col_values.proofs.BlockStepsLemmas.{range-split}
-use Rattle.col_values.proofs.BlockReaderLemmas.{items_in-is}
+use Rattle.col_codecs.specs.declared.blockwise_linear.block.Block.{Block}
+use Rattle.col_codecs.specs.Blocks.{block_of, step_in, step_of, item_of, items_in}
+use Rattle.col_codecs.proofs.LinearReaderLemmas.{filled_from, range-part}
+use Rattle.col_codecs.proofs.BlockStepsLemmas.{range-split}
+use Rattle.col_codecs.proofs.BlockReaderLemmas.{items_in-is}
 
 -- item i of the blocks
 abbrev pub own_item : Stats → List Block → List ℕ → ℕ → ℕ

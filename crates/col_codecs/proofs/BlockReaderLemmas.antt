@@ -16,13 +16,13 @@ use Rattle.col_model.specs.Codecs.{block_count}
 use Rattle.col_model.proofs.ReadingLaws.{take-front}
 use Rattle.col_model.proofs.StatsLaws.{map-map}
 use Rattle.col_model.proofs.BlockItemLaws.{length-items, blockwise_values-some, blockwise_values-no_parts, blockwise_values-no_lines}
-use Rattle.col_values.specs.declared.blockwise_linear.block.Block.{Block}
-use Rattle.col_values.specs.Header.{list_by}
-use Rattle.col_values.specs.Blocks.{block_slope, block_of, no_block, step_in, step_of, steps_in, item_of, items_in, lines_of, ArePlaced, IsReader}
-use Rattle.col_values.proofs.LinearReaderLemmas.{filled_from}
-use Rattle.col_values.proofs.BoundsLemmas.{same_stats-equal}
-use Rattle.col_values.proofs.BlockStatsLemmas.{item_of-wrapped}
-use Rattle.col_values.proofs.BlockStepsLemmas.{block-found}
+use Rattle.col_codecs.specs.declared.blockwise_linear.block.Block.{Block}
+use Rattle.col_codecs.specs.Header.{list_by}
+use Rattle.col_codecs.specs.Blocks.{block_slope, block_of, no_block, step_in, step_of, steps_in, item_of, items_in, lines_of, ArePlaced, IsReader}
+use Rattle.col_codecs.proofs.LinearReaderLemmas.{filled_from}
+use Rattle.col_codecs.proofs.BoundsLemmas.{same_stats-equal}
+use Rattle.col_codecs.proofs.BlockStatsLemmas.{item_of-wrapped}
+use Rattle.col_codecs.proofs.BlockStepsLemmas.{block-found}
 
 -- ---- items
 

@@ -9,9 +9,9 @@ use Rattle.col_common.proofs.VIntLemmas.{groups-last, more-parts}
 use Rattle.col_bits.specs.Packed.{is_width}
 use Rattle.col_model.specs.Line.{line_at}
 use Rattle.col_model.specs.U64List.{Slope, slope_at, width_at}
-use Rattle.col_values.specs.declared.blockwise_linear.block.Block.{Block}
-use Rattle.col_values.proofs.LinearReaderLemmas.{with_byte, with_line, with_intercept, with_slope, of_width}
-use Rattle.col_values.specs.Blocks.{block_slope, lines_of}
+use Rattle.col_codecs.specs.declared.blockwise_linear.block.Block.{Block}
+use Rattle.col_codecs.proofs.LinearReaderLemmas.{with_byte, with_line, with_intercept, with_slope, of_width}
+use Rattle.col_codecs.specs.Blocks.{block_slope, lines_of}
 
 -- ---- a line takes three bytes at least
 

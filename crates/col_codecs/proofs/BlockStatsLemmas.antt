@@ -13,11 +13,11 @@ use Rattle.col_model.specs.Stats.{Stats, stats_of, same_stats, steps_of}
 use Rattle.col_model.proofs.StatsLaws.{all_by, all_both, all_mapped}
 use Rattle.col_model.proofs.U64ListLaws.{Describes, stats_of-describes}
 use Rattle.col_model.proofs.ItemLaws.{length-linear_items, linear_items-at, linear_items-push}
-use Rattle.col_values.specs.declared.blockwise_linear.block.Block.{Block}
-use Rattle.col_values.specs.ColumnStats.{IsPossible}
-use Rattle.col_values.specs.Blocks.{block_slope, step_in, steps_in_block, item_of, is_whole, own_step}
-use Rattle.col_values.proofs.BoundsLemmas.{same_stats-equal}
-use Rattle.col_values.proofs.StepsLemmas.{steps_stats, same_stats-stepped}
+use Rattle.col_codecs.specs.declared.blockwise_linear.block.Block.{Block}
+use Rattle.col_codecs.specs.ColumnStats.{IsPossible}
+use Rattle.col_codecs.specs.Blocks.{block_slope, step_in, steps_in_block, item_of, is_whole, own_step}
+use Rattle.col_codecs.proofs.BoundsLemmas.{same_stats-equal}
+use Rattle.col_codecs.proofs.StepsLemmas.{steps_stats, same_stats-stepped}
 
 and-false : (b : Bool) → (b && false) ≡ false
 and-false true = refl

@@ -8,9 +8,9 @@ use Rattle.std.proofs.lemmas.List.FromFn.{length-map-range_with_len, get_or-map-
 use Rattle.col_model.specs.Stats.{Stats}
 use Rattle.col_model.specs.Codecs.{block_count}
 use Rattle.col_model.proofs.ItemLaws.{length-linear_items, linear_items-at}
-use Rattle.col_values.specs.declared.blockwise_linear.block.Block.{Block}
-use Rattle.col_values.specs.Blocks.{block_slope, block_of, no_block, step_of, steps_in, steps_in_block, is_whole, own_step}
-use Rattle.col_values.proofs.LinearReaderLemmas.{filled_from}
+use Rattle.col_codecs.specs.declared.blockwise_linear.block.Block.{Block}
+use Rattle.col_codecs.specs.Blocks.{block_slope, block_of, no_block, step_of, steps_in, steps_in_block, is_whole, own_step}
+use Rattle.col_codecs.proofs.LinearReaderLemmas.{filled_from}
 
 pub length-steps_in : (bs : List Block) (bytes : List ℕ) (n : ℕ) → length (steps_in bs bytes n) ≡ n
 unfolding steps_in

@@ -18,8 +18,8 @@ use Rattle.col_model.specs.Codecs.{block_size, cut_blocks, packed_block, lines_b
 use Rattle.col_model.proofs.CutLaws.{joined_lists-push, block_at, cut_blocks-more}
 use Rattle.col_model.proofs.StatsLaws.{least_of-all}
 use Rattle.col_model.proofs.CodecLaws.{block_offsets-fit}
-use Rattle.col_values.specs.Blocks.{IsBlock}
-use Rattle.col_values.proofs.BlockEstimateLemmas.{block_line-width, count-is}
+use Rattle.col_codecs.specs.Blocks.{IsBlock}
+use Rattle.col_codecs.proofs.BlockEstimateLemmas.{block_line-width, count-is}
 
 all_taken : (P : ℕ → Type 0) (n : ℕ) (xs : List ℕ) → AllByRecursion P xs → AllByRecursion P (take n xs)
 all_taken P zero xs all = tt

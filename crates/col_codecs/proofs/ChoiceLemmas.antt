@@ -5,10 +5,10 @@ use Rattle.std.proofs.lemmas.Bool.{and_parts, cases_lt}
 use Rattle.std.proofs.lemmas.Option.{same_Some, none-some}
 use Rattle.std.proofs.lemmas.Bool.Decides.{nat_tests}
 use Rattle.col_model.specs.Codecs.{estimate, is_not_below, chosen_before, chosen_codec}
-use Rattle.col_values.specs.declared.serialize.Candidate.{Candidate}
-use Rattle.col_values.specs.Written.{HasBest}
-use Rattle.col_values.specs.CodecTypes.{code_of}
-use Rattle.col_values.specs.declared.codec_type.CodecType.{CodecType}
+use Rattle.col_codecs.specs.declared.serialize.Candidate.{Candidate}
+use Rattle.col_codecs.specs.Written.{HasBest}
+use Rattle.col_codecs.specs.CodecTypes.{code_of}
+use Rattle.col_codecs.specs.declared.codec_type.CodecType.{CodecType}
 use Rattle.std.proofs.lemmas.List.{take_more, map-append}
 
 -- no codec of a list has an estimate below e

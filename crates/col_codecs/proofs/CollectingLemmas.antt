@@ -3,9 +3,9 @@ use Rattle.std.proofs.Common.{◌≡◌, ℕ, ◌+◌, ◌-◌, ◌<◌, ◌≤�
 use Rattle.std.specs.List.{AllByRecursion}
 use Rattle.col_model.specs.Stats.{stats_of}
 use Rattle.col_model.proofs.StatsLaws.{all_by, fold-max}
-use Rattle.col_values.specs.ColumnStats.{collected_of}
-use Rattle.col_values.proofs.StatsLemmas.{collected-count}
-use Rattle.col_values.specs.ColumnStats.{Collected}
+use Rattle.col_codecs.specs.ColumnStats.{collected_of}
+use Rattle.col_codecs.proofs.StatsLemmas.{collected-count}
+use Rattle.col_codecs.specs.ColumnStats.{Collected}
 
 -- what was collected, and what is left, are the items
 pub record Collecting (P : List ℕ → Type 0) (left items : List ℕ) : Type 0 where

@@ -9,7 +9,7 @@ use Rattle.col_model.specs.Stats.{Stats, stats_of, steps_of, stats_bytes}
 use Rattle.col_model.specs.U64List.{Slope as LineAndWidth}
 use Rattle.col_model.specs.Codecs.{block_size, line_len, packed_len, slope_bytes, offsets_from, packed_offsets, linear_line, linear_estimate, linear_body}
 use Rattle.col_model.proofs.CodecLaws.{linear_line-writable, linear_offsets-fit}
-use Rattle.col_values.proofs.LineLemmas.{vint_bytes-bound}
+use Rattle.col_codecs.proofs.LineLemmas.{vint_bytes-bound}
 
 -- statistics take few bytes
 pub stats_bytes-bound : (s : Stats) → length (stats_bytes s) ≤ 76

@@ -5,7 +5,7 @@ use Rattle.col_model.specs.Stats.{Stats, stats_at, stats_bytes}
 use Rattle.col_model.specs.U64List.{values64}
 use Rattle.col_model.proofs.ReadingLaws.{drop-front}
 use Rattle.col_model.proofs.OneFormLaws.{stats_bytes-stats_at}
-use Rattle.col_values.specs.Header.{list_by}
+use Rattle.col_codecs.specs.Header.{list_by}
 
 -- what stands behind the statistics ends with the bytes
 pub stats_at-behind : (bytes rest : List ℕ) (s : Stats) → IsBytes bytes → stats_at bytes ≡ Some (s, rest) → (length rest ≤ length bytes) × (drop (length bytes - length rest) bytes ≡ rest)

@@ -2,8 +2,8 @@
 use Rattle.std.proofs.Common.{◌≡◌, ℕ, zero, suc, ◌==◌, ◌&&◌, ◌<◌, ◌≤◌, ◌^◌, nat_lt, Bool, true, false, List, [], ◌∷◌, length, map, Option, Some, None, refl, sym, ap, ◌∙◌, arith, subst, slice_index, cond, inl, inr}
 use Rattle.std.specs.Option.{option_map, IfNone}
 use Rattle.std.proofs.lemmas.Option.{none-some}
-use Rattle.col_values.specs.CodecTypes.{code_of}
-use Rattle.col_values.specs.declared.codec_type.CodecType.{CodecType}
+use Rattle.col_codecs.specs.CodecTypes.{code_of}
+use Rattle.col_codecs.specs.declared.codec_type.CodecType.{CodecType}
 use Rattle.std.specs.List.{AllByRecursion, All, list_all}
 use Rattle.std.proofs.lemmas.Bool.{and_parts, and_from, lt-ltb, cases_lt}
 use Rattle.std.proofs.lemmas.List.Elements.{All-from_recursion}
@@ -11,8 +11,8 @@ use Rattle.col_common.specs.Reading.{◌>>=◌, only_if}
 use Rattle.col_model.specs.Stats.{Stats, stats_of, stats_at, same_stats, least_of, greatest_of}
 use Rattle.col_model.specs.U64List.{values64, values_by}
 use Rattle.col_model.proofs.StatsLaws.{all_by, fold-max, fold-max-one, least_of-all}
-use Rattle.col_views.specs.Monotonic.{Passes, AllMapped}
-use Rattle.col_views.specs.Codes.{is_below}
+use Rattle.col_values.specs.Monotonic.{Passes, AllMapped}
+use Rattle.col_values.specs.Codes.{is_below}
 
 module _ (is_image : ℕ → Bool) (downward : (m n : ℕ) → m ≤ n → Passes is_image n → Passes is_image m) where
   all-below : (xs : List ℕ) (top : ℕ) → AllByRecursion (λ x. x ≤ top) xs → is_image top ≡ true → list_all is_image xs ≡ true

@@ -11,8 +11,8 @@ use Rattle.col_model.specs.Stats.{least_of}
 use Rattle.col_model.specs.Training.{less_wrapped, heights, trained_slope, trained_line, line_of}
 use Rattle.col_model.proofs.StatsLaws.{map-map}
 use Rattle.col_model.proofs.TrainingLaws.{less_wrapped-below}
-use Rattle.col_views.proofs.HitLemmas.{front_value}
-use Rattle.col_values.specs.Line.{distance, distances}
+use Rattle.col_values.proofs.HitLemmas.{front_value}
+use Rattle.col_codecs.specs.Line.{distance, distances}
 
 -- ---- values
 

@@ -14,9 +14,9 @@ use Rattle.col_model.specs.U64List.{Slope as LineAndWidth, width_at, slope_at}
 use Rattle.col_model.specs.Items.{is_packed, linear_item, linear_items}
 use Rattle.col_model.proofs.ReadingLaws.{drop-front}
 use Rattle.col_model.proofs.ItemLaws.{linear_values-some, linear_values-none, length-linear_items, linear_items-at, linear_items-push}
-use Rattle.col_values.specs.ColumnStats.{Collected, collected_of}
-use Rattle.col_values.specs.Header.{list_by}
-use Rattle.col_values.proofs.StatsLemmas.{collected-count}
+use Rattle.col_codecs.specs.ColumnStats.{Collected, collected_of}
+use Rattle.col_codecs.specs.Header.{list_by}
+use Rattle.col_codecs.proofs.StatsLemmas.{collected-count}
 
 -- ---- what stands behind a line
 

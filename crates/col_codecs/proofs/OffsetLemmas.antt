@@ -12,7 +12,7 @@ use Rattle.col_common.proofs.SerializingLemmas.{serializes-then, serializes-stop
 use Rattle.col_bits.specs.Packed.{digits, packed_bytes}
 use Rattle.col_model.specs.U64List.{Slope as LineAndWidth}
 use Rattle.col_model.specs.Codecs.{offset_from}
-use Rattle.col_values.proofs.PackingLemmas.{packed_bytes-append}
+use Rattle.col_codecs.proofs.PackingLemmas.{packed_bytes-append}
 
 pub enumerate_from-append : (k : ℕ) (xs ys : List ℕ) → enumerate_from k (xs ++ ys) ≡ enumerate_from k xs ++ enumerate_from (k + length xs) ys
 enumerate_from-append k [] ys = let e : k ≡ k + 0 = omega arith in ap (λ n. enumerate_from n ys) e

@@ -9,7 +9,7 @@ use Rattle.col_common.specs.VInt.{vint}
 use Rattle.col_model.specs.Stats.{Stats, stats_of, stats_at, stats_bytes, steps_of, are_possible, greatest_of}
 use Rattle.col_model.proofs.StatsLaws.{fold-max, all_by}
 use Rattle.col_model.proofs.U64ListLaws.{Describes, stats_of-describes, stats_at-stats_bytes}
-use Rattle.col_values.specs.ColumnStats.{IsPossible}
+use Rattle.col_codecs.specs.ColumnStats.{IsPossible}
 
 -- the statistics of four numbers
 abbrev of_parts : ℕ → ℕ → ℕ → ℕ → Stats

@@ -10,8 +10,8 @@ use Rattle.col_common.specs.declared.error.ColumnarError.{ColumnarError}
 use Rattle.col_model.specs.Stats.{gcd, gcd_of, least_of, greatest_of, at_least_one, stats_of, stats_bytes, steps_of}
 use Rattle.col_model.proofs.StatsLaws.{IsGcd-gcd}
 use Rattle.col_model.proofs.CollectLaws.{gcd_of-push}
-use Rattle.col_values.specs.ColumnStats.{Collected, collected_of, stats_seen}
-use Rattle.col_values.specs.declared.column_stats.ColumnStats.{ColumnStats}
+use Rattle.col_codecs.specs.ColumnStats.{Collected, collected_of, stats_seen}
+use Rattle.col_codecs.specs.declared.column_stats.ColumnStats.{ColumnStats}
 
 -- one step by a remainder
 pub gcd-step : (a b : ℕ) → 0 < b → gcd b (a % b) ≡ gcd a b

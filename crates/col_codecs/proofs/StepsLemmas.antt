@@ -9,7 +9,7 @@ use Rattle.std.proofs.Math.Nat.{mul-sub, mul-dvd-mul_left, dvd_of_mul-dvd-mul_le
 use Rattle.col_model.specs.Stats.{Stats, stats_of, same_stats, steps_of, gcd_of, least_of, greatest_of, at_least_one}
 use Rattle.col_model.proofs.StatsLaws.{all_by, all_mapped, mapped_all, map-map, fold-gcd, fold-max-one, zeros-gcd, least_of-all}
 use Rattle.col_model.proofs.CollectLaws.{divides-gcd_of}
-use Rattle.col_values.specs.ColumnStats.{IsPossible}
+use Rattle.col_codecs.specs.ColumnStats.{IsPossible}
 
 map_alike : (f g : ℕ → ℕ) → ((x : ℕ) → f x ≡ g x) → (xs : List ℕ) → map f xs ≡ map g xs
 map_alike f g e [] = refl

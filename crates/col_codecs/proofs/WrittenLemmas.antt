@@ -8,7 +8,7 @@ use Rattle.col_common.specs.declared.error.ColumnarError.{ColumnarError}
 use Rattle.col_model.specs.Codecs.{chosen_codec, codec_bytes, body_by}
 use Rattle.col_common.proofs.SerializingLemmas.{serializes-then}
 use Rattle.col_model.proofs.ChosenLaws.{values64-chosen}
-use Rattle.col_values.specs.Written.{AppendsList}
+use Rattle.col_codecs.specs.Written.{AppendsList}
 
 -- what is said of a value that is there
 pub at_some : {X : Type 0} (P : X → Type 0) (o : Option X) (x : X) → o ≡ Some x → P x → IfSome o P

@@ -6,9 +6,9 @@ use Rattle.col_common.specs.Reading.{◌>>=◌, nothing_left, items}
 use Rattle.col_model.specs.U64List.{Slope, slope_at}
 use Rattle.col_model.specs.Codecs.{block_size, block_count}
 use Rattle.col_model.specs.Items.{linear_item, linear_items, block_start}
-use Rattle.col_values.specs.declared.line.Line.{Line}
-use Rattle.col_values.specs.declared.blockwise_linear.block.Block.{Block}
-use Rattle.col_values.specs.Line.{with_width}
+use Rattle.col_codecs.specs.declared.line.Line.{Line}
+use Rattle.col_codecs.specs.declared.blockwise_linear.block.Block.{Block}
+use Rattle.col_codecs.specs.Line.{with_width}
 
 -- the values of a block of a list with these statistics, none of which is below the least
 pub record IsBlock (s : Stats) (values : List ℕ) : Type 0 where

@@ -1,7 +1,7 @@
 -- Lists under BlockwiseLinear: what is collected for an estimate.
 use Rattle.std.specs.Prelude.{◌≡◌, ◌<◌, ℕ, ◌*◌, List, ◌++◌, length, take, map, sum}
 use Rattle.col_model.specs.Codecs.{block_size, block_estimate, blocks_of, cut_blocks}
-use Rattle.col_values.specs.declared.blockwise_linear.estimator.BlockwiseLinearEstimator.{BlockwiseLinearEstimator}
+use Rattle.col_codecs.specs.declared.blockwise_linear.estimator.BlockwiseLinearEstimator.{BlockwiseLinearEstimator}
 
 -- The estimate of whole blocks is made; the values behind them stand at the buffer's front.
 pub record IsCollected (e : BlockwiseLinearEstimator) (xs : List ℕ) : Type 0 where

@@ -1,7 +1,7 @@
 -- What the codecs stand for. States docs/FORMAT.md, section 4.
 use Rattle.std.specs.Prelude.{ℕ}
-use Rattle.col_values.specs.declared.codec_type.CodecType.{CodecType}
-use Rattle.col_values.specs.declared.codec_type.CodecType.TheVariants.{Bitpacked, Linear, BlockwiseLinear}
+use Rattle.col_codecs.specs.declared.codec_type.CodecType.{CodecType}
+use Rattle.col_codecs.specs.declared.codec_type.CodecType.TheVariants.{Bitpacked, Linear, BlockwiseLinear}
 
 -- the code of a codec
 abbrev pub code_of : CodecType → ℕ

@@ -1,7 +1,7 @@
 -- What statistics and their collector stand for.
 use Rattle.std.specs.Prelude.{◌≡◌, ◌≤◌, ◌<◌, ℕ, ◌+◌, ◌-◌, ◌*◌, List, length, map}
 use Rattle.col_model.specs.Stats.{Stats, least_of, greatest_of, gcd_of, steps_of}
-use Rattle.col_values.specs.declared.column_stats.ColumnStats.{ColumnStats}
+use Rattle.col_codecs.specs.declared.column_stats.ColumnStats.{ColumnStats}
 
 -- the statistics that are held
 abbrev pub stats_seen : ColumnStats → Stats

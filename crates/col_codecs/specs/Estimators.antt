@@ -1,9 +1,9 @@
 -- What the estimators of all codecs have collected.
 use Rattle.std.specs.Prelude.{ℕ, List}
-use Rattle.col_values.specs.declared.estimator.Estimator.{Estimator}
-use Rattle.col_values.specs.declared.estimator.Estimator.TheVariants.{Bitpacked, Linear, BlockwiseLinear}
-use Rattle.col_values.specs.Linear as linear
-use Rattle.col_values.specs.Blockwise as blockwise
+use Rattle.col_codecs.specs.declared.estimator.Estimator.{Estimator}
+use Rattle.col_codecs.specs.declared.estimator.Estimator.TheVariants.{Bitpacked, Linear, BlockwiseLinear}
+use Rattle.col_codecs.specs.Linear as linear
+use Rattle.col_codecs.specs.Blockwise as blockwise
 
 -- the code of the codec
 abbrev pub estimator_code : Estimator → ℕ

@@ -3,7 +3,7 @@ use Rattle.std.specs.Prelude.{ℕ, List, map}
 use Rattle.col_model.specs.Line.{line}
 use Rattle.col_model.specs.Training.{less_wrapped}
 use Rattle.col_model.specs.U64List.{Slope as LineAndWidth}
-use Rattle.col_values.specs.declared.line.Line.{Line}
+use Rattle.col_codecs.specs.declared.line.Line.{Line}
 
 -- slope and intercept
 abbrev pub line_seen : Line → ℕ × ℕ

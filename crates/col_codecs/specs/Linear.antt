@@ -3,9 +3,9 @@ use Rattle.std.specs.Prelude.{◌≡◌, ◌≤◌, ℕ, List, length, take}
 use Rattle.col_model.specs.Stats.{least_of, greatest_of}
 use Rattle.col_model.specs.Training.{line_of}
 use Rattle.col_model.specs.Codecs.{block_size, deviations, linear_line}
-use Rattle.col_values.specs.Line.{line_seen}
-use Rattle.col_values.specs.Slope.{slope_seen}
-use Rattle.col_values.specs.declared.linear.estimator.LinearCodecEstimator.{LinearCodecEstimator}
+use Rattle.col_codecs.specs.Line.{line_seen}
+use Rattle.col_codecs.specs.Slope.{slope_seen}
+use Rattle.col_codecs.specs.declared.linear.estimator.LinearCodecEstimator.{LinearCodecEstimator}
 
 -- the line that is trained on the first values
 abbrev pub first_line : List ℕ → ℕ × ℕ

@@ -2,8 +2,8 @@
 use Rattle.std.specs.Prelude.{◌≡◌, ℕ, Bool, List, [], Option}
 use Rattle.std.specs.List.{list_all}
 use Rattle.col_common.specs.Reading.{only_if}
-use Rattle.col_values.specs.declared.num_values.NumValues.{NumValues}
-use Rattle.col_values.specs.declared.num_values.NumValues.TheVariants.{Read, Empty}
+use Rattle.col_codecs.specs.declared.num_values.NumValues.{NumValues}
+use Rattle.col_codecs.specs.declared.num_values.NumValues.TheVariants.{Read, Empty}
 
 -- the values, in order
 abbrev pub num_values_of : {T : Type 0} → NumValues T → List T

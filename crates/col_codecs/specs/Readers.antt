@@ -1,7 +1,7 @@
 -- What the readers of all codecs mean.
 use Rattle.std.specs.Prelude.{ℕ, List}
-use Rattle.col_values.specs.declared.u64_values.U64Values.{U64Values}
-use Rattle.col_values.specs.declared.u64_values.U64Values.TheVariants.{Bitpacked, Linear, BlockwiseLinear}
+use Rattle.col_codecs.specs.declared.u64_values.U64Values.{U64Values}
+use Rattle.col_codecs.specs.declared.u64_values.U64Values.TheVariants.{Bitpacked, Linear, BlockwiseLinear}
 
 -- the values, in order
 abbrev pub list_of : U64Values → List ℕ

@@ -1,7 +1,7 @@
 -- A line with the width of the offsets from it.
 use Rattle.col_model.specs.U64List.{Slope as LineAndWidth}
-use Rattle.col_values.specs.declared.line.Line.{Line}
-use Rattle.col_values.specs.declared.slope.Slope.{Slope}
+use Rattle.col_codecs.specs.declared.line.Line.{Line}
+use Rattle.col_codecs.specs.declared.slope.Slope.{Slope}
 
 -- a line, of which no width is known
 abbrev pub slope_of : Line → LineAndWidth

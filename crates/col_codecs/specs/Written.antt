@@ -5,8 +5,8 @@ use Rattle.col_common.specs.declared.error.ColumnarError.{ColumnarError}
 use Rattle.col_common.specs.declared.error.ColumnarError.TheVariants.{NoCodec, TooLarge}
 use Rattle.col_model.specs.U64List.{values64}
 use Rattle.col_model.specs.Codecs.{chosen_codec, estimate}
-use Rattle.col_values.specs.declared.serialize.Candidate.{Candidate}
-use Rattle.col_values.specs.Estimators.{estimator_code, HasFinalized}
+use Rattle.col_codecs.specs.declared.serialize.Candidate.{Candidate}
+use Rattle.col_codecs.specs.Estimators.{estimator_code, HasFinalized}
 
 -- bytes were added that stand for the list
 abbrev pub AppendsList : Told → Told → List ℕ → Type 0

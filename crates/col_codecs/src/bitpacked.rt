@@ -6,9 +6,9 @@ ghost use Rattle.col_common.specs.Serializing.{Serializes};
 ghost use Rattle.col_bits.specs.Packed.{items, packed_bytes, width};
 ghost use Rattle.col_model.specs.Stats.{stats_of, steps_of, same_stats, least_of, greatest_of};
 ghost use Rattle.col_model.specs.Codecs.{block_size, steps_above};
-ghost use Rattle.col_values.specs.ColumnStats.{stats_seen, collected_of, IsPossible};
-ghost use Rattle.col_values.specs.Header.{list_by};
-ghost use Rattle.col_values.specs.Bitpacked.{bitpacked_items, FitSteps};
+ghost use Rattle.col_codecs.specs.ColumnStats.{stats_seen, collected_of, IsPossible};
+ghost use Rattle.col_codecs.specs.Header.{list_by};
+ghost use Rattle.col_codecs.specs.Bitpacked.{bitpacked_items, FitSteps};
 
 use crate::codec::{ColumnCodec, ColumnCodecEstimator};
 use crate::column_stats::ColumnStats;
@@ -18,7 +18,7 @@ use crate::stats_collector::StatsCollector;
 use bytes::Bytes;
 use col_bits::{BitUnpacker, compute_num_bits};
 use col_common::{ColumnarError, Iterable, Sink, serialize_bytes};
-use col_views::ColumnValues;
+use col_values::ColumnValues;
 use std::alloc::Global;
 use std::marker::Model;
 
@@ -38,8 +38,8 @@ pub struct BitpackedReader {
 
 impl Model for BitpackedReader {
     ghost use Rattle.std.specs.Prelude.{List, ℕ};
-    ghost use Rattle.col_values.specs.ColumnStats.{stats_seen};
-    ghost use Rattle.col_values.specs.Bitpacked.{bitpacked_items, IsReader};
+    ghost use Rattle.col_codecs.specs.ColumnStats.{stats_seen};
+    ghost use Rattle.col_codecs.specs.Bitpacked.{bitpacked_items, IsReader};
 
     ghost Value = { List ℕ };
 

@@ -5,12 +5,12 @@ ghost use Rattle.col_common.specs.Serializing.{Serializes, Stopped};
 ghost use Rattle.col_model.specs.Stats.{stats_of};
 ghost use Rattle.col_model.specs.U64List.{values64};
 ghost use Rattle.col_model.specs.Codecs.{estimate, body_by};
-ghost use Rattle.col_values.specs.ColumnStats.{stats_seen};
+ghost use Rattle.col_codecs.specs.ColumnStats.{stats_seen};
 
 use crate::ColumnStats;
 use bytes::Bytes;
 use col_common::{ColumnarError, Iterable, Sink};
-use col_views::ColumnValues;
+use col_values::ColumnValues;
 use std::alloc::Global;
 
 /// Gathers what a codec has to know of a list, in a first pass, tells how long the list's bytes would be,

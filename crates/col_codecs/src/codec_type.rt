@@ -26,8 +26,8 @@ pub const ALL_U64_CODEC_TYPES: [CodecType; 3] = [
 ];
 
 impl CodecType {
-    ghost use Rattle.col_values.specs.CodecTypes.{code_of};
-    ghost use Rattle.col_values.specs.Estimators.{estimator_code, HasCollected};
+    ghost use Rattle.col_codecs.specs.CodecTypes.{code_of};
+    ghost use Rattle.col_codecs.specs.Estimators.{estimator_code, HasCollected};
 
     /// The code that a file names the codec by.
     pub fn to_code(self) -> u8

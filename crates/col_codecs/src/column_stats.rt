@@ -5,7 +5,7 @@ ghost use Rattle.col_common.specs.Reading.{only_if};
 ghost use Rattle.col_common.specs.Serializing.{Serializes};
 ghost use Rattle.col_common.specs.VInt.{vint_bytes};
 ghost use Rattle.col_model.specs.Stats.{stats_at, stats_bytes, steps_of, same_stats, are_possible};
-ghost use Rattle.col_values.specs.ColumnStats.{stats_seen, IsPossible};
+ghost use Rattle.col_codecs.specs.ColumnStats.{stats_seen, IsPossible};
 
 use col_common::{ColumnarError, InvalidData, RowId, Sink, VInt, read_vint};
 

@@ -17,7 +17,7 @@ pub enum Estimator {
 }
 
 impl ColumnCodecEstimator for Estimator {
-    ghost use Rattle.col_values.specs.Estimators.{estimator_code, HasCollected, HasFinalized};
+    ghost use Rattle.col_codecs.specs.Estimators.{estimator_code, HasCollected, HasFinalized};
 
     ghost code = { estimator_code };
 
@@ -79,7 +79,7 @@ fn collect_each<E: ColumnCodecEstimator, I: Iterable<u64>>(estimator: &mut E, va
 }
 
 impl Estimator {
-    ghost use Rattle.col_values.specs.Estimators.{estimator_code, HasCollected, HasFinalized};
+    ghost use Rattle.col_codecs.specs.Estimators.{estimator_code, HasCollected, HasFinalized};
 
     /// The codec's code.
     pub fn to_code(&self) -> u8

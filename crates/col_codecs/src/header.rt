@@ -1,7 +1,7 @@
 //! Statistics in front of a list.
 ghost use Rattle.std.specs.Prelude.{◌≡◌, ◌≤◌, drop, length, option_map, IfSome};
 ghost use Rattle.col_model.specs.Stats.{stats_at};
-ghost use Rattle.col_values.specs.ColumnStats.{stats_seen, IsPossible};
+ghost use Rattle.col_codecs.specs.ColumnStats.{stats_seen, IsPossible};
 
 use crate::column_stats::ColumnStats;
 use bytes::Bytes;

@@ -2,7 +2,7 @@
 ghost use Rattle.std.specs.Prelude.{◌≡◌, length};
 
 use col_common::Iterable;
-use col_views::ColumnValues;
+use col_values::ColumnValues;
 
 /// How many items an iterator gives before it ends: as many as the list has.
 pub fn count_items<T: PartialOrd + Copy, V: ColumnValues<T>>(values: &V) -> u64

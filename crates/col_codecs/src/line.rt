@@ -6,12 +6,12 @@ ghost use Rattle.col_common.specs.Serializing.{Serializes};
 ghost use Rattle.col_common.specs.VInt.{vint_bytes};
 ghost use Rattle.col_model.specs.Line.{line, line_at};
 ghost use Rattle.col_model.specs.Training.{trained_slope, rise, fall, trained_line, line_of};
-ghost use Rattle.col_values.specs.Line.{line_seen, distance, distances};
+ghost use Rattle.col_codecs.specs.Line.{line_seen, distance, distances};
 
 use crate::column_stats::serialize_two;
 use crate::positions::Positions;
 use col_common::{ColumnarError, InvalidData, Iterable, Sink, VInt, read_vint};
-use col_views::ColumnValues;
+use col_values::ColumnValues;
 
 // How far below the first value the mark lies that heights are measured from.
 const MARK_BELOW_FIRST: u64 = u32::MAX as u64;

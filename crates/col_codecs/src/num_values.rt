@@ -4,14 +4,14 @@ ghost use Rattle.std.specs.List.{AllByRecursion, list_all};
 ghost use Rattle.col_common.specs.Decoding.{Decodes};
 ghost use Rattle.col_model.specs.Images.{images64};
 ghost use Rattle.col_model.specs.U64List.{values64};
-ghost use Rattle.col_values.specs.NumValues.{num_values_of, images_of};
-ghost use Rattle.col_values.specs.Readers.{list_of};
-ghost use Rattle.col_values.specs.CodecTypes.{code_of};
+ghost use Rattle.col_codecs.specs.NumValues.{num_values_of, images_of};
+ghost use Rattle.col_codecs.specs.Readers.{list_of};
+ghost use Rattle.col_codecs.specs.CodecTypes.{code_of};
 
 use crate::{BitpackedCodec, BlockwiseLinearCodec, CodecType, ColumnCodec, LinearCodec, U64Values};
 use bytes::Bytes;
 use col_common::ColumnarError;
-use col_views::{
+use col_values::{
     ColumnValues, EmptyColumnValues, MonotonicColumn, MonotonicallyMappableToU64,
     StrictlyMonotonicMappingInverter, StrictlyMonotonicMappingToInternal, monotonic_map_column,
 };
@@ -33,7 +33,7 @@ pub enum NumValues<T: MonotonicallyMappableToU64> {
 }
 
 impl<T: MonotonicallyMappableToU64 + Default> ColumnValues<T> for NumValues<T> {
-    ghost use Rattle.col_values.specs.NumValues.{num_values_of, IsLow, IsHigh};
+    ghost use Rattle.col_codecs.specs.NumValues.{num_values_of, IsLow, IsHigh};
 
     ghost values = { num_values_of };
 
@@ -94,9 +94,9 @@ fn see_as<T: MonotonicallyMappableToU64 + Default>(
 }
 
 impl CodecType {
-    ghost use Rattle.col_values.specs.CodecTypes.{code_of};
-    ghost use Rattle.col_values.specs.Readers.{list_of};
-    ghost use Rattle.col_values.specs.NumValues.{num_values_of};
+    ghost use Rattle.col_codecs.specs.CodecTypes.{code_of};
+    ghost use Rattle.col_codecs.specs.Readers.{list_of};
+    ghost use Rattle.col_codecs.specs.NumValues.{num_values_of};
 
     /// Reads the bytes behind the codec's code.
     pub fn load_u64(self, alloc: Global, bytes: Bytes) -> Result<U64Values, ColumnarError>

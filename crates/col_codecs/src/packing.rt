@@ -2,7 +2,7 @@
 ghost use Rattle.std.specs.Prelude.{◌≡◌, ◌<◌, ◌≤◌, ◌^◌, ◌++◌, length, take, drop, min, OnOk};
 ghost use Rattle.col_model.specs.Codecs.{steps_above};
 ghost use Rattle.col_model.specs.Items.{is_packed};
-ghost use Rattle.col_values.specs.ColumnStats.{stats_seen};
+ghost use Rattle.col_codecs.specs.ColumnStats.{stats_seen};
 ghost use Rattle.std.specs.List.{AllByRecursion};
 ghost use Rattle.col_bits.specs.Packed.{packed_bytes};
 

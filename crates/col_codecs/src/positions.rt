@@ -3,7 +3,7 @@ ghost use Rattle.std.specs.Prelude.{◌≤◌, drop, length};
 ghost use Rattle.std.specs.List.{enumerate_from};
 
 use col_common::{Iterable, Walk};
-use col_views::ColumnValues;
+use col_values::ColumnValues;
 
 /// A list's values with their positions, one after another; `place` of a walk is the next position.
 #[derive(Clone, Copy)]

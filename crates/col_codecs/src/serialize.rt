@@ -2,16 +2,16 @@
 ghost use Rattle.std.specs.Prelude.{◌≡◌, ◌≤◌, ◌<◌, ◌^◌, ℕ, List, [], ◌∷◌, ◌++◌, map, length, option_map, ◌⊎◌, Some, None, Err, IfOk, IfErr, IfSome, IfNone, OnOk};
 ghost use Rattle.std.specs.List.{AllByRecursion};
 ghost use Rattle.col_common.specs.Decoding.{Decodes};
-ghost use Rattle.col_values.specs.NumValues.{num_values_of, images_of};
-ghost use Rattle.col_values.specs.Readers.{list_of};
+ghost use Rattle.col_codecs.specs.NumValues.{num_values_of, images_of};
+ghost use Rattle.col_codecs.specs.Readers.{list_of};
 ghost use Rattle.col_common.specs.Serializing.{Serializes, Stopped};
 ghost use Rattle.col_model.specs.Stats.{stats_of};
 ghost use Rattle.col_model.specs.U64List.{values64};
 ghost use Rattle.col_model.specs.Codecs.{chosen_codec, codec_bytes, estimate};
-ghost use Rattle.col_values.specs.ColumnStats.{stats_seen};
-ghost use Rattle.col_values.specs.CodecTypes.{code_of};
-ghost use Rattle.col_values.specs.Written.{done, list_refusal, AppendsList, HasBest};
-ghost use Rattle.col_values.specs.Estimators.{estimator_code, HasFinalized};
+ghost use Rattle.col_codecs.specs.ColumnStats.{stats_seen};
+ghost use Rattle.col_codecs.specs.CodecTypes.{code_of};
+ghost use Rattle.col_codecs.specs.Written.{done, list_refusal, AppendsList, HasBest};
+ghost use Rattle.col_codecs.specs.Estimators.{estimator_code, HasFinalized};
 ghost use Rattle.col_common.specs.declared.error.ColumnarError.TheVariants as refusals;
 
 use crate::buffer::Buffer;
@@ -21,7 +21,7 @@ use crate::{
 };
 use bytes::Bytes;
 use col_common::{ColumnarError, Iterable, Sink, Walk, serialize_bytes};
-use col_views::MonotonicallyMappableToU64;
+use col_values::MonotonicallyMappableToU64;
 use std::alloc::Global;
 use std::marker::PhantomData;
 

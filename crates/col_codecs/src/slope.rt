@@ -29,7 +29,7 @@ fn is_width(width: u8) -> bool
 }
 
 impl Slope {
-    ghost use Rattle.col_values.specs.Slope.{slope_seen};
+    ghost use Rattle.col_codecs.specs.Slope.{slope_seen};
 
     /// The line and the width byte at the front, and the bytes behind them.
     #[tactic(auto, unfolding(col_model::specs::U64List::slope_at))]

@@ -1,7 +1,7 @@
 //! Statistics of values that come one by one.
 ghost use Rattle.std.specs.Prelude.{◌≡◌, ◌==◌, ◌<◌, ◌+◌, ◌^◌, ℕ, List, [], ◌∷◌, ◌++◌, length};
 ghost use Rattle.col_model.specs.Stats.{stats_of, gcd};
-ghost use Rattle.col_values.specs.ColumnStats.{stats_seen, Collected, collected_of};
+ghost use Rattle.col_codecs.specs.ColumnStats.{stats_seen, Collected, collected_of};
 
 use crate::column_stats::ColumnStats;
 use col_common::RowId;

@@ -4,7 +4,7 @@ ghost use Rattle.col_model.specs.Stats.{least_of, greatest_of};
 
 use crate::{BitpackedReader, BlockwiseLinearReader, LinearReader};
 use col_common::{ColumnarError, RowId};
-use col_views::ColumnValues;
+use col_values::ColumnValues;
 use std::alloc::Global;
 use std::ops::Range;
 
@@ -17,7 +17,7 @@ pub enum U64Values {
 }
 
 impl U64Values {
-    ghost use Rattle.col_values.specs.Readers.{list_of};
+    ghost use Rattle.col_codecs.specs.Readers.{list_of};
 
     /// The same list once more, which shares its bytes.
     pub fn try_clone(&self, alloc: Global) -> Result<U64Values, ColumnarError>
@@ -35,7 +35,7 @@ impl U64Values {
 }
 
 impl ColumnValues<u64> for U64Values {
-    ghost use Rattle.col_values.specs.Readers.{list_of};
+    ghost use Rattle.col_codecs.specs.Readers.{list_of};
 
     ghost values = { list_of };
 

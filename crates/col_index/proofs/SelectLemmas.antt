@@ -1,7 +1,7 @@
 -- Ranks that are replaced by their rows, one after another.
 use Rattle.std.proofs.Common.{◌≡◌, ℕ, ◌+◌, ◌<◌, List, [], ◌∷◌, ◌++◌, length, map, take, drop, set, get_or, slice_get, Some, sym, ap, ◌∙◌, arith}
 use Rattle.std.proofs.lemmas.List.{get_or-drop, drop-drop, drop-set-lt, take_more, take_more_set, map-append}
-use Rattle.col_views.specs.Values.{AreBelow}
+use Rattle.col_values.specs.Values.{AreBelow}
 
 module _ (rows old xs : List ℕ) (at : ℕ) (h : at < length old) (rest : drop at xs ≡ drop at old) where
   -- what isn't replaced yet is the same

@@ -8,7 +8,7 @@ use Rattle.std.proofs.lemmas.List.Elements.{All-from_recursion}
 use Rattle.col_model.specs.Ascending.{is_rising}
 use Rattle.col_model.specs.Index.{RowSet, set_counts}
 use Rattle.col_model.specs.Positions.{rank, start_of, is_in_row, rows_at}
-use Rattle.col_views.specs.Values.{AreBelow}
+use Rattle.col_values.specs.Values.{AreBelow}
 use Rattle.col_index.specs.Sets.{AreRows, holds}
 use Rattle.col_index.proofs.RankLaws.{rows_rise, rank-at, below_rank, from_rank, tail_rises}
 use Rattle.col_index.proofs.SpreadLaws.{all_below}

@@ -5,7 +5,7 @@ use Rattle.std.proofs.lemmas.Bool.{and_parts, lt-ltb, le-ltb, ltb-true, eqb-true
 use Rattle.std.proofs.Math.Bool.{and-true}
 use Rattle.std.proofs.lemmas.Option.{get_or_from_slice_get, slice_get_within}
 use Rattle.std.proofs.lemmas.List.Sums.{AllPass-from_list_all}
-use Rattle.col_views.specs.Values.{AreBelow}
+use Rattle.col_values.specs.Values.{AreBelow}
 use Rattle.col_model.specs.Ascending.{is_rising}
 use Rattle.col_model.specs.Index.{are_offsets}
 use Rattle.col_index.specs.Offsets.{is_start_list}

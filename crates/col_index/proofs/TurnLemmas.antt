@@ -4,7 +4,7 @@ use Rattle.std.proofs.lemmas.Option.{get_or_from_slice_get}
 use Rattle.col_model.specs.Ascending.{is_rising}
 use Rattle.col_model.specs.Index.{RowOffsets, offset_counts}
 use Rattle.col_model.specs.Positions.{rank, rows_at}
-use Rattle.col_views.specs.Values.{AreBelow}
+use Rattle.col_values.specs.Values.{AreBelow}
 use Rattle.col_index.specs.declared.search.Place.{Place}
 use Rattle.col_index.specs.Offsets.{AreOffsets}
 use Rattle.col_index.specs.Places.{IsPlace}

@@ -2,7 +2,7 @@
 ghost use Rattle.std.specs.Prelude.{◌≡◌, ◌≤◌, ◌<◌, ◌^◌, length, sum, slice_get};
 ghost use Rattle.std.specs.List.{range_with_len};
 ghost use Rattle.col_model.specs.Positions.{rows_with_value, starts_of};
-ghost use Rattle.col_values.specs.Readers.{list_of};
+ghost use Rattle.col_codecs.specs.Readers.{list_of};
 ghost use Rattle.col_index.specs.Counted.{counts_in};
 ghost use Rattle.col_index.specs.Indexes.{shape_of};
 ghost use Rattle.col_common.specs.Walks.{IsNext};
@@ -12,8 +12,8 @@ ghost use Rattle.col_index.specs.Stacks.{StandsAtRow, rows_left, StandsAtOffset,
 use crate::{ColumnIndex, NonNullDocs};
 use col_common::{Iterable, RowId, Walk};
 use col_order::StackMergeOrder;
-use col_values::U64Values;
-use col_views::ColumnValues;
+use col_codecs::U64Values;
+use col_values::ColumnValues;
 use std::marker::Model;
 
 /// The rows with a value of indexes one behind another. Contracts see the indexes' shapes and their

@@ -6,7 +6,7 @@ ghost use Rattle.col_index.specs.MultiValues.{counts_of};
 
 use crate::{MultiValueIndex, ShuffledStartOffsets, StackedStartOffsets};
 use col_common::{Iterable, RowId, Walk};
-use col_views::ColumnValues;
+use col_values::ColumnValues;
 
 /// Start offsets: a list, those of an index, or merged ones.
 #[derive(Drop)]

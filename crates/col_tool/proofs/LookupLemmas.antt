@@ -10,8 +10,8 @@ use Rattle.std.proofs.Math.Bool.{or-false}
 use Rattle.col_model.specs.FullColumns.{full_content}
 use Rattle.col_model.specs.Lookup.{docs_between, is_between, row_of}
 use Rattle.col_model.specs.Table.{number}
-use Rattle.col_views.specs.Codes.{number_cmp}
-use Rattle.col_views.specs.Values as values
+use Rattle.col_values.specs.Codes.{number_cmp}
+use Rattle.col_values.specs.Values as values
 
 -- the numbers from a on, n of them, that lie from a place up to another and pass a test
 abbrev between : (ℕ → Bool) → ℕ → ℕ → ℕ → ℕ → List ℕ

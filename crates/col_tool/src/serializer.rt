@@ -15,7 +15,7 @@ use crate::column::FULL_INDEX;
 use crate::column_type::ColumnType;
 use crate::footer::serialize_footer;
 use col_common::{ColumnarError, Sink, VInt, serialize_bytes};
-use col_values::{CodecType, serialize_u64_based_column_values};
+use col_codecs::{CodecType, serialize_u64_based_column_values};
 use std::alloc::Global;
 use std::collections::BTreeMap;
 

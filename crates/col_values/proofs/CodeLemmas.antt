@@ -1,8 +1,8 @@
 -- What the laws of numbers that stand for values say of images.
 use Rattle.std.proofs.Common.{ℕ, ◌<◌, Bool, Option}
 use Rattle.std.specs.declared.cmp.Ordering.{Ordering}
-use Rattle.col_views.specs.Monotonic.{Passes, IsImage}
-use Rattle.col_views.specs.Codes.{IsCoded}
+use Rattle.col_values.specs.Monotonic.{Passes, IsImage}
+use Rattle.col_values.specs.Codes.{IsCoded}
 
 module _ {X : Type 0} {limit : ℕ} {cmp : X → X → Option Ordering} {in_type : X → Bool} {code : X → ℕ} {value : ℕ → X} {is_image : ℕ → Bool} (laws : IsCoded limit cmp in_type code value is_image) where
   -- a number that passes the test is the number of a value

@@ -9,7 +9,7 @@ use Rattle.std.proofs.lemmas.List.{map-id, take_more, take_more_set, take-set, d
 use Rattle.std.proofs.lemmas.List.Elements.{filter-append}
 use Rattle.std.proofs.lemmas.List.FromFn.{map-range_with_len_more, length-range_with_len, get_or-range_with_len}
 use Rattle.std.proofs.lemmas.Option.{get_or_from_slice_get}
-use Rattle.col_views.specs.Values.{passes, hits}
+use Rattle.col_values.specs.Values.{passes, hits}
 
 one_more : (a n : ℕ) → range_with_len a (n + 1) ≡ range_with_len a n ++ ((a + n) ∷ [])
 one_more a n = sym (map-id _) ∙ map-range_with_len_more (λ k. k) a n (a + n) refl ∙ ap (λ l. l ++ ((a + n) ∷ [])) (map-id _)

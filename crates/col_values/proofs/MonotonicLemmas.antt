@@ -4,8 +4,8 @@ use Rattle.std.specs.List.{All}
 use Rattle.std.specs.Ordering.{is_some_and, is_le}
 use Rattle.std.specs.declared.cmp.Ordering.{Ordering}
 use Rattle.std.proofs.lemmas.List.Elements.{All-map}
-use Rattle.col_views.specs.Values.{IsAtMost, Encloses}
-use Rattle.col_views.specs.Monotonic.{Passes, IsMonotonic}
+use Rattle.col_values.specs.Values.{IsAtMost, Encloses}
+use Rattle.col_values.specs.Monotonic.{Passes, IsMonotonic}
 
 module _ {X Y : Type 0} {cx : X → X → Option Ordering} {cy : Y → Y → Option Ordering} {is_in : X → Bool} {there : X → Y} {back : Y → X} (laws : IsMonotonic cx cy is_in there back) where
   -- bounds are mapped to bounds

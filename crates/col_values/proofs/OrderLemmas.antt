@@ -5,7 +5,7 @@ use Rattle.std.specs.Ordering.{is_some_and, is_le, is_lt, is_gt, ord_min, ord_ma
 use Rattle.std.specs.declared.cmp.Ordering.{Ordering}
 use Rattle.std.specs.declared.cmp.Ordering.TheVariants.{Less, Equal, Greater}
 use Rattle.std.proofs.lemmas.List.Elements.{All-more, All-weaker}
-use Rattle.col_views.specs.Values.{IsAtMost, Encloses}
+use Rattle.col_values.specs.Values.{IsAtMost, Encloses}
 
 le_not_gt : (r : Ordering) → is_le r ≡ true → is_gt r ≡ false
 le_not_gt Less h = refl

@@ -1,7 +1,7 @@
 -- What the bounds of a list of values are.
 use Rattle.std.specs.Prelude.{◌≡◌, ◌<◌, List, [], length, Contains, Option}
 use Rattle.std.specs.declared.cmp.Ordering.{Ordering}
-use Rattle.col_views.specs.Values.{Encloses}
+use Rattle.col_values.specs.Values.{Encloses}
 
 -- Without values both bounds are a default, else the least and the greatest of the values.
 pub record AreExact {T : Type 0} (partial_cmp : T → T → Option Ordering) (is_default : T → Type 0) (values : List T) (low high : T) : Type 0 where

@@ -2,7 +2,7 @@
 use Rattle.std.specs.Prelude.{◌≡◌, ℕ, ℤ, pos, negsuc, ◌+◌, ◌-◌, ◌<◌, ◌≤◌, ◌^◌, ◌==◌, ◌&&◌, nat_lt, int_le, int_lt, Bool, cond, Option, Some}
 use Rattle.std.specs.Ordering.{nat_cmp}
 use Rattle.std.specs.declared.cmp.Ordering.{Ordering}
-use Rattle.col_views.specs.Monotonic.{Passes}
+use Rattle.col_values.specs.Monotonic.{Passes}
 
 -- numbers as `PartialOrd` compares them
 abbrev pub number_cmp : ℕ → ℕ → Option Ordering

@@ -2,7 +2,7 @@
 use Rattle.std.specs.Prelude.{◌≡◌, ℕ, ◌<◌, ◌≤◌, ◌↔◌, Bool, Option, Some}
 use Rattle.std.specs.declared.cmp.Ordering.{Ordering}
 use Rattle.std.specs.declared.cmp.Ordering.TheVariants.{Less}
-use Rattle.col_views.specs.Monotonic.{Passes, IsImage}
+use Rattle.col_values.specs.Monotonic.{Passes, IsImage}
 
 -- one value is less than another exactly where its number is
 abbrev pub NumbersIncrease : {X : Type 0} → (X → X → Option Ordering) → (X → Bool) → (X → ℕ) → Type 0

@@ -2,7 +2,7 @@
 use Rattle.std.specs.Prelude.{◌≡◌, ◌<◌, Bool, true, List, length, map, Option}
 use Rattle.std.specs.List.{All}
 use Rattle.std.specs.declared.cmp.Ordering.{Ordering}
-use Rattle.col_views.specs.Values.{Encloses}
+use Rattle.col_values.specs.Values.{Encloses}
 
 -- a test passes
 abbrev pub Passes : {X : Type 0} → (X → Bool) → X → Type 0

@@ -4,7 +4,7 @@ ghost use Rattle.std.specs.List.{All};
 ghost use Rattle.std.specs.List.Sorted.{IsStrictlyIncreasing};
 ghost use Rattle.std.specs.Range.{range_inclusive_start, range_inclusive_end};
 ghost use Rattle.col_common.specs.Replacing.{Replaces};
-ghost use Rattle.col_views.specs.Values.{IsAtMost, AreBelow, hits_between, is_between};
+ghost use Rattle.col_values.specs.Values.{IsAtMost, AreBelow, hits_between, is_between};
 
 use crate::ValuesIter;
 use col_common::{ColumnarError, RowId};

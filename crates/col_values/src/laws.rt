@@ -1,6 +1,6 @@
 //! Laws of the numbers of values and of maps, each the contract of a call that does nothing.
 ghost use Rattle.std.specs.Prelude.{◌^◌};
-ghost use Rattle.col_views.specs.Laws.{NumbersIncrease, ImagesAreTold, EachIsImage, ImagesReachDown, Increases, LeadsBack};
+ghost use Rattle.col_values.specs.Laws.{NumbersIncrease, ImagesAreTold, EachIsImage, ImagesReachDown, Increases, LeadsBack};
 
 use crate::{MonotonicallyMappableToU64, MonotonicallyMappableToU128, StrictlyMonotonicFn};
 

@@ -1,7 +1,7 @@
 //! A list of values seen through a map.
 ghost use Rattle.std.specs.Prelude.{◌≡◌, map as map_by};
-ghost use Rattle.col_views.specs.Bounds.{IsMappedBound};
-ghost use Rattle.col_views.specs.Monotonic.{AllMapped};
+ghost use Rattle.col_values.specs.Bounds.{IsMappedBound};
+ghost use Rattle.col_values.specs.Monotonic.{AllMapped};
 
 use crate::{ColumnValues, StrictlyMonotonicFn};
 use std::marker::{Model, PhantomData};
@@ -30,8 +30,8 @@ where
     M: StrictlyMonotonicFn<External, Internal>,
 {
     ghost use Rattle.std.specs.Prelude.{map};
-    ghost use Rattle.col_views.specs.Values.{Bounded};
-    ghost use Rattle.col_views.specs.Monotonic.{IsMapped};
+    ghost use Rattle.col_values.specs.Values.{Bounded};
+    ghost use Rattle.col_values.specs.Monotonic.{IsMapped};
 
     ghost Value = { Bounded Internal };
 

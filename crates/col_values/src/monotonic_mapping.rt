@@ -1,6 +1,6 @@
 //! Maps that keep the order of their domain.
 ghost use Rattle.std.specs.Prelude.{◌≡◌, Bool};
-ghost use Rattle.col_views.specs.Monotonic.{Passes, IsMonotonic, IsImage};
+ghost use Rattle.col_values.specs.Monotonic.{Passes, IsMonotonic, IsImage};
 
 /// A map that keeps the order of its domain.
 pub trait StrictlyMonotonicFn<External: PartialOrd + Copy, Internal: PartialOrd + Copy> {

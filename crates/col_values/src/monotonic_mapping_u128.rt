@@ -1,8 +1,8 @@
 //! Types whose values stand as numbers of 128 bits, in their order.
 ghost use Rattle.std.specs.Prelude.{◌≡◌, ℕ, ◌^◌, Bool, true};
-ghost use Rattle.col_views.specs.Monotonic.{Passes};
-ghost use Rattle.col_views.specs.Codes.{IsCoded, is_below};
-ghost use Rattle.col_views.specs.CodeLaws.{number_laws};
+ghost use Rattle.col_values.specs.Monotonic.{Passes};
+ghost use Rattle.col_values.specs.Codes.{IsCoded, is_below};
+ghost use Rattle.col_values.specs.CodeLaws.{number_laws};
 
 use col_common::Ipv6Addr;
 

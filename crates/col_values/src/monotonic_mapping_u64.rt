@@ -2,9 +2,9 @@
 ghost use Rattle.std.specs.Prelude.{◌≡◌, ℕ, ◌^◌, Bool, true};
 ghost use Rattle.col_model.specs.Column.{signed_of};
 ghost use Rattle.col_model.specs.Images.{is_image_of_bool, is_image_of_u32};
-ghost use Rattle.col_views.specs.Monotonic.{Passes};
-ghost use Rattle.col_views.specs.Codes.{IsCoded, is_below, bool_code, bool_value, i64_code, is_i64};
-ghost use Rattle.col_views.specs.CodeLaws.{number_laws, u32_laws, bool_laws, i64_laws};
+ghost use Rattle.col_values.specs.Monotonic.{Passes};
+ghost use Rattle.col_values.specs.Codes.{IsCoded, is_below, bool_code, bool_value, i64_code, is_i64};
+ghost use Rattle.col_values.specs.CodeLaws.{number_laws, u32_laws, bool_laws, i64_laws};
 
 use col_common::DateTime;
 

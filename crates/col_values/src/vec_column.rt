@@ -1,6 +1,6 @@
 //! Values in a vector.
 ghost use Rattle.std.specs.Prelude.{◌≡◌, ◌^◌, ◌<◌, length};
-ghost use Rattle.col_views.specs.Bounds.{AreExact};
+ghost use Rattle.col_values.specs.Bounds.{AreExact};
 
 use crate::ColumnValues;
 use std::marker::Model;
@@ -15,7 +15,7 @@ pub struct VecColumn<T: PartialOrd + Copy> {
 
 impl<T: PartialOrd + Copy> Model for VecColumn<T> {
     ghost use Rattle.std.specs.Prelude.{length, ◌<◌, ◌^◌};
-    ghost use Rattle.col_views.specs.Values.{Encloses, Bounded};
+    ghost use Rattle.col_values.specs.Values.{Encloses, Bounded};
 
     ghost Value = { Bounded T };
 

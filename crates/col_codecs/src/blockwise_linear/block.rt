@@ -4,7 +4,7 @@ ghost use Rattle.std.specs.Int.{w64};
 ghost use Rattle.col_common.specs.Reading.{back, parts_by_second};
 ghost use Rattle.col_common.specs.Decoding.{Decodes};
 ghost use Rattle.col_model.specs.Items.{are_blocks};
-ghost use Rattle.col_values.specs.Blocks.{block_slope, lines_of, ArePlaced};
+ghost use Rattle.col_codecs.specs.Blocks.{block_slope, lines_of, ArePlaced};
 
 use super::BLOCK_LEN;
 use crate::line::Line;
@@ -32,7 +32,7 @@ pub struct Block {
 }
 
 impl Block {
-    ghost use Rattle.col_values.specs.Blocks.{step_in};
+    ghost use Rattle.col_codecs.specs.Blocks.{step_in};
 
     /// The step at a place.
     #[inline(always)]

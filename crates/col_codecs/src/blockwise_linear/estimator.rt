@@ -3,7 +3,7 @@ ghost use Rattle.std.specs.Prelude.{◌≡◌, ◌<◌, ◌≤◌, length, IfOk,
 ghost use Rattle.col_common.specs.Serializing.{Serializes};
 ghost use Rattle.col_model.specs.Stats.{stats_of};
 ghost use Rattle.col_model.specs.Codecs.{block_size, block_estimate, blockwise_body, log2};
-ghost use Rattle.col_values.specs.ColumnStats.{stats_seen};
+ghost use Rattle.col_codecs.specs.ColumnStats.{stats_seen};
 
 use super::offsets::train_offsets;
 use super::writer::serialize_blocks;
@@ -51,7 +51,7 @@ fn log2(value: u64) -> u32
 
 impl BlockwiseLinearEstimator {
     ghost use Rattle.std.specs.Prelude.{◌≡◌, ◌<◌, ◌+◌, ◌^◌, ◌++◌, ℕ, List, length, IfOk, [], ◌∷◌};
-    ghost use Rattle.col_values.specs.Blockwise.{IsCollected, IsFinalized};
+    ghost use Rattle.col_codecs.specs.Blockwise.{IsCollected, IsFinalized};
 
     /// An estimator that has collected nothing.
     pub fn new(alloc: Global) -> Result<BlockwiseLinearEstimator, AllocError>
@@ -92,7 +92,7 @@ impl BlockwiseLinearEstimator {
 
 impl ColumnCodecEstimator for BlockwiseLinearEstimator {
     ghost use Rattle.std.specs.Prelude.{◌≡◌, ◌<◌, ◌+◌, ◌^◌, ◌++◌, ℕ, List, length, [], ◌∷◌};
-    ghost use Rattle.col_values.specs.Blockwise.{IsCollected, IsFinalized};
+    ghost use Rattle.col_codecs.specs.Blockwise.{IsCollected, IsFinalized};
 
     ghost code = { λ e. 2 };
 

@@ -2,7 +2,7 @@
 ghost use Rattle.std.specs.Prelude.{◌≡◌, ◌<◌, ◌≤◌, length};
 ghost use Rattle.col_model.specs.Stats.{greatest_of};
 ghost use Rattle.col_model.specs.Codecs.{offsets_from, block_line, block_size};
-ghost use Rattle.col_values.specs.Slope.{slope_of, slope_seen};
+ghost use Rattle.col_codecs.specs.Slope.{slope_of, slope_seen};
 
 use crate::line::Line;
 use crate::slope::Slope;

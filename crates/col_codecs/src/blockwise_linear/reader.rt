@@ -2,10 +2,10 @@
 ghost use Rattle.std.specs.Prelude.{◌≡◌, ◌≤◌, ◌+◌, ◌*◌, ◌%◌, ◌^◌, map, length, take, IfOk, IfErr};
 ghost use Rattle.std.specs.List.{range_with_len};
 ghost use Rattle.col_common.specs.Decoding.{Decodes};
-ghost use Rattle.col_values.specs.ColumnStats.{stats_seen, IsPossible};
-ghost use Rattle.col_values.specs.Header.{list_by};
+ghost use Rattle.col_codecs.specs.ColumnStats.{stats_seen, IsPossible};
+ghost use Rattle.col_codecs.specs.Header.{list_by};
 ghost use Rattle.col_model.specs.Codecs.{block_size, block_count};
-ghost use Rattle.col_values.specs.Blocks.{item_of, items_in, step_in, step_of, AreWithin, IsReader};
+ghost use Rattle.col_codecs.specs.Blocks.{item_of, items_in, step_in, step_of, AreWithin, IsReader};
 
 use super::BLOCK_LEN;
 use super::block::{Block, place_blocks, read_blocks, split_lines};
@@ -13,7 +13,7 @@ use super::statistics::are_stats_of;
 use crate::column_stats::ColumnStats;
 use bytes::Bytes;
 use col_common::ColumnarError;
-use col_views::ColumnValues;
+use col_values::ColumnValues;
 use std::alloc::Global;
 use std::marker::Model;
 
@@ -27,8 +27,8 @@ pub struct BlockwiseLinearReader {
 
 impl Model for BlockwiseLinearReader {
     ghost use Rattle.std.specs.Prelude.{List, ℕ};
-    ghost use Rattle.col_values.specs.ColumnStats.{stats_seen};
-    ghost use Rattle.col_values.specs.Blocks.{items_in, IsReader};
+    ghost use Rattle.col_codecs.specs.ColumnStats.{stats_seen};
+    ghost use Rattle.col_codecs.specs.Blocks.{items_in, IsReader};
 
     ghost Value = { List ℕ };
 

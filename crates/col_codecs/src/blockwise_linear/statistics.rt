@@ -4,8 +4,8 @@ ghost use Rattle.std.specs.List.{list_all};
 ghost use Rattle.col_common.specs.Reading.{only_if};
 ghost use Rattle.col_model.specs.Stats.{stats_of, same_stats, steps_of};
 ghost use Rattle.col_model.specs.Codecs.{block_count};
-ghost use Rattle.col_values.specs.ColumnStats.{stats_seen, collected_of, IsPossible};
-ghost use Rattle.col_values.specs.Blocks.{AreWithin, items_in, steps_in_block, is_whole, own_step};
+ghost use Rattle.col_codecs.specs.ColumnStats.{stats_seen, collected_of, IsPossible};
+ghost use Rattle.col_codecs.specs.Blocks.{AreWithin, items_in, steps_in_block, is_whole, own_step};
 
 use super::BLOCK_LEN;
 use super::block::Block;

@@ -13,8 +13,8 @@ ghost use Rattle.col_model.specs.Codecs.{
   block_line,
   steps_above,
 };
-ghost use Rattle.col_values.specs.ColumnStats.{stats_seen};
-ghost use Rattle.col_values.specs.Blocks.{IsBlock};
+ghost use Rattle.col_codecs.specs.ColumnStats.{stats_seen};
+ghost use Rattle.col_codecs.specs.Blocks.{IsBlock};
 
 use super::BLOCK_LEN;
 use super::offsets::train_offsets;

@@ -3,9 +3,9 @@ ghost use Rattle.std.specs.Prelude.{◌≡◌, ◌<◌, ◌+◌, ◌^◌, length
 ghost use Rattle.col_common.specs.Serializing.{Serializes};
 ghost use Rattle.col_model.specs.Stats.{least_of, greatest_of, stats_of};
 ghost use Rattle.col_model.specs.Codecs.{deviation, deviations, linear_line, linear_body};
-ghost use Rattle.col_values.specs.ColumnStats.{stats_seen};
-ghost use Rattle.col_values.specs.Line.{line_seen};
-ghost use Rattle.col_values.specs.Slope.{slope_seen};
+ghost use Rattle.col_codecs.specs.ColumnStats.{stats_seen};
+ghost use Rattle.col_codecs.specs.Line.{line_seen};
+ghost use Rattle.col_codecs.specs.Slope.{slope_seen};
 
 use super::offsets::serialize_offsets;
 use crate::codec::ColumnCodecEstimator;
@@ -40,7 +40,7 @@ pub struct LinearCodecEstimator {
 impl LinearCodecEstimator {
     ghost use Rattle.std.specs.Prelude.{◌≡◌, ◌<◌, ◌+◌, ◌^◌, ◌++◌, ◌∷◌, [], ℕ, List, length, IfOk};
     ghost use Rattle.col_model.specs.Codecs.{block_size};
-    ghost use Rattle.col_values.specs.Linear.{IsTrained, IsCollected, IsFinalized};
+    ghost use Rattle.col_codecs.specs.Linear.{IsTrained, IsCollected, IsFinalized};
 
     /// An estimator that has collected nothing.
     pub fn new(alloc: Global) -> Result<LinearCodecEstimator, AllocError>
@@ -114,7 +114,7 @@ impl LinearCodecEstimator {
 }
 
 impl ColumnCodecEstimator for LinearCodecEstimator {
-    ghost use Rattle.col_values.specs.Linear.{IsCollected, IsFinalized};
+    ghost use Rattle.col_codecs.specs.Linear.{IsCollected, IsFinalized};
 
     ghost code = { λ e. 1 };
 

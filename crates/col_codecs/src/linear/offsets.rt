@@ -4,7 +4,7 @@ ghost use Rattle.std.specs.List.{AllByRecursion, enumerate_from};
 ghost use Rattle.col_common.specs.Serializing.{Serializes};
 ghost use Rattle.col_bits.specs.Packed.{packed_bytes};
 ghost use Rattle.col_model.specs.Codecs.{block_size, offset_from, offsets_from, packed_offsets};
-ghost use Rattle.col_values.specs.Slope.{slope_seen};
+ghost use Rattle.col_codecs.specs.Slope.{slope_seen};
 
 use crate::packing::{BLOCK_SIZE, pack_block, take_block};
 use crate::slope::Slope;

@@ -6,10 +6,10 @@ ghost use Rattle.col_bits.specs.Packed.{is_width};
 ghost use Rattle.col_model.specs.Stats.{stats_of, same_stats};
 ghost use Rattle.col_model.specs.U64List.{slope_at};
 ghost use Rattle.col_model.specs.Items.{is_packed, linear_item, linear_items};
-ghost use Rattle.col_values.specs.ColumnStats.{stats_seen, collected_of};
-ghost use Rattle.col_values.specs.Header.{list_by};
-ghost use Rattle.col_values.specs.Line.{with_width};
-ghost use Rattle.col_values.specs.Slope.{slope_seen};
+ghost use Rattle.col_codecs.specs.ColumnStats.{stats_seen, collected_of};
+ghost use Rattle.col_codecs.specs.Header.{list_by};
+ghost use Rattle.col_codecs.specs.Line.{with_width};
+ghost use Rattle.col_codecs.specs.Slope.{slope_seen};
 
 use crate::column_stats::ColumnStats;
 use crate::line::Line;
@@ -19,7 +19,7 @@ use crate::stats_collector::StatsCollector;
 use bytes::Bytes;
 use col_bits::BitUnpacker;
 use col_common::ColumnarError;
-use col_views::ColumnValues;
+use col_values::ColumnValues;
 use std::marker::Model;
 
 /// A list that is read in place.
@@ -35,8 +35,8 @@ impl Model for LinearReader {
     ghost use Rattle.std.specs.Prelude.{◌≡◌, List, ℕ};
     ghost use Rattle.col_model.specs.Stats.{stats_of};
     ghost use Rattle.col_model.specs.Items.{linear_items};
-    ghost use Rattle.col_values.specs.ColumnStats.{stats_seen};
-    ghost use Rattle.col_values.specs.Line.{with_width};
+    ghost use Rattle.col_codecs.specs.ColumnStats.{stats_seen};
+    ghost use Rattle.col_codecs.specs.Line.{with_width};
 
     ghost Value = { List ℕ };
 

@@ -5,7 +5,7 @@ use super::stats::collected;
 use crate::{BitpackedCodec, BitpackedReader, ColumnCodec, ColumnCodecEstimator};
 use bytes::Bytes;
 use col_common::{ColumnarError, VecSink};
-use col_views::ColumnValues;
+use col_values::ColumnValues;
 use std::alloc::Global;
 use std::test::Fail;
 

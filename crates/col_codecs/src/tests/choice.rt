@@ -6,7 +6,7 @@ use crate::{
 };
 use bytes::Bytes;
 use col_common::{ColumnarError, VecSink};
-use col_views::ColumnValues;
+use col_values::ColumnValues;
 use std::alloc::Global;
 use std::test::Fail;
 

@@ -2,7 +2,7 @@
 
 use crate::{Line, Positions};
 use col_common::{Iterable, VecSink};
-use col_views::{ColumnValues, VecColumn};
+use col_values::{ColumnValues, VecColumn};
 use std::test::Fail;
 
 // A line that rises by 1.

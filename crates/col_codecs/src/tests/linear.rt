@@ -1,8 +1,8 @@
 //! Lists under Linear.
 ghost use Rattle.std.specs.Prelude.{◌≡◌, ◌<◌, ◌^◌, length, IfOk};
 ghost use Rattle.col_model.specs.Stats.{stats_of};
-ghost use Rattle.col_values.specs.ColumnStats.{stats_seen};
-ghost use Rattle.col_values.specs.Linear.{IsFinalized};
+ghost use Rattle.col_codecs.specs.ColumnStats.{stats_seen};
+ghost use Rattle.col_codecs.specs.Linear.{IsFinalized};
 
 use super::lists::{random_looking, stepped};
 use crate::{
@@ -11,7 +11,7 @@ use crate::{
 };
 use bytes::Bytes;
 use col_common::{ColumnarError, VecSink};
-use col_views::ColumnValues;
+use col_values::ColumnValues;
 use std::alloc::Global;
 use std::process::Abort;
 use std::test::Fail;

@@ -1,7 +1,7 @@
 //! Statistics whose parts and bytes are worked out by hand.
 ghost use Rattle.std.specs.Prelude.{◌≡◌, ◌<◌, ◌^◌, length};
 ghost use Rattle.col_model.specs.Stats.{stats_of};
-ghost use Rattle.col_values.specs.ColumnStats.{stats_seen};
+ghost use Rattle.col_codecs.specs.ColumnStats.{stats_seen};
 
 use crate::{ColumnStats, StatsCollector, compute_gcd};
 use col_common::VecSink;

@@ -6,7 +6,7 @@ use crate::{
 };
 use bytes::Bytes;
 use col_common::ColumnarError;
-use col_views::ColumnValues;
+use col_values::ColumnValues;
 use std::test::Fail;
 
 // Two rows, and both have a value.

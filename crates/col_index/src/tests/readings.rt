@@ -5,7 +5,7 @@ use crate::{
     indexes_have_counts, ranks_are_undone,
 };
 use col_common::{ColumnarError, DocId, Iterable, RowId};
-use col_views::ColumnValues;
+use col_values::ColumnValues;
 use std::alloc::Global;
 use std::process::Abort;
 use std::test::Fail;

@@ -2,7 +2,7 @@
 use crate::reader::ColumnarReader;
 use bytes::Bytes;
 use col_common::ColumnarError;
-use col_views::ColumnValues;
+use col_values::ColumnValues;
 use std::alloc::Global;
 use std::test::Fail;
 

@@ -2,7 +2,7 @@
 ghost use Rattle.std.specs.Prelude.{ℕ, ◌*◌, ◌/◌, ◌^◌, Some};
 ghost use Rattle.std.proofs.Common.{ap, arith};
 ghost use Rattle.std.proofs.lemmas.Bool.Decides.{nat_tests};
-ghost use Rattle.col_views.specs.Codes.{is_below};
+ghost use Rattle.col_values.specs.Codes.{is_below};
 
 use crate::StrictlyMonotonicFn;
 

@@ -1,9 +1,9 @@
 use Rattle.std.proofs.Common.{◌∙◌, sym, ap, ℕ}
 use Rattle.col_model.specs.Stats.{Stats, same_stats, stats_of}
 use Rattle.col_bits.specs.Packed.{items}
-use Rattle.col_values.specs.ColumnStats.{stats_seen}
-use Rattle.col_values.proofs.BitpackedLemmas.{same_stats-items, same_stats-no_steps}
-use Rattle.col_values.proofs.bitpacked.are_stats_of.Goals as goal
+use Rattle.col_codecs.specs.ColumnStats.{stats_seen}
+use Rattle.col_codecs.proofs.BitpackedLemmas.{same_stats-items, same_stats-no_steps}
+use Rattle.col_codecs.proofs.bitpacked.are_stats_of.Goals as goal
 
 pub returns-then-steps-eq0 : goal.returns-then-steps-eq0
 returns-then-steps-eq0 c = same_stats-no_steps (stats_seen c.args.stats.now) c.args.bytes.now c.requires.possible (sym c.steps-steps.ensures ∙ c.if-steps-eq0.true)

@@ -3,9 +3,9 @@ use Rattle.std.proofs.lemmas.Result.{err_from_is_err_and}
 use Rattle.col_common.specs.Serializing.{Serializes}
 use Rattle.col_bits.specs.Packed.{packed_bytes}
 use Rattle.col_model.specs.Codecs.{steps_above}
-use Rattle.col_values.specs.ColumnStats.{stats_seen}
-use Rattle.col_values.proofs.BitpackedWritingLemmas.{IsWritten-more, IsWritten-stopped}
-use Rattle.col_values.proofs.bitpacked.serialize_blocks.Goals as goal
+use Rattle.col_codecs.specs.ColumnStats.{stats_seen}
+use Rattle.col_codecs.proofs.BitpackedWritingLemmas.{IsWritten-more, IsWritten-stopped}
+use Rattle.col_codecs.proofs.bitpacked.serialize_blocks.Goals as goal
 
 pub values-preserved : goal.values-preserved
 values-preserved g c =

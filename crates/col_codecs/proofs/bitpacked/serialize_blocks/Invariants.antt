@@ -1,7 +1,7 @@
 use Rattle.std.proofs.Common.{length}
-use Rattle.col_values.specs.ColumnStats.{stats_seen}
-use Rattle.col_values.proofs.BitpackedWritingLemmas.{IsWritten}
-use Rattle.col_values.proofs.bitpacked.serialize_blocks.Given as goal
+use Rattle.col_codecs.specs.ColumnStats.{stats_seen}
+use Rattle.col_codecs.proofs.BitpackedWritingLemmas.{IsWritten}
+use Rattle.col_codecs.proofs.bitpacked.serialize_blocks.Given as goal
 
 abbrev pub invariant-values : goal.invariant-values
 invariant-values g l =

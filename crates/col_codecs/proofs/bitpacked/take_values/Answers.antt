@@ -1,7 +1,7 @@
 use Rattle.std.proofs.Common.{◌≡◌, ◌<◌, ◌+◌, ◌*◌, ◌^◌, ℕ, List, length, slice_index_or, arith, refl}
 use Rattle.std.specs.List.{AllByRecursion}
-use Rattle.col_values.proofs.PackingLemmas.{replaced, replaced-push, next-holds}
-use Rattle.col_values.proofs.bitpacked.take_values.Goals as goal
+use Rattle.col_codecs.proofs.PackingLemmas.{replaced, replaced-push, next-holds}
+use Rattle.col_codecs.proofs.bitpacked.take_values.Goals as goal
 
 fits : (low d n : ℕ) (ks now : List ℕ) → now ≡ replaced (λ k. low + d * k) ks n → n < length now → AllByRecursion (λ k. low + d * k < 2 ^ 64) ks → low + d * slice_index_or now n 0 < 2 ^ 64
 fits low d n ks now e h all = next-holds (λ k. low + d * k < 2 ^ 64) (λ k. low + d * k) ks now n e h all

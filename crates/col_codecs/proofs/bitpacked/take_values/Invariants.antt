@@ -1,6 +1,6 @@
 use Rattle.std.proofs.Common.{◌≡◌, ◌+◌, ◌*◌}
-use Rattle.col_values.proofs.PackingLemmas.{replaced}
-use Rattle.col_values.proofs.bitpacked.take_values.Given as goal
+use Rattle.col_codecs.proofs.PackingLemmas.{replaced}
+use Rattle.col_codecs.proofs.bitpacked.take_values.Given as goal
 
 abbrev pub invariant-loop-at : goal.invariant-loop-at
 invariant-loop-at l = l.steps ≡ replaced (λ k. l.min_value + l.gcd * k) l.initial.steps l.at

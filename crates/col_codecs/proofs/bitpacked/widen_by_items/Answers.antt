@@ -1,6 +1,6 @@
 use Rattle.std.proofs.Common.{arith}
-use Rattle.col_values.proofs.BitpackedLemmas.{collected-next, collected-items}
-use Rattle.col_values.proofs.bitpacked.widen_by_items.Goals as goal
+use Rattle.col_codecs.proofs.BitpackedLemmas.{collected-next, collected-items}
+use Rattle.col_codecs.proofs.bitpacked.widen_by_items.Goals as goal
 
 pub widen-requires-clause-room : goal.widen-requires-clause-room
 widen-requires-clause-room c = omega (arith, collected-items _ _ _ _ c.loop-idx.invariant.collected)

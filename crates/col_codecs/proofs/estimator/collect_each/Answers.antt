@@ -1,6 +1,6 @@
 use Rattle.std.proofs.Common.{refl, ap, ◌∙◌, arith, length}
-use Rattle.col_values.proofs.CollectingLemmas.{collecting-init, collecting-step, collecting-room, collecting-done}
-use Rattle.col_values.proofs.estimator.collect_each.Goals as goal
+use Rattle.col_codecs.proofs.CollectingLemmas.{collecting-init, collecting-step, collecting-room, collecting-done}
+use Rattle.col_codecs.proofs.estimator.collect_each.Goals as goal
 
 pub loop-value-init : goal.loop-value-init
 loop-value-init g c = record { stands = c.walk-at.ensures.stands; collecting = collecting-init _ _ _ c.requires.«open» c.walk-at.ensures.front; code = refl }

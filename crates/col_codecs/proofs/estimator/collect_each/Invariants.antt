@@ -1,6 +1,6 @@
 use Rattle.std.proofs.Common.{◌≡◌, length}
-use Rattle.col_values.proofs.CollectingLemmas.{Collecting}
-use Rattle.col_values.proofs.estimator.collect_each.Given as goal
+use Rattle.col_codecs.proofs.CollectingLemmas.{Collecting}
+use Rattle.col_codecs.proofs.estimator.collect_each.Given as goal
 
 -- what is collected and what is left are the list
 abbrev pub invariant-loop-value : goal.invariant-loop-value

@@ -1,7 +1,7 @@
 use Rattle.std.proofs.Common.{ap, sym, ◌∙◌, Some}
-use Rattle.col_values.specs.ColumnStats.{stats_seen}
-use Rattle.col_values.proofs.HeaderLemmas.{stats_at-behind}
-use Rattle.col_values.proofs.header.read_stats.Goals as goal
+use Rattle.col_codecs.specs.ColumnStats.{stats_seen}
+use Rattle.col_codecs.proofs.HeaderLemmas.{stats_at-behind}
+use Rattle.col_codecs.proofs.header.read_stats.Goals as goal
 
 pub overflow_sub-result : goal.overflow_sub-result
 overflow_sub-result c = (stats_at-behind c.args.bytes.now c.deserialize.new.data.now (stats_seen c.in-Ok.stats) (λ k. (c.type_inv.bytes k).fits) c.in-Ok.ensures.taken).0

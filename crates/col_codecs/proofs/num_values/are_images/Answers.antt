@@ -1,7 +1,7 @@
 use Rattle.std.proofs.Common.{ap, sym, ◌∙◌, arith}
-use Rattle.col_values.specs.Readers.{list_of}
-use Rattle.col_values.proofs.ImageLemmas.{greatest-tells, all-fit}
-use Rattle.col_values.proofs.num_values.are_images.Goals as goal
+use Rattle.col_codecs.specs.Readers.{list_of}
+use Rattle.col_codecs.proofs.ImageLemmas.{greatest-tells, all-fit}
+use Rattle.col_codecs.proofs.num_values.are_images.Goals as goal
 
 pub returns-else-num_vals-eq0-clause-images : goal.returns-else-num_vals-eq0-clause-images
 returns-else-num_vals-eq0-clause-images g c =

@@ -1,6 +1,6 @@
 use Rattle.std.proofs.Common.{arith}
-use Rattle.col_values.proofs.ImageLemmas.{values64-nothing, values64-no_codec}
-use Rattle.col_values.proofs.num_values.codec_of.Goals as goal
+use Rattle.col_codecs.proofs.ImageLemmas.{values64-nothing, values64-no_codec}
+use Rattle.col_codecs.proofs.num_values.codec_of.Goals as goal
 
 pub returns-in_default-clause-none : goal.returns-in_default-clause-none
 returns-in_default-clause-none c = values64-nothing c.args.bytes.now (omega (arith, c.in_default.len_below))

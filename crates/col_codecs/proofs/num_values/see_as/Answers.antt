@@ -1,7 +1,7 @@
 use Rattle.std.proofs.Common.{sym, ◌∙◌}
-use Rattle.col_values.specs.Readers.{list_of}
-use Rattle.col_values.proofs.ImageLemmas.{images-mapped}
-use Rattle.col_values.proofs.num_values.see_as.Goals as goal
+use Rattle.col_codecs.specs.Readers.{list_of}
+use Rattle.col_codecs.proofs.ImageLemmas.{images-mapped}
+use Rattle.col_codecs.proofs.num_values.see_as.Goals as goal
 
 pub monotonic_map_column-requires : goal.monotonic_map_column-requires
 monotonic_map_column-requires g c =

@@ -2,7 +2,7 @@ use Rattle.std.proofs.Common.{◌≡◌, ◌<◌, ◌++◌, length, ℕ, take, g
 use Rattle.std.proofs.lemmas.List.{take_more, take_all}
 use Rattle.col_bits.specs.Packed.{packed_bytes}
 use Rattle.col_bits.proofs.PackingLemmas.{IsPacking-nil, IsPacking-push, IsPacking-close}
-use Rattle.col_values.proofs.packing.pack_block.Goals as goal
+use Rattle.col_codecs.proofs.packing.pack_block.Goals as goal
 
 -- what three facts that hold where the result is Ok give there
 on_ok_three : {T E A B C D : Type 0} (r : Result T E) → (A → B → C → D) → OnOk r A → OnOk r B → OnOk r C → OnOk r D

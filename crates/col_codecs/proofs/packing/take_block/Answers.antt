@@ -1,6 +1,6 @@
 use Rattle.std.proofs.Common.{arith}
-use Rattle.col_values.proofs.PackingLemmas.{IsTaken-none, IsTaken-push, IsTaken-end, IsTaken-full}
-use Rattle.col_values.proofs.packing.take_block.Goals as goal
+use Rattle.col_codecs.proofs.PackingLemmas.{IsTaken-none, IsTaken-push, IsTaken-end, IsTaken-full}
+use Rattle.col_codecs.proofs.packing.take_block.Goals as goal
 
 pub loop-taken-init : goal.loop-taken-init
 loop-taken-init g c = record { stands = c.requires; taken = IsTaken-none _ _ }

@@ -1,6 +1,6 @@
 use Rattle.std.proofs.Common.{◌-◌, length}
-use Rattle.col_values.proofs.PackingLemmas.{IsTaken}
-use Rattle.col_values.proofs.packing.take_block.Given as goal
+use Rattle.col_codecs.proofs.PackingLemmas.{IsTaken}
+use Rattle.col_codecs.proofs.packing.take_block.Given as goal
 
 abbrev pub invariant-loop-taken : goal.invariant-loop-taken
 invariant-loop-taken g l = record {

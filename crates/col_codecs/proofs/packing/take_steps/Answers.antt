@@ -1,6 +1,6 @@
 use Rattle.std.proofs.Common.{◌-◌, ◌/◌, ◌≡◌, slice_index_or, sym, ◌∙◌, ap, arith, div-one, refl}
-use Rattle.col_values.proofs.PackingLemmas.{replaced-push}
-use Rattle.col_values.proofs.packing.take_steps.Goals as goal
+use Rattle.col_codecs.proofs.PackingLemmas.{replaced-push}
+use Rattle.col_codecs.proofs.packing.take_steps.Goals as goal
 
 pub loop-at-preserved : goal.loop-at-preserved
 loop-at-preserved c =

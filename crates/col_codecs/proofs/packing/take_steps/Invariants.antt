@@ -1,6 +1,6 @@
 use Rattle.std.proofs.Common.{◌≡◌, ◌-◌, ◌/◌}
-use Rattle.col_values.proofs.PackingLemmas.{replaced}
-use Rattle.col_values.proofs.packing.take_steps.Given as goal
+use Rattle.col_codecs.proofs.PackingLemmas.{replaced}
+use Rattle.col_codecs.proofs.packing.take_steps.Given as goal
 
 abbrev pub invariant-loop-at : goal.invariant-loop-at
 invariant-loop-at l = l.vals ≡ replaced (λ x. (x - l.min_value) / l.gcd) l.initial.vals l.at

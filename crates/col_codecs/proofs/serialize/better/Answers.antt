@@ -1,8 +1,8 @@
 use Rattle.std.proofs.Common.{subst, sym, ◌∙◌}
-use Rattle.col_values.specs.Estimators.{estimator_code}
-use Rattle.col_values.specs.Written.{HasBest}
-use Rattle.col_values.proofs.ChoiceLemmas.{best-same, best-none, best-less, best-not_less}
-use Rattle.col_values.proofs.serialize.better.Goals as goal
+use Rattle.col_codecs.specs.Estimators.{estimator_code}
+use Rattle.col_codecs.specs.Written.{HasBest}
+use Rattle.col_codecs.proofs.ChoiceLemmas.{best-same, best-none, best-less, best-not_less}
+use Rattle.col_codecs.proofs.serialize.better.Goals as goal
 
 pub returns-in_default : goal.returns-in_default
 returns-in_default c xs codecs best all same = best-same xs codecs _ c.args.best (sym c.in_default.is ∙ same) best

@@ -1,9 +1,9 @@
 use Rattle.std.proofs.Common.{refl, map, take, subst, ◌∙◌}
 use Rattle.col_model.specs.Codecs.{chosen_codec}
-use Rattle.col_values.specs.CodecTypes.{code_of}
-use Rattle.col_values.specs.Written.{HasBest}
-use Rattle.col_values.proofs.ChoiceLemmas.{codes-more}
-use Rattle.col_values.proofs.serialize.choose.Goals as goal
+use Rattle.col_codecs.specs.CodecTypes.{code_of}
+use Rattle.col_codecs.specs.Written.{HasBest}
+use Rattle.col_codecs.proofs.ChoiceLemmas.{codes-more}
+use Rattle.col_codecs.proofs.serialize.choose.Goals as goal
 
 pub loop-codec-init : goal.loop-codec-init
 unfolding chosen_codec

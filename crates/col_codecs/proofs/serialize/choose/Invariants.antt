@@ -1,7 +1,7 @@
 use Rattle.std.proofs.Common.{map, take}
-use Rattle.col_values.specs.CodecTypes.{code_of}
-use Rattle.col_values.specs.Written.{HasBest}
-use Rattle.col_values.proofs.serialize.choose.Given as goal
+use Rattle.col_codecs.specs.CodecTypes.{code_of}
+use Rattle.col_codecs.specs.Written.{HasBest}
+use Rattle.col_codecs.proofs.serialize.choose.Given as goal
 
 -- the best of the codecs so far
 abbrev pub invariant-loop-codec : goal.invariant-loop-codec

@@ -1,7 +1,7 @@
 use Rattle.std.proofs.Common.{refl, sym, ap, ◌∙◌, arith, length}
-use Rattle.col_values.proofs.StatsLemmas.{collected-count}
-use Rattle.col_values.proofs.CollectingLemmas.{collecting-init, collecting-step, collecting-done, collected-more, collected-room, fits-below, too-many}
-use Rattle.col_values.proofs.serialize.collect_stats.Goals as goal
+use Rattle.col_codecs.proofs.StatsLemmas.{collected-count}
+use Rattle.col_codecs.proofs.CollectingLemmas.{collecting-init, collecting-step, collecting-done, collected-more, collected-room, fits-below, too-many}
+use Rattle.col_codecs.proofs.serialize.collect_stats.Goals as goal
 
 pub loop-value-init : goal.loop-value-init
 loop-value-init g c = record { stands = c.walk-at.ensures.stands; collecting = collecting-init _ _ _ (record { is = c.default-collector.ensures; count_is = refl }) c.walk-at.ensures.front }

@@ -1,6 +1,6 @@
 use Rattle.std.proofs.Common.{◌≡◌, length}
-use Rattle.col_values.proofs.CollectingLemmas.{Collecting, IsCollected}
-use Rattle.col_values.proofs.serialize.collect_stats.Given as goal
+use Rattle.col_codecs.proofs.CollectingLemmas.{Collecting, IsCollected}
+use Rattle.col_codecs.proofs.serialize.collect_stats.Given as goal
 
 -- the collector and the count stand for what was collected, which fits
 abbrev pub invariant-loop-value : goal.invariant-loop-value

@@ -1,9 +1,9 @@
 use Rattle.std.proofs.Common.{subst, map}
 use Rattle.std.proofs.lemmas.Result.{err_from_is_err_and}
-use Rattle.col_values.specs.CodecTypes.{code_of}
-use Rattle.col_values.specs.Written.{HasBest}
-use Rattle.col_values.proofs.WrittenLemmas.{at_some, from_some, nothing_offered, appends_list, behind_code}
-use Rattle.col_values.proofs.serialize.serialize_estimated_values.Goals as goal
+use Rattle.col_codecs.specs.CodecTypes.{code_of}
+use Rattle.col_codecs.specs.Written.{HasBest}
+use Rattle.col_codecs.proofs.WrittenLemmas.{at_some, from_some, nothing_offered, appends_list, behind_code}
+use Rattle.col_codecs.proofs.serialize.serialize_estimated_values.Goals as goal
 
 pub returns-then-is_empty-clause-ok : goal.returns-then-is_empty-clause-ok
 returns-then-is_empty-clause-ok g c = nothing_offered code_of c.args.codec_types.now _ _ c.if-is_empty.ensures

@@ -1,9 +1,9 @@
 use Rattle.std.proofs.Common.{◌≡◌, ◌<◌, length, map, arith}
 use Rattle.std.proofs.lemmas.List.{length-map}
-use Rattle.col_views.specs.Values.{Encloses}
-use Rattle.col_views.proofs.MonotonicLemmas.{encloses_mapped}
-use Rattle.col_views.proofs.monotonic_column.monotonic_map_column.Goals.{then-num_vals-eq0, else-num_vals-eq0}
-use Rattle.col_views.proofs.monotonic_column.monotonic_map_column.Goals as goal
+use Rattle.col_values.specs.Values.{Encloses}
+use Rattle.col_values.proofs.MonotonicLemmas.{encloses_mapped}
+use Rattle.col_values.proofs.monotonic_column.monotonic_map_column.Goals.{then-num_vals-eq0, else-num_vals-eq0}
+use Rattle.col_values.proofs.monotonic_column.monotonic_map_column.Goals as goal
 
 -- the bounds enclose what is mapped
 encloses : (g : _) (c : goal.Joined-num_vals-eq0 g) → Encloses g.Internal.PartialOrd.partial_cmp c.if-num_vals-eq0.min_value.0 c.if-num_vals-eq0.min_value.1 (map (g.M.StrictlyMonotonicFn.there c.args.map) (g.V.ColumnValues.values c.args.values))

@@ -1,6 +1,6 @@
 use Rattle.std.proofs.Common.{Contains, sym}
-use Rattle.col_views.proofs.OrderLemmas.{encloses_more, contains_either}
-use Rattle.col_views.proofs.vec_column.bounds.Goals as goal
+use Rattle.col_values.proofs.OrderLemmas.{encloses_more, contains_either}
+use Rattle.col_values.proofs.vec_column.bounds.Goals as goal
 
 pub loop-value-preserved : goal.loop-value-preserved
 loop-value-preserved g c =

@@ -1,6 +1,6 @@
 use Rattle.std.proofs.Common.{Contains, take}
-use Rattle.col_views.specs.Values.{Encloses}
-use Rattle.col_views.proofs.vec_column.bounds.Given as goal
+use Rattle.col_values.specs.Values.{Encloses}
+use Rattle.col_values.proofs.vec_column.bounds.Given as goal
 
 -- both are values, and no value so far is outside
 abbrev pub invariant-loop-value : goal.invariant-loop-value

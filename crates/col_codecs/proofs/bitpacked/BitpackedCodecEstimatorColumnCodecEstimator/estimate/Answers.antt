@@ -2,12 +2,12 @@ use Rattle.std.proofs.Common.{◌≡◌, ◌≤◌, ◌+◌, ◌*◌, ◌^◌, �
 use Rattle.std.specs.Int.{div_ceil}
 use Rattle.col_bits.specs.Packed.{width}
 use Rattle.col_model.specs.Stats.{steps_of}
-use Rattle.col_values.specs.ColumnStats.{stats_seen}
-use Rattle.col_values.proofs.PossibleLemmas.{IsPossible-stats_of}
-use Rattle.col_values.proofs.EstimateLemmas.{stats_bytes-bound, bits-fit}
-use Rattle.col_values.proofs.WidthLemmas.{width-bound}
-use Rattle.col_values.proofs.BitpackedWritingLemmas.{estimated}
-use Rattle.col_values.proofs.bitpacked.BitpackedCodecEstimatorColumnCodecEstimator.estimate.Goals as goal
+use Rattle.col_codecs.specs.ColumnStats.{stats_seen}
+use Rattle.col_codecs.proofs.PossibleLemmas.{IsPossible-stats_of}
+use Rattle.col_codecs.proofs.EstimateLemmas.{stats_bytes-bound, bits-fit}
+use Rattle.col_codecs.proofs.WidthLemmas.{width-bound}
+use Rattle.col_codecs.proofs.BitpackedWritingLemmas.{estimated}
+use Rattle.col_codecs.proofs.bitpacked.BitpackedCodecEstimatorColumnCodecEstimator.estimate.Goals as goal
 
 pub steps-requires-clause-ordered : goal.steps-requires-clause-ordered
 steps-requires-clause-ordered c = (IsPossible-stats_of (stats_seen c.args.stats.now) c.requires.0 c.requires.3 (omega arith)).ordered

@@ -3,12 +3,12 @@ use Rattle.col_common.proofs.SerializingLemmas.{serializes-then}
 use Rattle.col_bits.specs.Packed.{packed_bytes, width}
 use Rattle.col_model.specs.Stats.{steps_of, stats_bytes}
 use Rattle.col_model.specs.Codecs.{steps_above}
-use Rattle.col_values.specs.ColumnStats.{stats_seen}
-use Rattle.col_values.specs.Bitpacked.{FitSteps}
-use Rattle.col_values.proofs.StatsLemmas.{serializes_as}
-use Rattle.col_values.proofs.BitpackedWritingLemmas.{FitSteps-stats_of, body-bytes}
-use Rattle.col_values.proofs.PossibleLemmas.{IsPossible-stats_of}
-use Rattle.col_values.proofs.bitpacked.BitpackedCodecEstimatorColumnCodecEstimator.serialize.Goals as goal
+use Rattle.col_codecs.specs.ColumnStats.{stats_seen}
+use Rattle.col_codecs.specs.Bitpacked.{FitSteps}
+use Rattle.col_codecs.proofs.StatsLemmas.{serializes_as}
+use Rattle.col_codecs.proofs.BitpackedWritingLemmas.{FitSteps-stats_of, body-bytes}
+use Rattle.col_codecs.proofs.PossibleLemmas.{IsPossible-stats_of}
+use Rattle.col_codecs.proofs.bitpacked.BitpackedCodecEstimatorColumnCodecEstimator.serialize.Goals as goal
 
 pub serialize-requires : goal.serialize-requires
 serialize-requires g c = IsPossible-stats_of (stats_seen c.args.stats.now) (g.I.Iterable.items c.args.vals.now) c.requires.stats (omega arith)

@@ -3,10 +3,10 @@ use Rattle.col_bits.specs.Packed.{width}
 use Rattle.col_model.specs.Stats.{Stats, same_stats, stats_of, steps_of}
 use Rattle.col_model.specs.Items.{is_packed}
 use Rattle.col_model.proofs.CodecLaws.{is_width-width}
-use Rattle.col_values.specs.Bitpacked.{bitpacked_items}
-use Rattle.col_values.specs.ColumnStats.{stats_seen}
-use Rattle.col_values.proofs.BitpackedLemmas.{list_by-other, list_by-packed, IsReader-same}
-use Rattle.col_values.proofs.bitpacked.BitpackedReader.open.Goals as goal
+use Rattle.col_codecs.specs.Bitpacked.{bitpacked_items}
+use Rattle.col_codecs.specs.ColumnStats.{stats_seen}
+use Rattle.col_codecs.proofs.BitpackedLemmas.{list_by-other, list_by-packed, IsReader-same}
+use Rattle.col_codecs.proofs.bitpacked.BitpackedReader.open.Goals as goal
 
 tested : (s : Stats) (bytes read : List ℕ) (w k : ℕ) (b test : Bool) → read ≡ bytes → w ≡ width k → k ≡ steps_of s → test ≡ b → test ≡ is_packed read (s.count * w) → is_packed bytes (s.count * width (steps_of s)) ≡ b
 tested s bytes read w k b test p q r t e = sym (e ∙ ap (λ a. is_packed a (s.count * w)) p ∙ ap (λ v. is_packed bytes (s.count * v)) (q ∙ ap width r)) ∙ t

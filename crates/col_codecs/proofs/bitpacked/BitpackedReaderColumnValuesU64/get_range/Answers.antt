@@ -1,7 +1,7 @@
 use Rattle.std.proofs.Common.{◌+◌, ◌*◌, ◌≤◌, length, map, ap, ◌∙◌, arith}
-use Rattle.col_values.specs.ColumnStats.{stats_seen}
-use Rattle.col_values.proofs.BitpackedLemmas.{length-bitpacked_items, part-fits, part-read}
-use Rattle.col_values.proofs.bitpacked.BitpackedReaderColumnValuesU64.get_range.Goals as goal
+use Rattle.col_codecs.specs.ColumnStats.{stats_seen}
+use Rattle.col_codecs.proofs.BitpackedLemmas.{length-bitpacked_items, part-fits, part-read}
+use Rattle.col_codecs.proofs.bitpacked.BitpackedReaderColumnValuesU64.get_range.Goals as goal
 
 pub overflow_cast-start : goal.overflow_cast-start
 overflow_cast-start c =

@@ -1,7 +1,7 @@
 use Rattle.std.proofs.Common.{ap, sym, ◌∙◌}
 use Rattle.col_model.specs.Stats.{least_of}
-use Rattle.col_values.proofs.BoundsLemmas.{stats_of-least, least-below}
-use Rattle.col_values.proofs.bitpacked.BitpackedReaderColumnValuesU64.min_value.Goals as goal
+use Rattle.col_codecs.proofs.BoundsLemmas.{stats_of-least, least-below}
+use Rattle.col_codecs.proofs.bitpacked.BitpackedReaderColumnValuesU64.min_value.Goals as goal
 
 pub returns-clause-value : goal.returns-clause-value
 returns-clause-value c = ap (λ s. s.least) (sym c.self.invariant.exact) ∙ stats_of-least _ ∙ ap least_of c.self.view_is

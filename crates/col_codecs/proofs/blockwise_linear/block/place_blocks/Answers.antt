@@ -1,9 +1,9 @@
 use Rattle.std.proofs.Common.{arith, refl, map}
 use Rattle.col_model.proofs.BlockReadingLaws.{at_block-first}
 use Rattle.std.proofs.lemmas.List.{length-map}
-use Rattle.col_values.specs.Blocks.{block_slope}
-use Rattle.col_values.proofs.BlockPlacingLemmas.{PlacedSoFar-none, placing-end, placing-short, placing-spare, placing-next, placing-slopes, placing-placed}
-use Rattle.col_values.proofs.blockwise_linear.block.place_blocks.Goals as goal
+use Rattle.col_codecs.specs.Blocks.{block_slope}
+use Rattle.col_codecs.proofs.BlockPlacingLemmas.{PlacedSoFar-none, placing-end, placing-short, placing-spare, placing-next, placing-slopes, placing-placed}
+use Rattle.col_codecs.proofs.blockwise_linear.block.place_blocks.Goals as goal
 
 pub loop-at-init : goal.loop-at-init
 loop-at-init c =

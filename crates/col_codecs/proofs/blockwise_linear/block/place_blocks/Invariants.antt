@@ -1,8 +1,8 @@
 use Rattle.std.proofs.Common.{◌≡◌, ◌-◌, ◌*◌, map}
 use Rattle.col_model.proofs.BlockReadingLaws.{IsAtBlock}
-use Rattle.col_values.specs.Blocks.{block_slope}
-use Rattle.col_values.proofs.BlockPlacingLemmas.{PlacedSoFar}
-use Rattle.col_values.proofs.blockwise_linear.block.place_blocks.Given as goal
+use Rattle.col_codecs.specs.Blocks.{block_slope}
+use Rattle.col_codecs.proofs.BlockPlacingLemmas.{PlacedSoFar}
+use Rattle.col_codecs.proofs.blockwise_linear.block.place_blocks.Given as goal
 
 abbrev pub invariant-loop-at : goal.invariant-loop-at
 invariant-loop-at l =

@@ -1,8 +1,8 @@
 use Rattle.std.proofs.Common.{true, false, sym, ap, ◌∙◌, arith, Some}
-use Rattle.col_values.specs.declared.blockwise_linear.block.Block.{Block}
-use Rattle.col_values.specs.Line.{with_width}
-use Rattle.col_values.proofs.BlockReadingLemmas.{lines_of-short, AreRead-push, AreRead-stuck, AreRead-end}
-use Rattle.col_values.proofs.blockwise_linear.block.read_blocks.Goals as goal
+use Rattle.col_codecs.specs.declared.blockwise_linear.block.Block.{Block}
+use Rattle.col_codecs.specs.Line.{with_width}
+use Rattle.col_codecs.proofs.BlockReadingLemmas.{lines_of-short, AreRead-push, AreRead-stuck, AreRead-end}
+use Rattle.col_codecs.proofs.blockwise_linear.block.read_blocks.Goals as goal
 
 pub returns-then-lines-count : goal.returns-then-lines-count
 returns-then-lines-count c = lines_of-short c.args.count c.args.lines.now (omega arith)

@@ -1,9 +1,9 @@
 use Rattle.std.proofs.Common.{◌≤◌, ◌+◌, ◌*◌, arith}
 use Rattle.col_model.specs.Codecs.{block_size}
-use Rattle.col_values.specs.Slope.{slope_seen}
-use Rattle.col_values.proofs.LineLemmas.{vint_bytes-bound}
-use Rattle.col_values.proofs.BlockEstimateLemmas.{block_estimate-parts, block_estimate-bound}
-use Rattle.col_values.proofs.blockwise_linear.estimator.estimate_block.Goals as goal
+use Rattle.col_codecs.specs.Slope.{slope_seen}
+use Rattle.col_codecs.proofs.LineLemmas.{vint_bytes-bound}
+use Rattle.col_codecs.proofs.BlockEstimateLemmas.{block_estimate-parts, block_estimate-bound}
+use Rattle.col_codecs.proofs.blockwise_linear.estimator.estimate_block.Goals as goal
 
 pub returns : goal.returns
 returns c =

@@ -1,10 +1,10 @@
 use Rattle.std.proofs.Common.{arith}
 use Rattle.col_common.proofs.SerializingLemmas.{serializes-then}
-use Rattle.col_values.specs.ColumnStats.{stats_seen}
-use Rattle.col_values.proofs.StatsLemmas.{serializes_as}
-use Rattle.col_values.proofs.PossibleLemmas.{IsPossible-stats_of}
-use Rattle.col_values.proofs.BlockEstimateLemmas.{blockwise_body-parts}
-use Rattle.col_values.proofs.blockwise_linear.estimator.serialize_behind_codec.Goals as goal
+use Rattle.col_codecs.specs.ColumnStats.{stats_seen}
+use Rattle.col_codecs.proofs.StatsLemmas.{serializes_as}
+use Rattle.col_codecs.proofs.PossibleLemmas.{IsPossible-stats_of}
+use Rattle.col_codecs.proofs.BlockEstimateLemmas.{blockwise_body-parts}
+use Rattle.col_codecs.proofs.blockwise_linear.estimator.serialize_behind_codec.Goals as goal
 
 pub serialize-requires : goal.serialize-requires
 serialize-requires g c = IsPossible-stats_of (stats_seen c.args.stats.now) (g.I.Iterable.items c.args.vals.now) c.requires (omega arith)

@@ -1,7 +1,7 @@
 use Rattle.std.proofs.Common.{◌+◌, ◌-◌, ◌%◌, ◌^◌, slice_index_or, ap, arith}
-use Rattle.col_values.specs.Slope.{slope_of}
-use Rattle.col_values.proofs.BlockOffsetLemmas.{AreOffsets-push}
-use Rattle.col_values.proofs.blockwise_linear.offsets.take_offsets.Goals as goal
+use Rattle.col_codecs.specs.Slope.{slope_of}
+use Rattle.col_codecs.proofs.BlockOffsetLemmas.{AreOffsets-push}
+use Rattle.col_codecs.proofs.blockwise_linear.offsets.take_offsets.Goals as goal
 
 pub loop-at-preserved : goal.loop-at-preserved
 loop-at-preserved c =

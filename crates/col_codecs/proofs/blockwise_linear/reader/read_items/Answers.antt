@@ -1,8 +1,8 @@
 use Rattle.std.proofs.Common.{◌+◌, ◌/◌, ◌∙◌, ◌≤◌, ◌≡◌, length, arith}
-use Rattle.col_values.specs.ColumnStats.{stats_seen}
-use Rattle.col_values.proofs.BlockStepsLemmas.{block-found}
-use Rattle.col_values.proofs.BlockRangeLemmas.{room-kept, range-more, range-read}
-use Rattle.col_values.proofs.blockwise_linear.reader.read_items.Goals as goal
+use Rattle.col_codecs.specs.ColumnStats.{stats_seen}
+use Rattle.col_codecs.proofs.BlockStepsLemmas.{block-found}
+use Rattle.col_codecs.proofs.BlockRangeLemmas.{room-kept, range-more, range-read}
+use Rattle.col_codecs.proofs.blockwise_linear.reader.read_items.Goals as goal
 
 pub loop-filled-preserved : goal.loop-filled-preserved
 loop-filled-preserved c =

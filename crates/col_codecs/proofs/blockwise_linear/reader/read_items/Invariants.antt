@@ -1,8 +1,8 @@
 use Rattle.std.proofs.Common.{◌≡◌, ◌-◌, ◌≤◌, length, map, take}
 use Rattle.std.specs.List.{range_with_len}
-use Rattle.col_values.specs.ColumnStats.{stats_seen}
-use Rattle.col_values.proofs.BlockRangeLemmas.{own_item}
-use Rattle.col_values.proofs.blockwise_linear.reader.read_items.Given as goal
+use Rattle.col_codecs.specs.ColumnStats.{stats_seen}
+use Rattle.col_codecs.proofs.BlockRangeLemmas.{own_item}
+use Rattle.col_codecs.proofs.blockwise_linear.reader.read_items.Given as goal
 
 -- the front of the output are the items so far
 abbrev pub invariant-loop-filled : goal.invariant-loop-filled

@@ -1,11 +1,11 @@
 use Rattle.std.proofs.Common.{◌∙◌, true, false, Some, sym, ap, subst, length, take, List}
 use Rattle.std.proofs.lemmas.Result.{err_from_is_err_and}
-use Rattle.col_values.specs.declared.blockwise_linear.block.Block.{Block}
-use Rattle.col_values.specs.ColumnStats.{stats_seen}
-use Rattle.col_values.specs.Header.{list_by}
-use Rattle.col_values.specs.Blocks.{items_in, lines_of, IsReader}
-use Rattle.col_values.proofs.BlockReaderLemmas.{list_by-no_parts, list_by-no_lines, refuses-list, list_by-other_blocks, held-count, held-list, held-reader}
-use Rattle.col_values.proofs.blockwise_linear.reader.read_list.Goals as goal
+use Rattle.col_codecs.specs.declared.blockwise_linear.block.Block.{Block}
+use Rattle.col_codecs.specs.ColumnStats.{stats_seen}
+use Rattle.col_codecs.specs.Header.{list_by}
+use Rattle.col_codecs.specs.Blocks.{items_in, lines_of, IsReader}
+use Rattle.col_codecs.proofs.BlockReaderLemmas.{list_by-no_parts, list_by-no_lines, refuses-list, list_by-other_blocks, held-count, held-list, held-reader}
+use Rattle.col_codecs.proofs.blockwise_linear.reader.read_list.Goals as goal
 
 pub returns-in_default-clause-list : goal.returns-in_default-clause-list
 returns-in_default-clause-list c = list_by-no_parts (stats_seen c.args.stats.now) c.args.bytes.now (sym c.in_default.ensures)

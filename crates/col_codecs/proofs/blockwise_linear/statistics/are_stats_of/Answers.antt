@@ -1,12 +1,12 @@
 use Rattle.std.proofs.Common.{◌≡◌, ◌++◌, ◌-◌, ◌∙◌, sym, ap, refl, arith, map, false, ℕ}
 use Rattle.std.specs.List.{list_all}
 use Rattle.col_model.specs.Stats.{Stats, same_stats, stats_of}
-use Rattle.col_values.specs.declared.blockwise_linear.block.Block.{Block}
-use Rattle.col_values.specs.ColumnStats.{stats_seen, collected_of}
-use Rattle.col_values.specs.Blocks.{item_of, steps_in, steps_in_block, is_whole, own_step}
-use Rattle.col_values.proofs.BlockStatsLemmas.{only_if-some, only_if-none, same_stats-whole, same_stats-other}
-use Rattle.col_values.proofs.BlockStepsLemmas.{done, length-steps_in, walked-room, walked-whole, walked-own, walked-other, block-found}
-use Rattle.col_values.proofs.blockwise_linear.statistics.are_stats_of.Goals as goal
+use Rattle.col_codecs.specs.declared.blockwise_linear.block.Block.{Block}
+use Rattle.col_codecs.specs.ColumnStats.{stats_seen, collected_of}
+use Rattle.col_codecs.specs.Blocks.{item_of, steps_in, steps_in_block, is_whole, own_step}
+use Rattle.col_codecs.proofs.BlockStatsLemmas.{only_if-some, only_if-none, same_stats-whole, same_stats-other}
+use Rattle.col_codecs.proofs.BlockStepsLemmas.{done, length-steps_in, walked-room, walked-whole, walked-own, walked-other, block-found}
+use Rattle.col_codecs.proofs.blockwise_linear.statistics.are_stats_of.Goals as goal
 
 pub loop-at-init : goal.loop-at-init
 unfolding steps_in

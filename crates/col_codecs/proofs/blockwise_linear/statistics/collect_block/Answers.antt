@@ -1,9 +1,9 @@
 use Rattle.std.proofs.Common.{◌++◌, ◌∙◌, ap, refl, arith, map}
-use Rattle.col_values.specs.ColumnStats.{stats_seen, collected_of}
-use Rattle.col_values.specs.Blocks.{steps_in_block, is_whole, own_step}
-use Rattle.col_values.proofs.StatsLemmas.{collected-count}
-use Rattle.col_values.proofs.BlockStatsLemmas.{only_if-some, only_if-none, block-whole, block-collected, block-other, block-count}
-use Rattle.col_values.proofs.blockwise_linear.statistics.collect_block.Goals as goal
+use Rattle.col_codecs.specs.ColumnStats.{stats_seen, collected_of}
+use Rattle.col_codecs.specs.Blocks.{steps_in_block, is_whole, own_step}
+use Rattle.col_codecs.proofs.StatsLemmas.{collected-count}
+use Rattle.col_codecs.proofs.BlockStatsLemmas.{only_if-some, only_if-none, block-whole, block-collected, block-other, block-count}
+use Rattle.col_codecs.proofs.blockwise_linear.statistics.collect_block.Goals as goal
 
 pub returns-in_default : goal.returns-in_default
 returns-in_default c = λ xs e.

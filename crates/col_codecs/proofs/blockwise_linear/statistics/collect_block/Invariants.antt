@@ -1,8 +1,8 @@
 use Rattle.std.proofs.Common.{◌≡◌, ◌++◌, true, ℕ, List, map}
 use Rattle.std.specs.List.{list_all}
-use Rattle.col_values.specs.ColumnStats.{stats_seen, collected_of}
-use Rattle.col_values.specs.Blocks.{steps_in_block, is_whole, own_step}
-use Rattle.col_values.proofs.blockwise_linear.statistics.collect_block.Given as goal
+use Rattle.col_codecs.specs.ColumnStats.{stats_seen, collected_of}
+use Rattle.col_codecs.specs.Blocks.{steps_in_block, is_whole, own_step}
+use Rattle.col_codecs.proofs.blockwise_linear.statistics.collect_block.Given as goal
 
 abbrev pub invariant-loop-at : goal.invariant-loop-at
 invariant-loop-at l =

@@ -1,7 +1,7 @@
 use Rattle.std.proofs.Common.{refl}
-use Rattle.col_values.specs.ColumnStats.{stats_seen}
-use Rattle.col_values.proofs.BlockStatsLemmas.{item_of-wrapped, whole-below, whole-above, whole-odd, whole-found}
-use Rattle.col_values.proofs.blockwise_linear.statistics.wrapped_step.Goals as goal
+use Rattle.col_codecs.specs.ColumnStats.{stats_seen}
+use Rattle.col_codecs.proofs.BlockStatsLemmas.{item_of-wrapped, whole-below, whole-above, whole-odd, whole-found}
+use Rattle.col_codecs.proofs.blockwise_linear.statistics.wrapped_step.Goals as goal
 
 pub returns-then-value-stats : goal.returns-then-value-stats
 returns-then-value-stats c = whole-below (stats_seen c.args.stats.now) c.args.step _ (item_of-wrapped (stats_seen c.args.stats.now) c.args.step _ refl) c.if-value-stats.true

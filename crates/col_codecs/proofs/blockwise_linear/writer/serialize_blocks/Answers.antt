@@ -1,10 +1,10 @@
 use Rattle.std.proofs.Common.{◌∙◌}
 use Rattle.col_common.proofs.SerializingLemmas.{serializes-then}
 use Rattle.col_model.specs.Codecs.{blocks_of, steps_above}
-use Rattle.col_values.specs.ColumnStats.{stats_seen}
-use Rattle.col_values.proofs.StatsLemmas.{serializes_as}
-use Rattle.col_values.proofs.BlockWritingLemmas.{blocks_bytes-parts}
-use Rattle.col_values.proofs.blockwise_linear.writer.serialize_blocks.Goals as goal
+use Rattle.col_codecs.specs.ColumnStats.{stats_seen}
+use Rattle.col_codecs.proofs.StatsLemmas.{serializes_as}
+use Rattle.col_codecs.proofs.BlockWritingLemmas.{blocks_bytes-parts}
+use Rattle.col_codecs.proofs.blockwise_linear.writer.serialize_blocks.Goals as goal
 
 pub returns : goal.returns
 returns g c = serializes_as _ _ _ _ _ _ _

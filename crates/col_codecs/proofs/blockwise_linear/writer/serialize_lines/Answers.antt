@@ -1,7 +1,7 @@
 use Rattle.std.proofs.Common.{ap, ◌++◌}
 use Rattle.col_common.proofs.SerializingLemmas.{serializes-then}
-use Rattle.col_values.proofs.StatsLemmas.{serializes_as}
-use Rattle.col_values.proofs.blockwise_linear.writer.serialize_lines.Goals as goal
+use Rattle.col_codecs.proofs.StatsLemmas.{serializes_as}
+use Rattle.col_codecs.proofs.blockwise_linear.writer.serialize_lines.Goals as goal
 
 pub returns : goal.returns
 returns g c = serializes_as _ _ _ _ _ _ _

@@ -4,10 +4,10 @@ use Rattle.std.proofs.lemmas.Result.{err_from_is_err_and}
 use Rattle.col_common.proofs.SerializingLemmas.{serializes-then, serializes-stopped, serializes-nothing}
 use Rattle.col_model.specs.Codecs.{block_size, cut_blocks, steps_above, packed_block, block_line, slope_bytes}
 use Rattle.col_model.proofs.CutLaws.{block_at}
-use Rattle.col_values.specs.ColumnStats.{stats_seen}
-use Rattle.col_values.proofs.StatsLemmas.{serializes_as}
-use Rattle.col_values.proofs.BlockWritingLemmas.{packed_so_far, lines_so_far, packed_so_far-more, lines_so_far-more, steps_above-block, IsBlock-taken, all_blocks, left-next}
-use Rattle.col_values.proofs.blockwise_linear.writer.serialize_packed.Goals as goal
+use Rattle.col_codecs.specs.ColumnStats.{stats_seen}
+use Rattle.col_codecs.proofs.StatsLemmas.{serializes_as}
+use Rattle.col_codecs.proofs.BlockWritingLemmas.{packed_so_far, lines_so_far, packed_so_far-more, lines_so_far-more, steps_above-block, IsBlock-taken, all_blocks, left-next}
+use Rattle.col_codecs.proofs.blockwise_linear.writer.serialize_packed.Goals as goal
 
 pub loop-block_id-init : goal.loop-block_id-init
 unfolding cut_blocks

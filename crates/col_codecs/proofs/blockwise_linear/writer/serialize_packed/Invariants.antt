@@ -1,9 +1,9 @@
 use Rattle.std.proofs.Common.{◌≡◌, ◌*◌, drop, length, Ok}
 use Rattle.col_common.specs.Serializing.{Serializes}
 use Rattle.col_model.specs.Codecs.{steps_above}
-use Rattle.col_values.specs.ColumnStats.{stats_seen}
-use Rattle.col_values.proofs.BlockWritingLemmas.{packed_so_far, lines_so_far}
-use Rattle.col_values.proofs.blockwise_linear.writer.serialize_packed.Given as goal
+use Rattle.col_codecs.specs.ColumnStats.{stats_seen}
+use Rattle.col_codecs.proofs.BlockWritingLemmas.{packed_so_far, lines_so_far}
+use Rattle.col_codecs.proofs.blockwise_linear.writer.serialize_packed.Given as goal
 
 abbrev pub invariant-loop-block_id : goal.invariant-loop-block_id
 invariant-loop-block_id g l =

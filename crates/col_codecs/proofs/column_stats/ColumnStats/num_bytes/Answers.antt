@@ -1,7 +1,7 @@
 use Rattle.std.proofs.Common.{◌≤◌, arith, ℕ, length, ◌≡◌}
 use Rattle.col_common.specs.VInt.{vint_bytes}
-use Rattle.col_values.proofs.LineLemmas.{vint_bytes-bound}
-use Rattle.col_values.proofs.column_stats.ColumnStats.num_bytes.Goals as goal
+use Rattle.col_codecs.proofs.LineLemmas.{vint_bytes-bound}
+use Rattle.col_codecs.proofs.column_stats.ColumnStats.num_bytes.Goals as goal
 
 -- a count of a number's bytes is small
 few : (count n : ℕ) → count ≡ length (vint_bytes n) → count ≤ 19

@@ -1,9 +1,9 @@
 use Rattle.std.proofs.Common.{arith, refl}
 use Rattle.col_common.proofs.SerializingLemmas.{serializes-then}
-use Rattle.col_values.proofs.StatsLemmas.{serializes_as, stats_bytes-pairs}
-use Rattle.col_values.proofs.PossibleLemmas.{stats_at-possible}
-use Rattle.col_values.specs.ColumnStats.{stats_seen}
-use Rattle.col_values.proofs.column_stats.ColumnStats.serialize.Goals as goal
+use Rattle.col_codecs.proofs.StatsLemmas.{serializes_as, stats_bytes-pairs}
+use Rattle.col_codecs.proofs.PossibleLemmas.{stats_at-possible}
+use Rattle.col_codecs.specs.ColumnStats.{stats_seen}
+use Rattle.col_codecs.proofs.column_stats.ColumnStats.serialize.Goals as goal
 
 pub returns-clause-ok : goal.returns-clause-ok
 returns-clause-ok g c = serializes_as _ _ _ _ _ _ _

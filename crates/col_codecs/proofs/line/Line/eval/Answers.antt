@@ -1,7 +1,7 @@
 use Rattle.std.proofs.Common.{◌+◌, ◌*◌, ◌/◌, ◌%◌, ◌^◌, ap, ◌∙◌, arith}
 use Rattle.col_model.specs.Line.{line, signed_32}
-use Rattle.col_values.proofs.LineLemmas.{extended_by_casts}
-use Rattle.col_values.proofs.line.Line.eval.Goals as goal
+use Rattle.col_codecs.proofs.LineLemmas.{extended_by_casts}
+use Rattle.col_codecs.proofs.line.Line.eval.Goals as goal
 
 pub returns : goal.returns
 unfolding line

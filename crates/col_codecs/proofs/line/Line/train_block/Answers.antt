@@ -1,8 +1,8 @@
 use Rattle.std.proofs.Common.{◌+◌, ◌-◌, ◌%◌, ◌^◌, slice_index, length, refl, arith}
 use Rattle.std.specs.List.{enumerate_from}
 use Rattle.std.proofs.lemmas.List.FromFn.{length-enumerate_from}
-use Rattle.col_values.proofs.LineLemmas.{trained_line-one, trained_line-passed}
-use Rattle.col_values.proofs.line.Line.train_block.Goals as goal
+use Rattle.col_codecs.proofs.LineLemmas.{trained_line-one, trained_line-passed}
+use Rattle.col_codecs.proofs.line.Line.train_block.Goals as goal
 
 pub returns-then-num_vals-eq1 : goal.returns-then-num_vals-eq1
 returns-then-num_vals-eq1 c = trained_line-one _ _ _ _ _ _ c.if-num_vals-eq1.true c.default.ensures.0 c.default.ensures.1

@@ -1,7 +1,7 @@
 use Rattle.std.proofs.Common.{◌≡◌, ◌+◌, ◌%◌, ◌^◌, fold, min, refl, ap, sym, ◌∙◌}
-use Rattle.col_values.specs.Line.{distances}
-use Rattle.col_values.proofs.LineLemmas.{trained_line-one, trained_line-passed}
-use Rattle.col_values.proofs.line.Line.train_from.Goals as goal
+use Rattle.col_codecs.specs.Line.{distances}
+use Rattle.col_codecs.proofs.LineLemmas.{trained_line-one, trained_line-passed}
+use Rattle.col_codecs.proofs.line.Line.train_from.Goals as goal
 
 pub returns-then-num_vals-eq1 : goal.returns-then-num_vals-eq1
 returns-then-num_vals-eq1 g c = trained_line-one _ _ _ _ _ _ c.if-num_vals-eq1.true c.default.ensures.0 c.default.ensures.1

@@ -1,7 +1,7 @@
 use Rattle.std.proofs.Common.{sym}
-use Rattle.col_values.specs.ColumnStats.{stats_seen}
-use Rattle.col_values.proofs.HeaderLemmas.{values64-some, values64-none}
-use Rattle.col_values.proofs.linear.LinearCodecColumnCodec.load.Goals as goal
+use Rattle.col_codecs.specs.ColumnStats.{stats_seen}
+use Rattle.col_codecs.proofs.HeaderLemmas.{values64-some, values64-none}
+use Rattle.col_codecs.proofs.linear.LinearCodecColumnCodec.load.Goals as goal
 
 pub returns-in_default : goal.returns-in_default
 returns-in_default c = values64-none 1 c.args.bytes (sym c.in_default.ensures.value)

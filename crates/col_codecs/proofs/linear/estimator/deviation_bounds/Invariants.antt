@@ -1,8 +1,8 @@
 use Rattle.std.proofs.Common.{◌≡◌, fold, min, max, map, drop}
 use Rattle.std.specs.List.{enumerate_from}
 use Rattle.col_model.specs.Codecs.{deviation, deviations}
-use Rattle.col_values.specs.Line.{line_seen}
-use Rattle.col_values.proofs.linear.estimator.deviation_bounds.Given as goal
+use Rattle.col_codecs.specs.Line.{line_seen}
+use Rattle.col_codecs.proofs.linear.estimator.deviation_bounds.Given as goal
 
 abbrev pub invariant-loop-val : goal.invariant-loop-val
 invariant-loop-val l =

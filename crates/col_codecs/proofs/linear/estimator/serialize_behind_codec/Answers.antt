@@ -1,12 +1,12 @@
 use Rattle.std.proofs.Common.{arith}
 use Rattle.std.proofs.lemmas.Result.{err_from_is_err_and}
 use Rattle.col_common.proofs.SerializingLemmas.{serializes-then, serializes-stopped}
-use Rattle.col_values.specs.ColumnStats.{stats_seen}
-use Rattle.col_values.specs.Slope.{slope_seen}
-use Rattle.col_values.proofs.StatsLemmas.{serializes_as}
-use Rattle.col_values.proofs.PossibleLemmas.{IsPossible-stats_of}
-use Rattle.col_values.proofs.EstimateLemmas.{linear_width, linear_fit, linear_body-parts}
-use Rattle.col_values.proofs.linear.estimator.serialize_behind_codec.Goals as goal
+use Rattle.col_codecs.specs.ColumnStats.{stats_seen}
+use Rattle.col_codecs.specs.Slope.{slope_seen}
+use Rattle.col_codecs.proofs.StatsLemmas.{serializes_as}
+use Rattle.col_codecs.proofs.PossibleLemmas.{IsPossible-stats_of}
+use Rattle.col_codecs.proofs.EstimateLemmas.{linear_width, linear_fit, linear_body-parts}
+use Rattle.col_codecs.proofs.linear.estimator.serialize_behind_codec.Goals as goal
 
 pub serialize-requires : goal.serialize-requires
 serialize-requires g c = IsPossible-stats_of (stats_seen c.args.stats.now) (g.I.Iterable.items c.args.vals.now) c.requires.stats (omega arith)

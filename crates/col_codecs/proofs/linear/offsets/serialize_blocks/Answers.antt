@@ -1,9 +1,9 @@
 use Rattle.std.proofs.Common.{◌≡◌, min, Ok, Err, List, ℕ, length, refl, sym, subst, arith}
 use Rattle.std.proofs.lemmas.Result.{err_from_is_err_and}
 use Rattle.col_common.specs.Serializing.{Serializes}
-use Rattle.col_values.specs.Slope.{slope_seen}
-use Rattle.col_values.proofs.OffsetLemmas.{AllFit, packed_from, block-fits, written-more, written-stopped}
-use Rattle.col_values.proofs.linear.offsets.serialize_blocks.Goals as goal
+use Rattle.col_codecs.specs.Slope.{slope_seen}
+use Rattle.col_codecs.proofs.OffsetLemmas.{AllFit, packed_from, block-fits, written-more, written-stopped}
+use Rattle.col_codecs.proofs.linear.offsets.serialize_blocks.Goals as goal
 
 pub serialize_block-requires-clause-small : goal.serialize_block-requires-clause-small
 serialize_block-requires-clause-small g c =

@@ -1,7 +1,7 @@
 use Rattle.std.proofs.Common.{length}
-use Rattle.col_values.specs.Slope.{slope_seen}
-use Rattle.col_values.proofs.OffsetLemmas.{IsWritten}
-use Rattle.col_values.proofs.linear.offsets.serialize_blocks.Given as goal
+use Rattle.col_codecs.specs.Slope.{slope_seen}
+use Rattle.col_codecs.proofs.OffsetLemmas.{IsWritten}
+use Rattle.col_codecs.proofs.linear.offsets.serialize_blocks.Given as goal
 
 abbrev pub invariant-values : goal.invariant-values
 invariant-values g l =

@@ -1,7 +1,7 @@
 use Rattle.std.proofs.Common.{Some, ap, sym, ◌∙◌}
-use Rattle.col_values.specs.Slope.{slope_seen}
-use Rattle.col_values.proofs.LinearReaderLemmas.{slope_at-behind}
-use Rattle.col_values.proofs.linear.reader.read_slope.Goals as goal
+use Rattle.col_codecs.specs.Slope.{slope_seen}
+use Rattle.col_codecs.proofs.LinearReaderLemmas.{slope_at-behind}
+use Rattle.col_codecs.proofs.linear.reader.read_slope.Goals as goal
 
 pub overflow_sub-result : goal.overflow_sub-result
 overflow_sub-result c = (slope_at-behind c.args.bytes.now c.in_ok-slope.rest.now (slope_seen c.in_ok-slope.slope) (λ k. (c.type_inv.bytes k).fits) (sym c.in_ok-slope.ensures.value)).0

@@ -2,8 +2,8 @@ use Rattle.std.proofs.Common.{append_assoc, ◌∷◌, []}
 use Rattle.col_common.specs.VInt.{vint_bytes}
 use Rattle.col_common.proofs.SerializingLemmas.{serializes-then}
 use Rattle.col_model.specs.Codecs.{slope_bytes}
-use Rattle.col_values.proofs.StatsLemmas.{serializes_as}
-use Rattle.col_values.proofs.slope.Slope.serialize.Goals as goal
+use Rattle.col_codecs.proofs.StatsLemmas.{serializes_as}
+use Rattle.col_codecs.proofs.slope.Slope.serialize.Goals as goal
 
 pub returns : goal.returns
 unfolding slope_bytes

@@ -1,11 +1,11 @@
 use Rattle.std.proofs.Common.{◌≡◌, ◌+◌, ap, ◌∙◌, arith, ℕ, min, max, refl}
 use Rattle.std.specs.Int.{abs_diff}
 use Rattle.col_model.specs.Stats.{gcd}
-use Rattle.col_values.specs.ColumnStats.{Collected, collected_of}
-use Rattle.col_values.specs.declared.stats_collector.StatsCollector.TheInside.{Inside}
-use Rattle.col_values.proofs.StatsLemmas.{collected-first, collected-more}
-use Rattle.col_values.proofs.stats_collector.StatsCollector.collect.Goals.{then-self-eq0, else-self-eq0}
-use Rattle.col_values.proofs.stats_collector.StatsCollector.collect.Goals as goal
+use Rattle.col_codecs.specs.ColumnStats.{Collected, collected_of}
+use Rattle.col_codecs.specs.declared.stats_collector.StatsCollector.TheInside.{Inside}
+use Rattle.col_codecs.proofs.StatsLemmas.{collected-first, collected-more}
+use Rattle.col_codecs.proofs.stats_collector.StatsCollector.collect.Goals.{then-self-eq0, else-self-eq0}
+use Rattle.col_codecs.proofs.stats_collector.StatsCollector.collect.Goals as goal
 
 -- what is seen of the fields, with so many values
 abbrev seen : Inside → ℕ → Collected

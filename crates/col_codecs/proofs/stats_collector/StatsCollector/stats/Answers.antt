@@ -1,7 +1,7 @@
 use Rattle.std.proofs.Common.{◌∙◌}
-use Rattle.col_values.specs.ColumnStats.{Collected}
-use Rattle.col_values.proofs.StatsLemmas.{stats_of-collected}
-use Rattle.col_values.proofs.stats_collector.StatsCollector.stats.Goals as goal
+use Rattle.col_codecs.specs.ColumnStats.{Collected}
+use Rattle.col_codecs.proofs.StatsLemmas.{stats_of-collected}
+use Rattle.col_codecs.proofs.stats_collector.StatsCollector.stats.Goals as goal
 
 pub returns : goal.returns
 returns c = λ xs e.

@@ -1,7 +1,7 @@
 use Rattle.std.proofs.Common.{◌∙◌, ap}
-use Rattle.col_values.specs.ColumnStats.{Collected}
-use Rattle.col_values.proofs.StatsLemmas.{collected-widened}
-use Rattle.col_values.proofs.stats_collector.StatsCollector.widen.Goals as goal
+use Rattle.col_codecs.specs.ColumnStats.{Collected}
+use Rattle.col_codecs.proofs.StatsLemmas.{collected-widened}
+use Rattle.col_codecs.proofs.stats_collector.StatsCollector.widen.Goals as goal
 
 pub returns-clause-more : goal.returns-clause-more
 returns-clause-more c xs e =

@@ -1,10 +1,10 @@
 use Rattle.std.proofs.Common.{◌≡◌, ◌++◌, ◌∷◌, [], ◌+◌, List, ℕ, get_or, take, length-take, ap, sym, subst, ◌∙◌, arith}
 use Rattle.std.proofs.lemmas.List.{take_more, take_all}
 use Rattle.col_model.specs.Stats.{stats_of}
-use Rattle.col_values.specs.ColumnStats.{collected_of}
-use Rattle.col_values.specs.Blockwise.{IsCollected}
-use Rattle.col_values.proofs.StatsLemmas.{collected-count}
-use Rattle.col_values.proofs.tests.blockwise_linear.collected.Goals as goal
+use Rattle.col_codecs.specs.ColumnStats.{collected_of}
+use Rattle.col_codecs.specs.Blockwise.{IsCollected}
+use Rattle.col_codecs.proofs.StatsLemmas.{collected-count}
+use Rattle.col_codecs.proofs.tests.blockwise_linear.collected.Goals as goal
 
 pub collect-requires-in-loop-val : goal.collect-requires-in-loop-val
 collect-requires-in-loop-val c =

@@ -1,7 +1,7 @@
 use Rattle.std.proofs.Common.{◌≡◌, take}
-use Rattle.col_values.specs.ColumnStats.{collected_of}
-use Rattle.col_values.specs.Linear.{IsCollected}
-use Rattle.col_values.proofs.tests.linear.collected.Given as goal
+use Rattle.col_codecs.specs.ColumnStats.{collected_of}
+use Rattle.col_codecs.specs.Linear.{IsCollected}
+use Rattle.col_codecs.proofs.tests.linear.collected.Given as goal
 
 abbrev pub invariant-loop-val : goal.invariant-loop-val
 invariant-loop-val l = record {

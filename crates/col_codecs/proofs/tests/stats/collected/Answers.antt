@@ -1,6 +1,6 @@
 use Rattle.std.proofs.Common.{arith, take, length-take}
-use Rattle.col_values.proofs.StatsLemmas.{collected-count}
-use Rattle.col_values.proofs.tests.stats.collected.Goals as goal
+use Rattle.col_codecs.proofs.StatsLemmas.{collected-count}
+use Rattle.col_codecs.proofs.tests.stats.collected.Goals as goal
 
 pub collect-requires : goal.collect-requires
 collect-requires c =

@@ -1,7 +1,7 @@
 use Rattle.std.proofs.Common.{length, ap, subst, sym, ◌∙◌, map}
 use Rattle.std.specs.List.{slice_get}
 use Rattle.std.proofs.lemmas.List.{take_at}
-use Rattle.col_views.specs.Values.{AreBelow}
+use Rattle.col_values.specs.Values.{AreBelow}
 use Rattle.col_index.proofs.SelectedLemmas.{ranks_below, selected_each, rows_at-selected}
 use Rattle.col_index.proofs.optional_index.OptionalIndex.select_batch_in_place.Goals as goal
 

@@ -1,6 +1,6 @@
 use Rattle.std.proofs.Common.{◌+◌, ◌≤◌, ◌<◌, length, arith}
-use Rattle.col_views.proofs.HitLemmas.{part_more}
-use Rattle.col_views.proofs.column_values.ColumnValues.get_range.Goals as goal
+use Rattle.col_values.proofs.HitLemmas.{part_more}
+use Rattle.col_values.proofs.column_values.ColumnValues.get_range.Goals as goal
 
 pub loop-at-preserved : goal.loop-at-preserved
 loop-at-preserved g c =

@@ -1,5 +1,5 @@
 use Rattle.std.proofs.Common.{◌≡◌, take, drop}
-use Rattle.col_views.proofs.column_values.ColumnValues.get_range.Given as goal
+use Rattle.col_values.proofs.column_values.ColumnValues.get_range.Given as goal
 
 -- what is written is what stands there
 abbrev pub invariant-loop-at : goal.invariant-loop-at

@@ -1,8 +1,8 @@
 use Rattle.std.proofs.Common.{◌+◌, ◌-◌, arith}
 use Rattle.std.proofs.lemmas.Grind.{common_steps}
-use Rattle.col_views.specs.Values.{is_between}
-use Rattle.col_views.proofs.HitLemmas.{hits_joined, kept_hits, kept_within}
-use Rattle.col_views.proofs.column_values.ColumnValues.get_row_ids_between.Goals as goal
+use Rattle.col_values.specs.Values.{is_between}
+use Rattle.col_values.proofs.HitLemmas.{hits_joined, kept_hits, kept_within}
+use Rattle.col_values.proofs.column_values.ColumnValues.get_row_ids_between.Goals as goal
 
 pub loop-row-preserved : goal.loop-row-preserved
 loop-row-preserved g c =

@@ -1,6 +1,6 @@
 use Rattle.std.proofs.Common.{◌≡◌, ◌≤◌, ◌+◌, ◌-◌, length, take, max}
-use Rattle.col_views.specs.Values.{is_between, hits}
-use Rattle.col_views.proofs.column_values.ColumnValues.get_row_ids_between.Given as goal
+use Rattle.col_values.specs.Values.{is_between, hits}
+use Rattle.col_values.proofs.column_values.ColumnValues.get_row_ids_between.Given as goal
 
 -- what is found are the hits so far; with reversed ends nothing moves
 abbrev pub invariant-loop-start : goal.invariant-loop-start

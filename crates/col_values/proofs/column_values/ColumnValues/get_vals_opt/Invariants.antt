@@ -1,5 +1,5 @@
 use Rattle.std.proofs.Common.{◌≡◌, take, map, slice_get}
-use Rattle.col_views.proofs.column_values.ColumnValues.get_vals_opt.Given as goal
+use Rattle.col_values.proofs.column_values.ColumnValues.get_vals_opt.Given as goal
 
 -- what is written is what was asked for
 abbrev pub invariant-loop-at : goal.invariant-loop-at

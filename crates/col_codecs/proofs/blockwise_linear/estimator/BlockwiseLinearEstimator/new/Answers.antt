@@ -1,6 +1,6 @@
 use Rattle.std.proofs.Common.{[], refl, arith}
 use Rattle.col_model.specs.Codecs.{cut_blocks}
-use Rattle.col_values.proofs.blockwise_linear.estimator.BlockwiseLinearEstimator.new.Goals as goal
+use Rattle.col_codecs.proofs.blockwise_linear.estimator.BlockwiseLinearEstimator.new.Goals as goal
 
 pub returns : goal.returns
 unfolding cut_blocks

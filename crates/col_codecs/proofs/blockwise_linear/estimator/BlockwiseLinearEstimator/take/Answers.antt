@@ -1,9 +1,9 @@
 use Rattle.std.proofs.Common.{◌≤◌, ◌+◌, ◌*◌, ◌∙◌, sym, ap, arith, length, length-set}
 use Rattle.std.specs.Vec.{with_item, with_items}
 use Rattle.col_model.specs.Codecs.{block_size}
-use Rattle.col_values.proofs.BlockEstimateLemmas.{block_estimate-bound}
-use Rattle.col_values.proofs.BlockCollectedLemmas.{collected-bound, collected-full}
-use Rattle.col_values.proofs.blockwise_linear.estimator.BlockwiseLinearEstimator.take.Goals as goal
+use Rattle.col_codecs.proofs.BlockEstimateLemmas.{block_estimate-bound}
+use Rattle.col_codecs.proofs.BlockCollectedLemmas.{collected-bound, collected-full}
+use Rattle.col_codecs.proofs.blockwise_linear.estimator.BlockwiseLinearEstimator.take.Goals as goal
 
 pub overflow_add-self-then-self-eq-BLOCK_SIZE : goal.overflow_add-self-then-self-eq-BLOCK_SIZE
 overflow_add-self-then-self-eq-BLOCK_SIZE c =

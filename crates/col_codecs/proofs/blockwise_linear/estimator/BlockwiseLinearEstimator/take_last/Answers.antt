@@ -1,9 +1,9 @@
 use Rattle.std.proofs.Common.{◌≤◌, ◌+◌, ◌*◌, ◌∙◌, ap, arith, length}
 use Rattle.std.proofs.lemmas.List.{length-take-le}
 use Rattle.col_model.specs.Codecs.{block_size}
-use Rattle.col_values.proofs.BlockEstimateLemmas.{block_estimate-bound}
-use Rattle.col_values.proofs.BlockCollectedLemmas.{collected-bound, collected-last}
-use Rattle.col_values.proofs.blockwise_linear.estimator.BlockwiseLinearEstimator.take_last.Goals as goal
+use Rattle.col_codecs.proofs.BlockEstimateLemmas.{block_estimate-bound}
+use Rattle.col_codecs.proofs.BlockCollectedLemmas.{collected-bound, collected-last}
+use Rattle.col_codecs.proofs.blockwise_linear.estimator.BlockwiseLinearEstimator.take_last.Goals as goal
 
 pub overflow_add-self : goal.overflow_add-self
 overflow_add-self c =

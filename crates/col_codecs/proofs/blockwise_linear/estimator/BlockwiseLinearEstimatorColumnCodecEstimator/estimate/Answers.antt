@@ -1,9 +1,9 @@
 use Rattle.std.proofs.Common.{◌∙◌, ap, Some, arith}
-use Rattle.col_values.specs.ColumnStats.{stats_seen}
-use Rattle.col_values.proofs.EstimateLemmas.{stats_bytes-bound}
-use Rattle.col_values.proofs.PossibleLemmas.{IsPossible-stats_of}
-use Rattle.col_values.proofs.BlockEstimateLemmas.{blocks-bound, blockwise_estimate-parts}
-use Rattle.col_values.proofs.blockwise_linear.estimator.BlockwiseLinearEstimatorColumnCodecEstimator.estimate.Goals as goal
+use Rattle.col_codecs.specs.ColumnStats.{stats_seen}
+use Rattle.col_codecs.proofs.EstimateLemmas.{stats_bytes-bound}
+use Rattle.col_codecs.proofs.PossibleLemmas.{IsPossible-stats_of}
+use Rattle.col_codecs.proofs.BlockEstimateLemmas.{blocks-bound, blockwise_estimate-parts}
+use Rattle.col_codecs.proofs.blockwise_linear.estimator.BlockwiseLinearEstimatorColumnCodecEstimator.estimate.Goals as goal
 
 pub num_bytes-requires-clause-ordered : goal.num_bytes-requires-clause-ordered
 num_bytes-requires-clause-ordered c = (IsPossible-stats_of (stats_seen c.args.stats.now) c.requires.0 c.requires.3 (omega arith)).ordered

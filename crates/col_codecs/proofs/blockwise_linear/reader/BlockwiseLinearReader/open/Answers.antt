@@ -1,8 +1,8 @@
 use Rattle.std.proofs.Common.{◌∙◌, sym, ap, take, Some}
-use Rattle.col_values.specs.ColumnStats.{stats_seen}
-use Rattle.col_values.specs.Header.{list_by}
-use Rattle.col_values.specs.Blocks.{items_in}
-use Rattle.col_values.proofs.blockwise_linear.reader.BlockwiseLinearReader.open.Goals as goal
+use Rattle.col_codecs.specs.ColumnStats.{stats_seen}
+use Rattle.col_codecs.specs.Header.{list_by}
+use Rattle.col_codecs.specs.Blocks.{items_in}
+use Rattle.col_codecs.proofs.blockwise_linear.reader.BlockwiseLinearReader.open.Goals as goal
 
 pub returns : goal.returns
 returns c =

@@ -1,10 +1,10 @@
 use Rattle.std.proofs.Common.{List, ◌+◌, ◌≤◌, ◌∙◌, length, map, ap, arith}
 use Rattle.std.specs.List.{range_with_len}
-use Rattle.col_values.specs.declared.blockwise_linear.block.Block.{Block}
-use Rattle.col_values.specs.ColumnStats.{stats_seen}
-use Rattle.col_values.proofs.BlockReaderLemmas.{length-items_in}
-use Rattle.col_values.proofs.BlockRangeLemmas.{own_item, items_in-part}
-use Rattle.col_values.proofs.blockwise_linear.reader.BlockwiseLinearReaderColumnValuesU64.get_range.Goals as goal
+use Rattle.col_codecs.specs.declared.blockwise_linear.block.Block.{Block}
+use Rattle.col_codecs.specs.ColumnStats.{stats_seen}
+use Rattle.col_codecs.proofs.BlockReaderLemmas.{length-items_in}
+use Rattle.col_codecs.proofs.BlockRangeLemmas.{own_item, items_in-part}
+use Rattle.col_codecs.proofs.blockwise_linear.reader.BlockwiseLinearReaderColumnValuesU64.get_range.Goals as goal
 
 pub overflow_cast-start : goal.overflow_cast-start
 overflow_cast-start c =

@@ -1,7 +1,7 @@
 use Rattle.std.proofs.Common.{arith}
-use Rattle.col_values.specs.ColumnStats.{stats_seen}
-use Rattle.col_values.proofs.BlockReaderLemmas.{read-room, read-start, read-item}
-use Rattle.col_values.proofs.blockwise_linear.reader.BlockwiseLinearReaderColumnValuesU64.get_val.Goals as goal
+use Rattle.col_codecs.specs.ColumnStats.{stats_seen}
+use Rattle.col_codecs.proofs.BlockReaderLemmas.{read-room, read-start, read-item}
+use Rattle.col_codecs.proofs.blockwise_linear.reader.BlockwiseLinearReaderColumnValuesU64.get_val.Goals as goal
 
 pub index-block-requires : goal.index-block-requires
 index-block-requires c =

@@ -1,6 +1,6 @@
 use Rattle.std.proofs.Common.{refl}
-use Rattle.col_values.proofs.LinearLemmas.{collected-ordered, finalized-few, finalized-raised}
-use Rattle.col_values.proofs.linear.estimator.LinearCodecEstimator.raise.Goals as goal
+use Rattle.col_codecs.proofs.LinearLemmas.{collected-ordered, finalized-few, finalized-raised}
+use Rattle.col_codecs.proofs.linear.estimator.LinearCodecEstimator.raise.Goals as goal
 
 pub overflow_sub-self : goal.overflow_sub-self
 overflow_sub-self c = collected-ordered c.args.self.now c.requires.0 c.requires.1 c.if-self-lt-TRAINED.false

@@ -1,6 +1,6 @@
 use Rattle.std.proofs.Common.{refl, ap, arith}
-use Rattle.col_values.proofs.LinearLemmas.{collected-deviates, collected-first, collected-full}
-use Rattle.col_values.proofs.linear.estimator.LinearCodecEstimator.take.Goals as goal
+use Rattle.col_codecs.proofs.LinearLemmas.{collected-deviates, collected-first, collected-full}
+use Rattle.col_codecs.proofs.linear.estimator.LinearCodecEstimator.take.Goals as goal
 
 pub returns-then-self-ge-TRAINED : goal.returns-then-self-ge-TRAINED
 returns-then-self-ge-TRAINED c = λ xs h. collected-deviates c.args.self.now _ xs c.args.value c.deviation_from-deviation.result h c.if-self-ge-TRAINED.true c.deviation_from-deviation.ensures refl refl refl c.min-self.ensures c.max-self.ensures

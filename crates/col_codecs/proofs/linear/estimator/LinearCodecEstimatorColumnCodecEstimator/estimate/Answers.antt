@@ -1,13 +1,13 @@
 use Rattle.std.proofs.Common.{◌+◌, ◌*◌, ◌≤◌, ◌<◌, ◌^◌, length, ap, ◌∙◌, sym, arith}
 use Rattle.std.specs.Int.{div_ceil}
 use Rattle.col_model.specs.Codecs.{block_size, packed_len}
-use Rattle.col_values.specs.ColumnStats.{stats_seen}
-use Rattle.col_values.specs.Slope.{slope_seen}
-use Rattle.col_values.proofs.LineLemmas.{vint_bytes-bound}
-use Rattle.col_values.proofs.PossibleLemmas.{IsPossible-stats_of}
-use Rattle.col_values.proofs.EstimateLemmas.{stats_bytes-bound, linear_width, bits-fit, linear_estimate-few, linear_estimate-parts}
-use Rattle.col_values.proofs.linear.estimator.LinearCodecEstimatorColumnCodecEstimator.estimate.Goals.{After-from-2, After-div_ceil}
-use Rattle.col_values.proofs.linear.estimator.LinearCodecEstimatorColumnCodecEstimator.estimate.Goals as goal
+use Rattle.col_codecs.specs.ColumnStats.{stats_seen}
+use Rattle.col_codecs.specs.Slope.{slope_seen}
+use Rattle.col_codecs.proofs.LineLemmas.{vint_bytes-bound}
+use Rattle.col_codecs.proofs.PossibleLemmas.{IsPossible-stats_of}
+use Rattle.col_codecs.proofs.EstimateLemmas.{stats_bytes-bound, linear_width, bits-fit, linear_estimate-few, linear_estimate-parts}
+use Rattle.col_codecs.proofs.linear.estimator.LinearCodecEstimatorColumnCodecEstimator.estimate.Goals.{After-from-2, After-div_ceil}
+use Rattle.col_codecs.proofs.linear.estimator.LinearCodecEstimatorColumnCodecEstimator.estimate.Goals as goal
 
 few_bits : (c : After-from-2) → c.from.result * c.from-2.result ≤ 2 ^ 38
 few_bits c =

@@ -1,6 +1,6 @@
 use Rattle.std.proofs.Common.{arith}
-use Rattle.col_values.proofs.EstimateLemmas.{linear_estimate-few, linear_estimate-enough}
-use Rattle.col_values.proofs.linear.estimator.LinearCodecEstimatorColumnCodecEstimator.serialize.Goals as goal
+use Rattle.col_codecs.proofs.EstimateLemmas.{linear_estimate-few, linear_estimate-enough}
+use Rattle.col_codecs.proofs.linear.estimator.LinearCodecEstimatorColumnCodecEstimator.serialize.Goals as goal
 
 pub returns-then-self-lt-TRAINED-clause-ok : goal.returns-then-self-lt-TRAINED-clause-ok
 returns-then-self-lt-TRAINED-clause-ok g c = rw (linear_estimate-few (g.I.Iterable.items c.args.vals.now) (omega (arith, c.requires.collected.count))) tt

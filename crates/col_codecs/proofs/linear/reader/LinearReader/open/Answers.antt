@@ -1,10 +1,10 @@
 use Rattle.std.proofs.Common.{Some, true, false, sym, ap, ◌∙◌}
 use Rattle.col_model.specs.Items.{linear_items}
-use Rattle.col_values.specs.ColumnStats.{stats_seen}
-use Rattle.col_values.specs.Line.{with_width}
-use Rattle.col_values.specs.Slope.{slope_seen}
-use Rattle.col_values.proofs.LinearReaderLemmas.{list_by-no_line, list_by-tested}
-use Rattle.col_values.proofs.linear.reader.LinearReader.open.Goals as goal
+use Rattle.col_codecs.specs.ColumnStats.{stats_seen}
+use Rattle.col_codecs.specs.Line.{with_width}
+use Rattle.col_codecs.specs.Slope.{slope_seen}
+use Rattle.col_codecs.proofs.LinearReaderLemmas.{list_by-no_line, list_by-tested}
+use Rattle.col_codecs.proofs.linear.reader.LinearReader.open.Goals as goal
 
 pub returns-in_default : goal.returns-in_default
 returns-in_default c = list_by-no_line (stats_seen c.args.stats) c.args.bytes (sym c.in_default.ensures.value)

@@ -2,9 +2,9 @@ use Rattle.std.proofs.Common.{◌+◌, ◌≤◌, length, map, ap, ◌∙◌, ar
 use Rattle.std.specs.List.{range_with_len}
 use Rattle.col_model.specs.Items.{linear_item}
 use Rattle.col_model.proofs.ItemLaws.{length-linear_items}
-use Rattle.col_values.specs.Line.{with_width}
-use Rattle.col_values.proofs.LinearReaderLemmas.{linear_items-part}
-use Rattle.col_values.proofs.linear.reader.LinearReaderColumnValuesU64.get_range.Goals as goal
+use Rattle.col_codecs.specs.Line.{with_width}
+use Rattle.col_codecs.proofs.LinearReaderLemmas.{linear_items-part}
+use Rattle.col_codecs.proofs.linear.reader.LinearReaderColumnValuesU64.get_range.Goals as goal
 
 pub overflow_cast-start : goal.overflow_cast-start
 overflow_cast-start c =

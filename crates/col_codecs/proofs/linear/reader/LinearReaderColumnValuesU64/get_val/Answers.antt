@@ -1,9 +1,9 @@
 use Rattle.std.proofs.Common.{◌<◌, ap, ◌∙◌}
 use Rattle.col_model.proofs.ItemLaws.{length-linear_items}
 use Rattle.col_model.specs.Items.{linear_item}
-use Rattle.col_values.specs.Line.{with_width}
-use Rattle.col_values.proofs.LinearReaderLemmas.{linear_items-get}
-use Rattle.col_values.proofs.linear.reader.LinearReaderColumnValuesU64.get_val.Goals as goal
+use Rattle.col_codecs.specs.Line.{with_width}
+use Rattle.col_codecs.proofs.LinearReaderLemmas.{linear_items-get}
+use Rattle.col_codecs.proofs.linear.reader.LinearReaderColumnValuesU64.get_val.Goals as goal
 
 pub returns : goal.returns
 returns c =

@@ -1,7 +1,7 @@
 use Rattle.std.proofs.Common.{ap, ◌∙◌}
 use Rattle.col_model.specs.Stats.{greatest_of}
-use Rattle.col_values.proofs.BoundsLemmas.{stats_of-greatest, greatest-above}
-use Rattle.col_values.proofs.linear.reader.LinearReaderColumnValuesU64.max_value.Goals as goal
+use Rattle.col_codecs.proofs.BoundsLemmas.{stats_of-greatest, greatest-above}
+use Rattle.col_codecs.proofs.linear.reader.LinearReaderColumnValuesU64.max_value.Goals as goal
 
 pub returns-clause-value : goal.returns-clause-value
 returns-clause-value c = ap (λ s. s.greatest) c.self.invariant ∙ stats_of-greatest _ ∙ ap greatest_of c.self.view_is

@@ -1,7 +1,7 @@
 use Rattle.std.proofs.Common.{ap, ◌∙◌}
 use Rattle.col_model.specs.Stats.{least_of}
-use Rattle.col_values.proofs.BoundsLemmas.{stats_of-least, least-below}
-use Rattle.col_values.proofs.linear.reader.LinearReaderColumnValuesU64.min_value.Goals as goal
+use Rattle.col_codecs.proofs.BoundsLemmas.{stats_of-least, least-below}
+use Rattle.col_codecs.proofs.linear.reader.LinearReaderColumnValuesU64.min_value.Goals as goal
 
 pub returns-clause-value : goal.returns-clause-value
 returns-clause-value c = ap (λ s. s.least) c.self.invariant ∙ stats_of-least _ ∙ ap least_of c.self.view_is
