@@ -5,10 +5,10 @@ use Rattle.std.specs.Int.{div_ceil}
 use Rattle.std.proofs.lemmas.Bool.{cases_lt}
 use Rattle.std.proofs.lemmas.Nat.{le-div}
 use Rattle.std.proofs.lemmas.List.{length-map, map-append, take-append-drop, length-take-le, take_all}
-use Rattle.col_common.specs.Outside.{Told}
+use Rattle.col_common.specs.Outside.{SeenSink}
 use Rattle.col_common.specs.Serializing.{Serializes}
 use Rattle.col_common.specs.declared.error.ColumnarError.{ColumnarError}
-use Rattle.col_common.proofs.SerializingLemmas.{serializes-then, serializes-stopped, serializes-nothing}
+use Rattle.col_common.proofs.SerializingLemmas.{serializes-as, serializes-nothing, serializes-stopped, serializes-then}
 use Rattle.col_bits.specs.Packed.{digits, packed_bytes, width}
 use Rattle.col_model.specs.Stats.{Stats, stats_of, steps_of, stats_bytes, greatest_of}
 use Rattle.col_model.specs.Codecs.{steps_above, bitpacked_body, bitpacked_estimate}
@@ -18,7 +18,6 @@ use Rattle.col_model.proofs.WidthLaws.{width-above}
 use Rattle.col_codecs.specs.Bitpacked.{FitSteps}
 use Rattle.col_codecs.proofs.PossibleLemmas.{small_by_greatest}
 use Rattle.col_codecs.proofs.PackingLemmas.{packed_bytes-append}
-use Rattle.col_codecs.proofs.StatsLemmas.{serializes_as}
 
 all-take : (P : ℕ → Type 0) (n : ℕ) (xs : List ℕ) → AllByRecursion P xs → AllByRecursion P (take n xs)
 all-take P zero xs all = tt
@@ -63,44 +62,44 @@ block-cut s w n left fit e =
     ]
 
 -- the steps of the values before those that are left were added
-pub record IsWritten (s : Stats) (w : ℕ) (xs left : List ℕ) (a b : Told) (k m : ℕ) : Type 0 where
+pub record IsWritten (s : Stats) (w : ℕ) (xs left : List ℕ) (a b : SeenSink) : Type 0 where
   pub bytes : List ℕ
   pub whole : packed_bytes w (steps_above s xs) ≡ bytes ++ packed_bytes w (steps_above s left)
-  pub written : Serializes a b k m (Ok tt) bytes
+  pub written : Serializes a b (Ok tt) bytes
   pub fit : FitSteps s w left
 
-pub IsWritten-none : (s : Stats) (w : ℕ) (xs left : List ℕ) (a : Told) (k : ℕ) → FitSteps s w xs → left ≡ xs → IsWritten s w xs left a a k k
-IsWritten-none s w xs left a k fit e = record {
+pub IsWritten-none : (s : Stats) (w : ℕ) (xs left : List ℕ) (a : SeenSink) → FitSteps s w xs → left ≡ xs → IsWritten s w xs left a a
+IsWritten-none s w xs left a fit e = record {
   bytes = [];
   whole = ap (λ ys. packed_bytes w (steps_above s ys)) (sym e);
-  written = serializes-nothing a k tt;
+  written = serializes-nothing a tt;
   fit = subst (FitSteps s w) (sym e) fit;
 }
 
 -- one block more
-pub IsWritten-more : (s : Stats) (w : ℕ) (xs left rest : List ℕ) (n : ℕ) (a b c : Told) (k m o : ℕ) → IsWritten s w xs left a b k m → n ≡ min 512 (length left) → rest ≡ drop n left → Serializes b c m o (Ok tt) (packed_bytes w (steps_above s (take n left))) → IsWritten s w xs rest a c k o
-IsWritten-more s w xs left rest n a b c k m o h e behind more = record {
+pub IsWritten-more : (s : Stats) (w : ℕ) (xs left rest : List ℕ) (n : ℕ) (a b c : SeenSink) → IsWritten s w xs left a b → n ≡ min 512 (length left) → rest ≡ drop n left → Serializes b c (Ok tt) (packed_bytes w (steps_above s (take n left))) → IsWritten s w xs rest a c
+IsWritten-more s w xs left rest n a b c h e behind more = record {
   bytes = h.bytes ++ packed_bytes w (steps_above s (take n left));
   whole = h.whole ∙ ap (λ ys. h.bytes ++ ys) (block-cut s w n left h.fit e)
       ∙ sym (append_assoc h.bytes (packed_bytes w (steps_above s (take n left))) (packed_bytes w (steps_above s (drop n left))))
       ∙ ap (λ ys. (h.bytes ++ packed_bytes w (steps_above s (take n left))) ++ packed_bytes w (steps_above s ys)) (sym behind);
-  written = serializes-then a b c k m o tt (Ok tt) h.bytes (packed_bytes w (steps_above s (take n left))) h.written more;
+  written = serializes-then a b c tt (Ok tt) h.bytes (packed_bytes w (steps_above s (take n left))) h.written more;
   fit = subst (FitSteps s w) (sym behind) (all-drop (λ x. (s.least ≤ x) × ((x - s.least) / s.divisor < 2 ^ w)) n left h.fit);
 }
 
 -- a block that was refused
-pub IsWritten-stopped : (s : Stats) (w : ℕ) (xs left block : List ℕ) (a b c : Told) (k m o : ℕ) (refusal : ColumnarError) → IsWritten s w xs left a b k m → Serializes b c m o (Err refusal) block → Serializes a c k o (Err refusal) (packed_bytes w (steps_above s xs))
-IsWritten-stopped s w xs left block a b c k m o refusal h stopped =
-    serializes-stopped a c k o refusal (h.bytes ++ block) (packed_bytes w (steps_above s xs)) (serializes-then a b c k m o tt (Err refusal) h.bytes block h.written stopped)
+pub IsWritten-stopped : (s : Stats) (w : ℕ) (xs left block : List ℕ) (a b c : SeenSink) (refusal : ColumnarError) → IsWritten s w xs left a b → Serializes b c (Err refusal) block → Serializes a c (Err refusal) (packed_bytes w (steps_above s xs))
+IsWritten-stopped s w xs left block a b c refusal h stopped =
+    serializes-stopped a c refusal (h.bytes ++ block) (packed_bytes w (steps_above s xs)) (serializes-then a b c tt (Err refusal) h.bytes block h.written stopped)
 
 no_items : (xs : List ℕ) → length xs ≡ 0 → xs ≡ []
 no_items [] e = refl
 no_items (x ∷ xs) e = absurd (omega (arith, e))
 
 -- nothing is left
-pub IsWritten-end : (s : Stats) (w : ℕ) (xs left : List ℕ) (a b : Told) (k m : ℕ) → IsWritten s w xs left a b k m → length left ≡ 0 → Serializes a b k m (Ok tt) (packed_bytes w (steps_above s xs))
-IsWritten-end s w xs left a b k m h e =
-    serializes_as a b k m (Ok tt) h.bytes (packed_bytes w (steps_above s xs)) h.written
+pub IsWritten-end : (s : Stats) (w : ℕ) (xs left : List ℕ) (a b : SeenSink) → IsWritten s w xs left a b → length left ≡ 0 → Serializes a b (Ok tt) (packed_bytes w (steps_above s xs))
+IsWritten-end s w xs left a b h e =
+    serializes-as a b (Ok tt) h.bytes (packed_bytes w (steps_above s xs)) h.written
     (sym (h.whole ∙ ap (λ ys. h.bytes ++ packed_bytes w (steps_above s ys)) (no_items left e) ∙ ap (λ ys. h.bytes ++ ys) (packed-none w) ∙ append-nil h.bytes))
 
 -- ---- by the statistics of the list

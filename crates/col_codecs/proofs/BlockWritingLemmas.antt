@@ -5,12 +5,6 @@ use Rattle.std.specs.List.{AllByRecursion}
 use Rattle.std.proofs.lemmas.List.{take_all, drop_all, drop-drop, take-map, drop-map, map-append, length-drop, length-map, length-take-le}
 use Rattle.std.proofs.lemmas.Grind.{flat_map-append}
 use Rattle.std.proofs.lemmas.Bool.{cases_lt}
-use Rattle.std.proofs.lemmas.Option.{same_Some}
-use Rattle.col_common.specs.Outside.{Told}
-use Rattle.col_common.specs.Serializing.{Serializes}
-use Rattle.col_common.specs.declared.error.ColumnarError.{ColumnarError}
-use Rattle.col_common.specs.declared.error.ColumnarError.TheVariants.{OutOfMemory, WriteFault}
-use Rattle.col_common.proofs.SerializingLemmas.{serializes-no_memory}
 use Rattle.col_model.specs.Stats.{Stats, least_of, stats_of}
 use Rattle.col_bits.specs.Packed.{packed_bytes}
 use Rattle.col_model.specs.U64List.{Slope, joined_lists}
@@ -120,22 +114,6 @@ left-next xs k n e =
 -- the blocks so far are all
 pub all_blocks : (s : Stats) (xs : List ℕ) (blocks k : ℕ) → s ≡ stats_of xs → blocks ≡ div_ceil s.count 512 → k ≡ blocks → k ≡ block_count (length (steps_above s xs))
 all_blocks s xs blocks k e b h = h ∙ b ∙ ap (λ n. div_ceil n 512) (count-is s xs e ∙ sym (length-map xs (λ x. (x - s.least) / s.divisor)))
-
--- ---- lines in memory
-
--- lines that were added in memory
-pub added_in_memory : (old new bytes : List ℕ) (done : Unit {0}) → Serializes (Some old) (Some new) 0 0 (Ok done) bytes → new ≡ old ++ bytes
-added_in_memory old new bytes done h = same_Some new (old ++ bytes) h.ok
-
--- lines that weren't, before anything else was added
-pub refused_in_memory : (old new : List ℕ) (told : Told) (k : ℕ) (e : ColumnarError) (bytes ys : List ℕ) → Serializes (Some old) (Some new) 0 0 (Err e) bytes → Serializes told told k k (Err e) ys
-refused_in_memory old new told k e bytes ys h = by_cause h.causes
-  where
-    by_cause : (e ≡ OutOfMemory) ⊎ (e ≡ WriteFault) → Serializes told told k k (Err e) ys
-    by_cause c = elim c [
-      | inl memory ↦ rw memory (serializes-no_memory told k ys)
-      | inr fault ↦ absurd (let rose = h.write_fault (ap Err fault) in omega (arith, rose))
-    ]
 
 -- ---- blocks, their lines, and the length of the lines
 

@@ -5,7 +5,7 @@ use Rattle.std.proofs.lemmas.List.{map-append, take_all, take_more, drop_more, d
 use Rattle.std.proofs.Math.Seq.{take-add}
 use Rattle.std.proofs.lemmas.List.FromFn.{length-enumerate_from}
 use Rattle.std.specs.Int.{div_ceil}
-use Rattle.col_common.specs.Outside.{Told}
+use Rattle.col_common.specs.Outside.{SeenSink}
 use Rattle.col_common.specs.Serializing.{Serializes}
 use Rattle.col_common.specs.declared.error.ColumnarError.{ColumnarError}
 use Rattle.col_common.proofs.SerializingLemmas.{serializes-then, serializes-stopped, serializes-nothing}
@@ -77,25 +77,25 @@ fit_back : (l : LineAndWidth) (k : ℕ) (xs ys : List ℕ) → AllFit l k (xs ++
 fit_back l k xs ys all = all_back (λ v. v < 2 ^ l.offset_width) (by_position (offset_from l) k xs) _ (subst (AllByRecursion (λ v. v < 2 ^ l.offset_width)) (by_position-append (offset_from l) k xs ys) all)
 
 -- the items before a position are written, left are those from there on, and another block begins at a byte
-pub record IsWritten (l : LineAndWidth) (items : List ℕ) (start : ℕ) (left : List ℕ) (old new : Told) (before now : ℕ) : Type 0 where
+pub record IsWritten (l : LineAndWidth) (items : List ℕ) (start : ℕ) (left : List ℕ) (old new : SeenSink) : Type 0 where
   pub within : start ≤ length items
   pub rest : left ≡ drop start items
   pub whole : 0 < length left → start % 8 ≡ 0
-  pub done : Serializes old new before now (Ok tt) (packed_from l 0 (take start items))
+  pub done : Serializes old new (Ok tt) (packed_from l 0 (take start items))
 
-pub written-none : (l : LineAndWidth) (items left : List ℕ) (old : Told) (before : ℕ) → left ≡ items → IsWritten l items 0 left old old before before
-written-none l items left old before e = record {
+pub written-none : (l : LineAndWidth) (items left : List ℕ) (old : SeenSink) → left ≡ items → IsWritten l items 0 left old old
+written-none l items left old e = record {
   within = omega arith;
   rest = e;
   whole = λ _. refl;
-  done = rw (packed_nothing l.offset_width) (serializes-nothing old before tt);
+  done = rw (packed_nothing l.offset_width) (serializes-nothing old tt);
 }
   where
     packed_nothing : (w : ℕ) → packed_bytes w [] ≡ []
     packed_nothing w = let none : div_ceil (0 * w) 8 ≡ 0 = omega (arith, zero-mul w) in ap (λ n. digits 256 n 0) none
 
 -- a block of the items that are left
-module _ (l : LineAndWidth) (items : List ℕ) (start : ℕ) (left : List ℕ) (old new : Told) (before now : ℕ) (h : IsWritten l items start left old new before now) (fit : AllFit l 0 items) (taken : ℕ) (is : taken ≡ min 512 (length left)) where
+module _ (l : LineAndWidth) (items : List ℕ) (start : ℕ) (left : List ℕ) (old new : SeenSink) (h : IsWritten l items start left old new) (fit : AllFit l 0 items) (taken : ℕ) (is : taken ≡ min 512 (length left)) where
   pub block-fits : AllFit l start (take taken left)
   block-fits =
       let split : take start items ++ left ≡ items = ap (λ xs. take start items ++ xs) h.rest ∙ take-append-drop start items in
@@ -122,24 +122,24 @@ module _ (l : LineAndWidth) (items : List ℕ) (start : ℕ) (left : List ℕ) (
       ∙ ap (packed_bytes l.offset_width) (ap (λ n. by_position f 0 front ++ by_position f n block) (sym from) ∙ sym (by_position-append f 0 front block) ∙ ap (by_position f 0) joined)
 
   -- it was written
-  pub written-more : (more : Told) (after : ℕ) (rest : List ℕ) (next : ℕ) → 0 < taken → next ≡ start + taken → rest ≡ drop taken left → Serializes new more now after (Ok tt) (packed_from l start (take taken left)) → IsWritten l items next rest old more before after
-  written-more more after rest next some n r s =
+  pub written-more : (more : SeenSink) (rest : List ℕ) (next : ℕ) → 0 < taken → next ≡ start + taken → rest ≡ drop taken left → Serializes new more (Ok tt) (packed_from l start (take taken left)) → IsWritten l items next rest old more
+  written-more more rest next some n r s =
       let lefts = ap length h.rest in
       let behind : rest ≡ drop next items = r ∙ ap (drop taken) h.rest ∙ drop-drop taken start items ∙ ap (λ k. drop k items) (sym n) in
       record {
         within = omega (arith, n, is, lefts, length-drop start items, h.within);
         rest = behind;
         whole = λ some_left. omega (arith, n, is, h.whole (omega (arith, is, some)), ap length r, length-drop taken left, some_left);
-        done = subst (λ bytes. Serializes old more before after (Ok tt) bytes) (block-bytes some ∙ ap (λ k. packed_from l 0 (take k items)) (sym n))
-            (serializes-then old new more before now after tt (Ok tt) (packed_from l 0 (take start items)) (packed_from l start (take taken left)) h.done s);
+        done = subst (λ bytes. Serializes old more (Ok tt) bytes) (block-bytes some ∙ ap (λ k. packed_from l 0 (take k items)) (sym n))
+            (serializes-then old new more tt (Ok tt) (packed_from l 0 (take start items)) (packed_from l start (take taken left)) h.done s);
       }
 
   -- it was refused
-  pub written-stopped : (more : Told) (after : ℕ) (e : ColumnarError) → Serializes new more now after (Err e) (packed_from l start (take taken left)) → Serializes old more before after (Err e) (packed_from l 0 items)
-  written-stopped more after e s = serializes-stopped old more before after e _ (packed_from l 0 items) (serializes-then old new more before now after tt (Err e) _ _ h.done s)
+  pub written-stopped : (more : SeenSink) (e : ColumnarError) → Serializes new more (Err e) (packed_from l start (take taken left)) → Serializes old more (Err e) (packed_from l 0 items)
+  written-stopped more e s = serializes-stopped old more e _ (packed_from l 0 items) (serializes-then old new more tt (Err e) _ _ h.done s)
 
   -- nothing was left
-  pub written-all : taken ≡ 0 → Serializes old new before now (Ok tt) (packed_from l 0 items)
+  pub written-all : taken ≡ 0 → Serializes old new (Ok tt) (packed_from l 0 items)
   written-all none =
       let all : take start items ≡ items = take_all start items (omega (arith, is, none, ap length h.rest, length-drop start items)) in
-      subst (λ xs. Serializes old new before now (Ok tt) (packed_from l 0 xs)) all h.done
+      subst (λ xs. Serializes old new (Ok tt) (packed_from l 0 xs)) all h.done

@@ -3,7 +3,7 @@ use Rattle.std.proofs.Common.{◌≡◌, ℕ, ◌+◌, ◌-◌, ◌%◌, ◌<◌
 use Rattle.std.specs.Int.{abs_diff}
 use Rattle.std.proofs.lemmas.Nat.Gcd.{dvd_refl, IsGcd-swap, IsGcd-from_mod, same_from_IsGcd}
 use native.Mathlib.Nat.{one-dvd}
-use Rattle.col_common.specs.Outside.{Told}
+use Rattle.col_common.specs.Outside.{SeenSink}
 use Rattle.col_common.specs.Serializing.{Serializes}
 use Rattle.col_common.specs.VInt.{vint_bytes}
 use Rattle.col_common.specs.declared.error.ColumnarError.{ColumnarError}
@@ -82,10 +82,6 @@ stats_of-collected s xs d p e =
     rw (p, e, one) refl
 
 -- ---- the bytes
-
--- the same bytes
-pub serializes_as : (a b : Told) (k m : ℕ) (result : Result (Unit {0}) ColumnarError) (xs ys : List ℕ) → Serializes a b k m result xs → xs ≡ ys → Serializes a b k m result ys
-serializes_as a b k m result xs ys done e = subst (λ zs. Serializes a b k m result zs) e done
 
 -- two numbers and two numbers
 pub stats_bytes-pairs : (s : ColumnStats) (steps count : ℕ) → steps ≡ steps_of (stats_seen s) → count ≡ s.num_rows → (vint_bytes s.min_value ++ vint_bytes s.gcd) ++ (vint_bytes steps ++ vint_bytes count) ≡ stats_bytes (stats_seen s)

@@ -2,7 +2,7 @@
 use Rattle.std.proofs.Common.{◌≡◌, ℕ, ◌==◌, ◌<◌, ◌^◌, true, List, [], ◌∷◌, length, map, Option, Some, None, Result, Ok, Err, OnOk, refl, sym, ap, ◌∙◌, arith, subst}
 use Rattle.std.specs.Option.{IfSome}
 use Rattle.std.specs.List.{AllByRecursion}
-use Rattle.col_common.specs.Outside.{Told}
+use Rattle.col_common.specs.Outside.{SeenSink}
 use Rattle.col_common.specs.Serializing.{Serializes}
 use Rattle.col_common.specs.declared.error.ColumnarError.{ColumnarError}
 use Rattle.col_model.specs.Codecs.{chosen_codec, codec_bytes, body_by}
@@ -27,11 +27,11 @@ pub nothing_offered : {A : Type 0} (f : A → ℕ) (cs : List A) (xs : List ℕ)
 nothing_offered f cs xs P e = subst (λ o. IfSome o P) (sym (none_offered f cs xs e)) tt
 
 -- the bytes under the chosen codec stand for the list
-pub appends_list : (old new : Told) (k n : ℕ) (result : Result (Unit {0}) ColumnarError) (xs codecs : List ℕ) (codec : ℕ) → AllByRecursion (λ x. x < 2 ^ 64) xs → length xs < 2 ^ 32 → chosen_codec xs codecs ≡ Some codec → Serializes old new k n result (codec_bytes codec xs) → OnOk result (AppendsList old new xs)
-appends_list old new k n (Ok done) xs codecs codec all fits e s = (codec_bytes codec xs, values64-chosen codecs xs codec all fits e, s.ok)
-appends_list old new k n (Err refusal) xs codecs codec all fits e s = tt
+pub appends_list : (old new : SeenSink) (result : Result (Unit {0}) ColumnarError) (xs codecs : List ℕ) (codec : ℕ) → AllByRecursion (λ x. x < 2 ^ 64) xs → length xs < 2 ^ 32 → chosen_codec xs codecs ≡ Some codec → Serializes old new result (codec_bytes codec xs) → OnOk result (AppendsList old new xs)
+appends_list old new (Ok done) xs codecs codec all fits e s = (codec_bytes codec xs, values64-chosen codecs xs codec all fits e, s.ok)
+appends_list old new (Err refusal) xs codecs codec all fits e s = tt
 
 -- a body behind the codec's code
-pub behind_code : (old mid new : Told) (k m n : ℕ) (done : Unit {0}) (result : Result (Unit {0}) ColumnarError) (read codec : ℕ) (xs : List ℕ) → read ≡ codec → Serializes old mid k m (Ok done) (read ∷ []) → Serializes mid new m n result (body_by codec xs) → Serializes old new k n result (codec_bytes codec xs)
-behind_code old mid new k m n done result read codec xs e head body =
-    serializes-then old mid new k m n done result (codec ∷ []) (body_by codec xs) (subst (λ b. Serializes old mid k m (Ok done) (b ∷ [])) e head) body
+pub behind_code : (old mid new : SeenSink) (done : Unit {0}) (result : Result (Unit {0}) ColumnarError) (read codec : ℕ) (xs : List ℕ) → read ≡ codec → Serializes old mid (Ok done) (read ∷ []) → Serializes mid new result (body_by codec xs) → Serializes old new result (codec_bytes codec xs)
+behind_code old mid new done result read codec xs e head body =
+    serializes-then old mid new done result (codec ∷ []) (body_by codec xs) (subst (λ b. Serializes old mid (Ok done) (b ∷ [])) e head) body

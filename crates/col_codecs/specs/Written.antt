@@ -1,6 +1,6 @@
 -- What is written of a list, and why none is.
 use Rattle.std.specs.Prelude.{◌≡◌, ◌^◌, ℕ, List, [], ◌∷◌, length, nat_le, Option, Some, None, Result, Ok, Err, MatchOption, if◌then◌else◌}
-use Rattle.col_common.specs.Outside.{Told, Appends}
+use Rattle.col_common.specs.Outside.{SeenSink, Appends}
 use Rattle.col_common.specs.declared.error.ColumnarError.{ColumnarError}
 use Rattle.col_common.specs.declared.error.ColumnarError.TheVariants.{NoCodec, TooLarge}
 use Rattle.col_model.specs.U64List.{values64}
@@ -9,7 +9,7 @@ use Rattle.col_codecs.specs.declared.serialize.Candidate.{Candidate}
 use Rattle.col_codecs.specs.Estimators.{estimator_code, HasFinalized}
 
 -- bytes were added that stand for the list
-abbrev pub AppendsList : Told → Told → List ℕ → Type 0
+abbrev pub AppendsList : SeenSink → SeenSink → List ℕ → Type 0
 AppendsList old new xs = (bytes : List ℕ) × (values64 bytes ≡ Some xs) × Appends old new bytes
 
 -- a result without its value

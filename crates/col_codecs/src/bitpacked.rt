@@ -249,7 +249,7 @@ fn serialize_steps<I: Iterable<u64>, K: Sink>(
     requires width { num_bits ≤ 64 }
     requires positive { 0 < stats.now.gcd }
     requires fit { FitSteps (stats_seen stats.now) num_bits (I.items vals.now) }
-    ensures { Serializes (K.written sink.old) (K.written sink.new) (K.faults sink.old) (K.faults sink.new)
+    ensures { Serializes (K.seen sink.old) (K.seen sink.new)
         result (packed_bytes num_bits (steps_above (stats_seen stats.now) (I.items vals.now))) }
 {
     let mut block = [0; BLOCK_SIZE];
@@ -270,7 +270,7 @@ fn serialize_blocks<I: Iterable<u64>, K: Sink>(
     requires positive { 0 < stats.now.gcd }
     requires fit { FitSteps (stats_seen stats.now) num_bits (I.items vals.now) }
     requires room { length block.old ≡ block_size }
-    ensures { Serializes (K.written sink.old) (K.written sink.new) (K.faults sink.old) (K.faults sink.new)
+    ensures { Serializes (K.seen sink.old) (K.seen sink.new)
         result (packed_bytes num_bits (steps_above (stats_seen stats.now) (I.items vals.now))) }
 {
     let mut at = vals.walk();
@@ -294,7 +294,7 @@ fn serialize_block<K: Sink>(
     requires width { num_bits ≤ 64 }
     requires positive { 0 < stats.now.gcd }
     requires fit { FitSteps (stats_seen stats.now) num_bits vals.old }
-    ensures { Serializes (K.written sink.old) (K.written sink.new) (K.faults sink.old) (K.faults sink.new)
+    ensures { Serializes (K.seen sink.old) (K.seen sink.new)
         result (packed_bytes num_bits (steps_above (stats_seen stats.now) vals.old)) }
 {
     take_steps(stats, vals);

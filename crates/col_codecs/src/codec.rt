@@ -59,7 +59,7 @@ pub trait ColumnCodecEstimator {
         requires count { length (I.items vals.now) < 2 ^ 32 }
         requires stats { stats_seen stats.now ≡ stats_of (I.items vals.now) }
         ensures ok { IfSome (estimate (I.items vals.now) (code self.now)) (λ _.
-            Serializes (K.written sink.old) (K.written sink.new) (K.faults sink.old) (K.faults sink.new)
+            Serializes (K.seen sink.old) (K.seen sink.new)
             result (body_by (code self.now) (I.items vals.now))) }
         ensures no_codec { estimate (I.items vals.now) (code self.now) ≡ None →
             Stopped sink.old sink.new result NoCodec };

@@ -40,8 +40,7 @@ impl ColumnStats {
     /// Adds the least value, the divisor, the steps and the count.
     pub fn serialize<K: Sink>(&self, sink: &mut K) -> Result<(), ColumnarError>
         requires { IsPossible (stats_seen self.now) }
-        ensures ok { Serializes
-            (K.written sink.old) (K.written sink.new) (K.faults sink.old) (K.faults sink.new)
+        ensures ok { Serializes (K.seen sink.old) (K.seen sink.new)
             result (stats_bytes (stats_seen self.now)) }
         // What was added reads back, whatever follows.
         ensures again { (rest : List ℕ) →
@@ -138,7 +137,7 @@ impl ColumnStats {
 
 /// Adds two numbers.
 pub fn serialize_two<K: Sink>(first: u64, second: u64, sink: &mut K) -> Result<(), ColumnarError>
-    ensures { Serializes (K.written sink.old) (K.written sink.new) (K.faults sink.old) (K.faults sink.new)
+    ensures { Serializes (K.seen sink.old) (K.seen sink.new)
         result (vint_bytes first ++ vint_bytes second) }
 {
     VInt(first).serialize(sink)?;

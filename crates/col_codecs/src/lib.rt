@@ -3,7 +3,6 @@
 
 mod bitpacked;
 mod blockwise_linear;
-mod buffer;
 mod codec;
 mod codec_type;
 mod column_stats;

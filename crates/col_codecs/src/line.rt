@@ -101,8 +101,7 @@ impl Line {
 
     /// Adds slope and intercept.
     pub fn serialize<K: Sink>(&self, sink: &mut K) -> Result<(), ColumnarError>
-        ensures ok { Serializes (K.written sink.old) (K.written sink.new)
-            (K.faults sink.old) (K.faults sink.new) result
+        ensures ok { Serializes (K.seen sink.old) (K.seen sink.new) result
             (vint_bytes self.now.slope ++ vint_bytes self.now.intercept) }
         // What was added reads back, whatever follows.
         ensures again { (rest : List ℕ)

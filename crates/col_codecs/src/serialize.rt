@@ -14,13 +14,12 @@ ghost use Rattle.col_codecs.specs.Written.{done, list_refusal, AppendsList, HasB
 ghost use Rattle.col_codecs.specs.Estimators.{estimator_code, HasFinalized};
 ghost use Rattle.col_common.specs.declared.error.ColumnarError.TheVariants as refusals;
 
-use crate::buffer::Buffer;
 use crate::{
     CodecType, ColumnCodecEstimator, ColumnStats, Estimator, NumValues, StatsCollector, U64Values,
     load_u64_based_column_values, load_u64_values,
 };
 use bytes::Bytes;
-use col_common::{ColumnarError, Iterable, Sink, Walk, serialize_bytes};
+use col_common::{Buffer, ColumnarError, Iterable, Sink, Walk, serialize_bytes};
 use col_values::MonotonicallyMappableToU64;
 use std::alloc::Global;
 use std::marker::PhantomData;
@@ -142,10 +141,10 @@ where
     I: Iterable<T>,
     K: Sink,
     // What is added stands for the list, and is its form under the codec that is chosen.
-    ensures list { OnOk result (AppendsList (K.written sink.old) (K.written sink.new) (map T.code (I.items vals.now))) }
+    ensures list { OnOk result (AppendsList (K.seen sink.old) (K.seen sink.new) (map T.code (I.items vals.now))) }
     ensures ok { IfSome (chosen_codec (map T.code (I.items vals.now)) (map code_of codec_types.now)) (λ codec.
         length (I.items vals.now) < 2 ^ 32 →
-        Serializes (K.written sink.old) (K.written sink.new) (K.faults sink.old) (K.faults sink.new)
+        Serializes (K.seen sink.old) (K.seen sink.new)
         result (codec_bytes codec (map T.code (I.items vals.now)))) }
 
     // No codec is given, there are too many values, or no codec applies, in this order, before the first byte.
@@ -167,10 +166,10 @@ where
     T: MonotonicallyMappableToU64,
     I: Iterable<T>,
     K: Sink,
-    ensures list { OnOk result (AppendsList (K.written sink.old) (K.written sink.new) (map T.code (I.items vals.now))) }
+    ensures list { OnOk result (AppendsList (K.seen sink.old) (K.seen sink.new) (map T.code (I.items vals.now))) }
     ensures ok { IfSome (chosen_codec (map T.code (I.items vals.now)) (map code_of codec_types.now)) (λ codec.
         length (I.items vals.now) < 2 ^ 32 →
-        Serializes (K.written sink.old) (K.written sink.new) (K.faults sink.old) (K.faults sink.new)
+        Serializes (K.seen sink.old) (K.seen sink.new)
         (done result) (codec_bytes codec (map T.code (I.items vals.now)))) }
     ensures estimate { IfOk result (λ n. IfSome
         (chosen_codec (map T.code (I.items vals.now)) (map code_of codec_types.now))
@@ -212,7 +211,7 @@ where
 {
     let mut buffer = Buffer::new(alloc);
     serialize_u64_based_column_values(alloc, vals, codec_types, &mut buffer)?;
-    load_u64_values(alloc, Bytes::from_vec(buffer.into_vec())?)
+    load_u64_values(alloc, Bytes::from_vec(buffer.into_bytes())?)
 }
 
 /// Writes a list of numbers, and reads it as values of a type, each of which must be one.
@@ -231,5 +230,5 @@ where
 {
     let mut buffer = Buffer::new(alloc);
     serialize_u64_based_column_values(alloc, vals, codec_types, &mut buffer)?;
-    load_u64_based_column_values(alloc, Bytes::from_vec(buffer.into_vec())?)
+    load_u64_based_column_values(alloc, Bytes::from_vec(buffer.into_bytes())?)
 }

@@ -51,8 +51,7 @@ impl Slope {
     /// Adds the line and the width byte.
     #[tactic(auto, unfolding(col_model::specs::Codecs::slope_bytes))]
     pub fn serialize<K: Sink>(&self, sink: &mut K) -> Result<(), ColumnarError>
-        ensures { Serializes (K.written sink.old) (K.written sink.new)
-            (K.faults sink.old) (K.faults sink.new) result
+        ensures { Serializes (K.seen sink.old) (K.seen sink.new) result
             (slope_bytes (slope_seen self.now)) }
     {
         self.line.serialize(sink)?;

@@ -4,7 +4,7 @@ use Rattle.std.specs.Option.{IfSome}
 use Rattle.std.specs.Int.{w64, to_le_bytes}
 use Rattle.std.proofs.lemmas.List.{map-id}
 use Rattle.std.proofs.lemmas.Option.{same_Some}
-use Rattle.col_common.specs.Outside.{Told}
+use Rattle.col_common.specs.Outside.{SeenSink}
 use Rattle.col_common.specs.Serializing.{Serializes}
 use Rattle.col_common.specs.declared.error.ColumnarError.{ColumnarError}
 use Rattle.col_common.specs.VInt.{vint_bytes}
@@ -23,11 +23,11 @@ at_picked P xs h =
     let h' = subst (λ ys. IfSome (chosen_codec ys index_codecs) (λ codec. P codec ys)) (map-id xs) h in
     subst (λ o. IfSome o (λ codec. P codec xs)) (index_codec xs).1 h'
 
-pub list-written : (old new : Told) (k n : ℕ) (result : Result (Unit {0}) ColumnarError) (xs : List ℕ) → length xs < 2 ^ 32 → IfSome (chosen_codec (map (λ x. x) xs) index_codecs) (λ codec. length xs < 2 ^ 32 → Serializes old new k n result (codec_bytes codec (map (λ x. x) xs))) → Serializes old new k n result (list_bytes xs)
-list-written old new k n result xs few h =
+pub list-written : (old new : SeenSink) (result : Result (Unit {0}) ColumnarError) (xs : List ℕ) → length xs < 2 ^ 32 → IfSome (chosen_codec (map (λ x. x) xs) index_codecs) (λ codec. length xs < 2 ^ 32 → Serializes old new result (codec_bytes codec (map (λ x. x) xs))) → Serializes old new result (list_bytes xs)
+list-written old new result xs few h =
     let p = index_codec xs in
-    let at = at_picked (λ codec ys. length xs < 2 ^ 32 → Serializes old new k n result (codec_bytes codec ys)) xs h few in
-    subst (Serializes old new k n result) (sym (list_bytes-picked xs p.0 p.1)) at
+    let at = at_picked (λ codec ys. length xs < 2 ^ 32 → Serializes old new result (codec_bytes codec ys)) xs h few in
+    subst (Serializes old new result) (sym (list_bytes-picked xs p.0 p.1)) at
 
 -- it takes one byte more than its estimate
 pub list-long : (xs : List ℕ) (n : ℕ) → IfSome (chosen_codec (map (λ x. x) xs) index_codecs) (λ codec. estimate (map (λ x. x) xs) codec ≡ Some n) → 1 + n ≡ length (list_bytes xs)
@@ -41,10 +41,10 @@ list-fits xs n few h = omega (arith, list-long xs n h, list_bytes-most xs)
 
 -- ---- rows
 
-pub row_set-written : (a b d : Told) (k m n : ℕ) (end : Unit {0}) (result : Result (Unit {0}) ColumnarError) (count : ℕ) (s : RowSet) → count ≡ s.num_rows → Serializes a b k m (Ok end) (vint_bytes count) → Serializes b d m n result (list_bytes s.rows) → Serializes a d k n result (row_set_bytes s)
+pub row_set-written : (a b d : SeenSink) (end : Unit {0}) (result : Result (Unit {0}) ColumnarError) (count : ℕ) (s : RowSet) → count ≡ s.num_rows → Serializes a b (Ok end) (vint_bytes count) → Serializes b d result (list_bytes s.rows) → Serializes a d result (row_set_bytes s)
 unfolding row_set_bytes
-row_set-written a b d k m n end result count s e front rest =
-    serializes-then a b d k m n end result (vint_bytes s.num_rows) (list_bytes s.rows) (subst (λ c. Serializes a b k m (Ok end) (vint_bytes c)) e front) rest
+row_set-written a b d end result count s e front rest =
+    serializes-then a b d end result (vint_bytes s.num_rows) (list_bytes s.rows) (subst (λ c. Serializes a b (Ok end) (vint_bytes c)) e front) rest
 
 pub row_set-long : (count front rest : ℕ) (s : RowSet) → count ≡ s.num_rows → front ≡ length (vint_bytes count) → rest ≡ length (list_bytes s.rows) → front + rest ≡ length (row_set_bytes s)
 unfolding row_set_bytes
@@ -55,18 +55,18 @@ row_set-long count front rest s e f r =
 -- ---- rows and start offsets
 
 -- the offsets were not written to their end
-pub offsets-stopped : (a b d : Told) (k m n : ℕ) (end : Unit {0}) (e : ColumnarError) (o : RowOffsets) → Serializes a b k m (Ok end) (row_set_bytes o.set) → Serializes b d m n (Err e) (list_bytes o.starts) → Serializes a d k n (Err e) (row_offsets_bytes o)
-offsets-stopped a b d k m n end e o rows starts =
-    serializes-stopped a d k n e (row_set_bytes o.set ++ list_bytes o.starts) (row_offsets_bytes o)
-    (serializes-then a b d k m n end (Err e) (row_set_bytes o.set) (list_bytes o.starts) rows starts)
+pub offsets-stopped : (a b d : SeenSink) (end : Unit {0}) (e : ColumnarError) (o : RowOffsets) → Serializes a b (Ok end) (row_set_bytes o.set) → Serializes b d (Err e) (list_bytes o.starts) → Serializes a d (Err e) (row_offsets_bytes o)
+offsets-stopped a b d end e o rows starts =
+    serializes-stopped a d e (row_set_bytes o.set ++ list_bytes o.starts) (row_offsets_bytes o)
+    (serializes-then a b d end (Err e) (row_set_bytes o.set) (list_bytes o.starts) rows starts)
 
-pub row_offsets-written : (a b d f : Told) (j k m n : ℕ) (end : Unit {0}) (result : Result (Unit {0}) ColumnarError) (len : ℕ) (bytes : List ℕ) (o : RowOffsets) → len ≡ length (row_set_bytes o.set) → bytes ≡ to_le_bytes w64 len
-    → Serializes a b j k (Ok end) (row_set_bytes o.set) → Serializes b d k m (Ok end) (list_bytes o.starts) → Serializes d f m n result bytes → Serializes a f j n result (row_offsets_bytes o)
+pub row_offsets-written : (a b d f : SeenSink) (end : Unit {0}) (result : Result (Unit {0}) ColumnarError) (len : ℕ) (bytes : List ℕ) (o : RowOffsets) → len ≡ length (row_set_bytes o.set) → bytes ≡ to_le_bytes w64 len
+    → Serializes a b (Ok end) (row_set_bytes o.set) → Serializes b d (Ok end) (list_bytes o.starts) → Serializes d f result bytes → Serializes a f result (row_offsets_bytes o)
 unfolding row_offsets_bytes
-row_offsets-written a b d f j k m n end result len bytes o e same rows starts rest =
-    serializes-then a b f j k n end result (row_set_bytes o.set) (list_bytes o.starts ++ to_le_bytes w64 (length (row_set_bytes o.set))) rows
-    (serializes-then b d f k m n end result (list_bytes o.starts) (to_le_bytes w64 (length (row_set_bytes o.set))) starts
-    (subst (Serializes d f m n result) (same ∙ ap (to_le_bytes w64) e) rest))
+row_offsets-written a b d f end result len bytes o e same rows starts rest =
+    serializes-then a b f end result (row_set_bytes o.set) (list_bytes o.starts ++ to_le_bytes w64 (length (row_set_bytes o.set))) rows
+    (serializes-then b d f end result (list_bytes o.starts) (to_le_bytes w64 (length (row_set_bytes o.set))) starts
+    (subst (Serializes d f result) (same ∙ ap (to_le_bytes w64) e) rest))
 
 pub row_offsets-long : (front rest : ℕ) (o : RowOffsets) → front ≡ length (row_set_bytes o.set) → rest ≡ length (list_bytes o.starts) → front + rest + 8 ≡ length (row_offsets_bytes o)
 unfolding row_offsets_bytes
@@ -88,9 +88,9 @@ index_code full_index = refl
 index_code (optional_index s) = refl
 index_code (multivalued_index o) = refl
 
-pub index-written : (a b d : Told) (k m n : ℕ) (end : Unit {0}) (result : Result (Unit {0}) ColumnarError) (code : ℕ) (i : Index) → code ≡ cardinality_code (cardinality_written i) → Serializes a b k m (Ok end) (code ∷ []) → Serializes b d m n result (body_bytes i) → Serializes a d k n result (index_bytes i)
-index-written a b d k m n end result code i e front rest =
-    subst (Serializes a d k n result) (ap (λ c. c ∷ body_bytes i) e ∙ sym (index_code i)) (serializes-then a b d k m n end result (code ∷ []) (body_bytes i) front rest)
+pub index-written : (a b d : SeenSink) (end : Unit {0}) (result : Result (Unit {0}) ColumnarError) (code : ℕ) (i : Index) → code ≡ cardinality_code (cardinality_written i) → Serializes a b (Ok end) (code ∷ []) → Serializes b d result (body_bytes i) → Serializes a d result (index_bytes i)
+index-written a b d end result code i e front rest =
+    subst (Serializes a d result) (ap (λ c. c ∷ body_bytes i) e ∙ sym (index_code i)) (serializes-then a b d end result (code ∷ []) (body_bytes i) front rest)
 
 pub index-long : (rest : ℕ) (i : Index) → rest ≡ length (body_bytes i) → 1 + rest ≡ length (index_bytes i)
 index-long rest i e = omega (arith, ap length (index_code i))

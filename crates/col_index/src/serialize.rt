@@ -8,8 +8,8 @@ ghost use Rattle.col_index.specs.RowViews.{rows_of};
 ghost use Rattle.col_index.specs.Spelling.{list_bytes, row_set_bytes, AreRowsOf32};
 
 use crate::{Cardinality, OptionalIndex, RowIds, StartOffsets, indexes_are_read_back};
-use col_common::{ColumnarError, Iterable, RowId, Sink, VInt};
 use col_codecs::{CodecType, serialize_estimated_values};
+use col_common::{ColumnarError, Iterable, RowId, Sink, VInt};
 use std::alloc::Global;
 
 // The codecs that the lists of an index are offered.
@@ -73,8 +73,7 @@ pub fn serialize_optional_index<K: Sink>(
     sink: &mut K,
 ) -> Result<(), ColumnarError>
     requires { AreRowsOf32 (record { num_rows = num_rows; rows = rows_of non_null_row_ids.now }) }
-    ensures ok { Serializes (K.written sink.old) (K.written sink.new)
-        (K.faults sink.old) (K.faults sink.new) result
+    ensures ok { Serializes (K.seen sink.old) (K.seen sink.new) result
         (row_set_bytes (record { num_rows = num_rows; rows = rows_of non_null_row_ids.now })) }
     // What was written stands for the rows.
     ensures again { row_set
@@ -94,8 +93,7 @@ pub(crate) fn serialize_row_set<I: Iterable<RowId>, K: Sink>(
     sink: &mut K,
 ) -> Result<u64, ColumnarError>
     requires { AreRowsOf32 (record { num_rows = num_rows; rows = I.items rows.now }) }
-    ensures ok { Serializes (K.written sink.old) (K.written sink.new)
-        (K.faults sink.old) (K.faults sink.new) (done result)
+    ensures ok { Serializes (K.seen sink.old) (K.seen sink.new) (done result)
         (row_set_bytes (record { num_rows = num_rows; rows = I.items rows.now })) }
     ensures length { IfOk result (λ n.
         n ≡ length (row_set_bytes (record { num_rows = num_rows; rows = I.items rows.now }))) }
@@ -113,8 +111,7 @@ pub(crate) fn serialize_list<I: Iterable<RowId>, K: Sink>(
     sink: &mut K,
 ) -> Result<u64, ColumnarError>
     requires { length (I.items list.now) < 2 ^ 32 }
-    ensures ok { Serializes (K.written sink.old) (K.written sink.new)
-        (K.faults sink.old) (K.faults sink.new) (done result)
+    ensures ok { Serializes (K.seen sink.old) (K.seen sink.new) (done result)
         (list_bytes (I.items list.now)) }
     ensures length { IfOk result (λ n. n ≡ length (list_bytes (I.items list.now))) }
 {

@@ -21,8 +21,7 @@ pub fn serialize_multivalued_index<K: Sink>(
     sink: &mut K,
 ) -> Result<(), ColumnarError>
     requires { AreOffsetsOf32 (row_offsets_of multivalued_index.now) }
-    ensures ok { Serializes (K.written sink.old) (K.written sink.new)
-        (K.faults sink.old) (K.faults sink.new) result
+    ensures ok { Serializes (K.seen sink.old) (K.seen sink.new) result
         (row_offsets_bytes (row_offsets_of multivalued_index.now)) }
     // What was written stands for the rows and offsets.
     ensures again { row_offsets (row_offsets_bytes (row_offsets_of multivalued_index.now))
@@ -49,8 +48,7 @@ fn serialize_row_offsets<R: Iterable<RowId>, S: Iterable<RowId>, K: Sink>(
     sink: &mut K,
 ) -> Result<u64, ColumnarError>
     requires { AreOffsetsOf32 (offsets_by_rows num_rows (R.items rows.now) (S.items starts.now)) }
-    ensures ok { Serializes (K.written sink.old) (K.written sink.new)
-        (K.faults sink.old) (K.faults sink.new) (done result)
+    ensures ok { Serializes (K.seen sink.old) (K.seen sink.new) (done result)
         (row_offsets_bytes (offsets_by_rows num_rows (R.items rows.now) (S.items starts.now))) }
     ensures length { IfOk result (λ n.
         n ≡ length
@@ -70,8 +68,7 @@ pub fn serialize_column_index<K: Sink>(
     sink: &mut K,
 ) -> Result<u64, ColumnarError>
     requires { IsWritable (index_of column_index) }
-    ensures ok { Serializes (K.written sink.old) (K.written sink.new)
-        (K.faults sink.old) (K.faults sink.new) (done result)
+    ensures ok { Serializes (K.seen sink.old) (K.seen sink.new) (done result)
         (index_bytes (index_of column_index.entry)) }
     ensures length { IfOk result (λ n. n ≡ length (index_bytes (index_of column_index.entry))) }
     // What was written stands for the index.
@@ -91,8 +88,7 @@ fn serialize_body<K: Sink>(
     sink: &mut K,
 ) -> Result<u64, ColumnarError>
     requires { IsWritable (index_of column_index.now) }
-    ensures ok { Serializes (K.written sink.old) (K.written sink.new)
-        (K.faults sink.old) (K.faults sink.new) (done result)
+    ensures ok { Serializes (K.seen sink.old) (K.seen sink.new) (done result)
         (body_bytes (index_of column_index.now)) }
     ensures length { IfOk result (λ n. n ≡ length (body_bytes (index_of column_index.now))) }
 {

@@ -6,7 +6,7 @@ use Rattle.std.specs.Map.{lookup}
 use Rattle.std.specs.Ordering.{nat_cmp}
 use Rattle.std.specs.Cmp.Lexicographic.{slice_cmp}
 use Rattle.std.specs.Borrow.{Bor}
-use Rattle.col_common.specs.Outside.{Told}
+use Rattle.col_common.specs.Outside.{SeenSink}
 use Rattle.col_common.specs.Serializing.{Serializes}
 use Rattle.col_common.specs.declared.error.ColumnarError.{ColumnarError}
 use Rattle.col_common.specs.declared.error.ColumnarError.TheVariants.{OutOfMemory, TooLarge}
@@ -67,9 +67,9 @@ done (Ok x) = Ok tt
 done (Err e) = Err e
 
 -- Too long bytes are refused before the first one, and others are serialized.
-abbrev pub SerializesWithin : Bool → Told → Told → ℕ → ℕ → Result (Unit {0}) ColumnarError → List ℕ → Type 0
-SerializesWithin true old new before now result bytes = (result ≡ Err TooLarge) × (new ≡ old) × (now ≡ before)
-SerializesWithin false old new before now result bytes = Serializes old new before now result bytes
+abbrev pub SerializesWithin : Bool → SeenSink → SeenSink → Result (Unit {0}) ColumnarError → List ℕ → Type 0
+SerializesWithin true old new result bytes = (result ≡ Err TooLarge) × (new ≡ old)
+SerializesWithin false old new result bytes = Serializes old new result bytes
 
 -- ---- a map from terms to ids
 

@@ -138,8 +138,8 @@ impl DictionaryBuilder {
 
     /// Writes the dictionary of the terms, and gives each id the ordinal of its term.
     pub fn serialize<K: Sink>(&self, sink: &mut K) -> Result<TermIdMapping, ColumnarError>
-        ensures bytes { SerializesWithin (is_too_long self.now) (K.written sink.old) (K.written sink.new)
-            (K.faults sink.old) (K.faults sink.new) (done result) (dictionary_bytes (ordered self.now)) }
+        ensures bytes { SerializesWithin (is_too_long self.now) (K.seen sink.old) (K.seen sink.new)
+            (done result) (dictionary_bytes (ordered self.now)) }
         ensures mapping { IfOk result (λ m. m ≡ ordinals self.now) }
     {
         if self.is_too_long() {

@@ -5,13 +5,12 @@ use Rattle.std.specs.Int.{w32, w64, to_le_bytes}
 use Rattle.std.specs.declared.alloc.Global.{Global}
 use Rattle.std.proofs.lemmas.List.{map-id}
 use Rattle.std.proofs.lemmas.List.Concat.{flat_map-cons}
-use Rattle.std.proofs.lemmas.Option.{same_Some}
-use Rattle.col_common.specs.Outside.{Told}
+use Rattle.col_common.specs.Outside.{SeenSink}
 use Rattle.col_common.specs.VInt.{vint_bytes}
 use Rattle.col_common.specs.Serializing.{Serializes}
 use Rattle.col_common.specs.declared.error.ColumnarError.{ColumnarError}
 use Rattle.col_common.specs.declared.error.ColumnarError.TheVariants.{OutOfMemory}
-use Rattle.col_common.proofs.SerializingLemmas.{serializes-then, serializes-stopped, serializes-nothing}
+use Rattle.col_common.proofs.SerializingLemmas.{serializes-as, serializes-nothing, serializes-refused, serializes-then}
 use Rattle.col_model.specs.U64List.{bitpacked_bytes, joined_lists}
 use Rattle.col_model.specs.Codecs.{chosen_codec, codec_bytes}
 use Rattle.col_model.specs.ColumnType as types
@@ -20,24 +19,16 @@ use Rattle.col_model.specs.Spelling.{column_bytes, keyed_length_bytes, keyed_len
 use Rattle.col_model.specs.FullColumns.{full_column_bytes, full_columns, u64_columns, number_file, NamedNumbers}
 use Rattle.col_model.proofs.ChosenLaws.{codec_bytes-bitpacked}
 
--- the same bytes in other words
-pub serializes_as : (a b : Told) (k m : ℕ) (result : Result (Unit {0}) ColumnarError) (xs ys : List ℕ) → xs ≡ ys → Serializes a b k m result xs → Serializes a b k m result ys
-serializes_as a b k m result xs ys e first = subst (λ bytes. Serializes a b k m result bytes) e first
-
--- a refusal behind what was added, whatever was to come
-pub refused_later : (a b c : Told) (k m n : ℕ) (done : Unit {0}) (e : ColumnarError) (xs ys zs : List ℕ) → Serializes a b k m (Ok done) xs → Serializes b c m n (Err e) ys → Serializes a c k n (Err e) zs
-refused_later a b c k m n done e xs ys zs first second = serializes-stopped a c k n e (xs ++ ys) zs (serializes-then a b c k m n done (Err e) xs ys first second)
-
 -- a step behind it wrote nothing, and can want memory alone
-pub serialized_unless_memory : (a b : Told) (k m : ℕ) (done : Unit {0}) (result : Result (Unit {0}) ColumnarError) (xs : List ℕ) → Serializes a b k m (Ok done) xs → IfErr result (λ e. e ≡ OutOfMemory) → Serializes a b k m result xs
-serialized_unless_memory a b k m done (Ok end) xs first h = record {
+pub serialized_unless_memory : (a b : SeenSink) (done : Unit {0}) (result : Result (Unit {0}) ColumnarError) (xs : List ℕ) → Serializes a b (Ok done) xs → IfErr result (λ e. e ≡ OutOfMemory) → Serializes a b result xs
+serialized_unless_memory a b done (Ok end) xs first h = record {
   ok = first.ok;
   grown = first.grown;
   later = first.later;
   write_fault = λ e. absurd (cc);
   causes = tt;
 }
-serialized_unless_memory a b k m done (Err e) xs first h = record {
+serialized_unless_memory a b done (Err e) xs first h = record {
   ok = tt;
   grown = first.grown;
   later = first.later;
@@ -67,9 +58,9 @@ keyed_length-parts name text code n e f =
 -- ---- the numbers of a column
 
 -- what is written where Bitpacked is the one codec that is offered
-pub bitpacked-offered : (a b : Told) (k m : ℕ) (result : Result (Unit {0}) ColumnarError) (xs : List ℕ) → length xs < 2 ^ 32 → IfSome (chosen_codec (map (λ n. n) xs) (0 ∷ [])) (λ codec. length xs < 2 ^ 32 → Serializes a b k m result (codec_bytes codec (map (λ n. n) xs))) → Serializes a b k m result (bitpacked_bytes xs)
+pub bitpacked-offered : (a b : SeenSink) (result : Result (Unit {0}) ColumnarError) (xs : List ℕ) → length xs < 2 ^ 32 → IfSome (chosen_codec (map (λ n. n) xs) (0 ∷ [])) (λ codec. length xs < 2 ^ 32 → Serializes a b result (codec_bytes codec (map (λ n. n) xs))) → Serializes a b result (bitpacked_bytes xs)
 unfolding chosen_codec
-bitpacked-offered a b k m result xs short written = serializes_as a b k m result _ (bitpacked_bytes xs) (ap (codec_bytes 0) (map-id xs) ∙ codec_bytes-bitpacked xs) (written short)
+bitpacked-offered a b result xs short written = serializes-as a b result _ (bitpacked_bytes xs) (written short) (ap (codec_bytes 0) (map-id xs) ∙ codec_bytes-bitpacked xs)
 
 -- ---- columns one after another
 
@@ -89,15 +80,15 @@ abbrev pub keyed_bodies : List Entry → List ℕ
 keyed_bodies es = flat_map keyed_length_bytes (keyed_lengths (full_columns (u64_columns (named es))))
 
 -- what was written of all columns, and what is left to write
-pub record WritesFrom (a b : Told) (k m : ℕ) (old table : List ℕ) (left all : List Entry) : Type 0 where
+pub record WritesFrom (a b : SeenSink) (old table : List ℕ) (left all : List Entry) : Type 0 where
   pub bytes : List ℕ
-  pub serialized : Serializes a b k m (Ok tt) bytes
+  pub serialized : Serializes a b (Ok tt) bytes
   pub whole : bytes ++ bodies left ≡ bodies all
   pub keyed : table ++ keyed_bodies left ≡ old ++ keyed_bodies all
   pub short : AllByRecursion (λ p. length p.1 < 2 ^ 32) (named left)
 
-pub writes-init : (a : Told) (k : ℕ) (old : List ℕ) (all : List Entry) → AllByRecursion (λ p. length p.1 < 2 ^ 32) (named all) → WritesFrom a a k k old old all all
-writes-init a k old all short = record { bytes = []; serialized = serializes-nothing a k tt; whole = refl; keyed = refl; short = short }
+pub writes-init : (a : SeenSink) (old : List ℕ) (all : List Entry) → AllByRecursion (λ p. length p.1 < 2 ^ 32) (named all) → WritesFrom a a old old all all
+writes-init a old all short = record { bytes = []; serialized = serializes-nothing a tt; whole = refl; keyed = refl; short = short }
 
 -- the next column's key and length
 abbrev next_keyed : Entry → List ℕ
@@ -109,31 +100,27 @@ regroup_keyed table more rest total e = append_assoc table more rest ∙ e
 keyed_bodies-cons : (x : Entry) (left : List Entry) → keyed_bodies (x ∷ left) ≡ next_keyed x ++ keyed_bodies left
 keyed_bodies-cons x left = flat_map-cons keyed_length_bytes (record { name = string_bytes x.0; column_type = types.u64 }, length (full_column_bytes x.1.items)) (keyed_lengths (full_columns (u64_columns (named left))))
 
-pub writes-goes_on : (a b c : Told) (k m n : ℕ) (old table more : List ℕ) (x : Entry) (left all : List Entry) (done : Unit {0}) → WritesFrom a b k m old table (x ∷ left) all
-    → Serializes b c m n (Ok done) (full_column_bytes x.1.items) → more ≡ table ++ next_keyed x → WritesFrom a c k n old more left all
-writes-goes_on a b c k m n old table more x left all done was one e = record {
+pub writes-goes_on : (a b c : SeenSink) (old table more : List ℕ) (x : Entry) (left all : List Entry) (done : Unit {0}) → WritesFrom a b old table (x ∷ left) all
+    → Serializes b c (Ok done) (full_column_bytes x.1.items) → more ≡ table ++ next_keyed x → WritesFrom a c old more left all
+writes-goes_on a b c old table more x left all done was one e = record {
   bytes = was.bytes ++ full_column_bytes x.1.items;
-  serialized = serializes-then a b c k m n tt (Ok tt) was.bytes (full_column_bytes x.1.items) was.serialized one;
+  serialized = serializes-then a b c tt (Ok tt) was.bytes (full_column_bytes x.1.items) was.serialized one;
   whole = regroup_keyed was.bytes (full_column_bytes x.1.items) (bodies left) (bodies all) was.whole;
   keyed = ap (λ t. t ++ keyed_bodies left) e ∙ regroup_keyed table (next_keyed x) (keyed_bodies left) (old ++ keyed_bodies all) (ap (λ r. table ++ r) (sym (keyed_bodies-cons x left)) ∙ was.keyed);
   short = was.short.1;
 }
 
-pub writes-refused : (a b c : Told) (k m n : ℕ) (old table : List ℕ) (left all : List Entry) (e : ColumnarError) (ys : List ℕ) → WritesFrom a b k m old table left all → Serializes b c m n (Err e) ys → Serializes a c k n (Err e) (bodies all)
-writes-refused a b c k m n old table left all e ys was one = refused_later a b c k m n tt e was.bytes ys (bodies all) was.serialized one
+pub writes-refused : (a b c : SeenSink) (old table : List ℕ) (left all : List Entry) (e : ColumnarError) (ys : List ℕ) → WritesFrom a b old table left all → Serializes b c (Err e) ys → Serializes a c (Err e) (bodies all)
+writes-refused a b c old table left all e ys was one = serializes-refused a b c tt e was.bytes ys (bodies all) was.serialized one
 
 -- one more column, where the name and the numbers are told in other words
-pub writes-step : (a b c : Told) (k m n : ℕ) (old table more name xs : List ℕ) (x : Entry) (left all : List Entry) (done : Unit {0}) → name ≡ string_bytes x.0 → xs ≡ x.1.items → WritesFrom a b k m old table (x ∷ left) all
-    → Serializes b c m n (Ok done) (full_column_bytes xs) → more ≡ table ++ keyed_length_bytes (record { name = name; column_type = types.u64 }, length (full_column_bytes xs)) → WritesFrom a c k n old more left all
-writes-step a b c k m n old table more name xs x left all done e f was one h =
-    writes-goes_on a b c k m n old table more x left all done was (serializes_as b c m n (Ok done) (full_column_bytes xs) (full_column_bytes x.1.items) (ap full_column_bytes f) one)
+pub writes-step : (a b c : SeenSink) (old table more name xs : List ℕ) (x : Entry) (left all : List Entry) (done : Unit {0}) → name ≡ string_bytes x.0 → xs ≡ x.1.items → WritesFrom a b old table (x ∷ left) all
+    → Serializes b c (Ok done) (full_column_bytes xs) → more ≡ table ++ keyed_length_bytes (record { name = name; column_type = types.u64 }, length (full_column_bytes xs)) → WritesFrom a c old more left all
+writes-step a b c old table more name xs x left all done e f was one h =
+    writes-goes_on a b c old table more x left all done was (serializes-as b c (Ok done) (full_column_bytes xs) (full_column_bytes x.1.items) one (ap full_column_bytes f))
     (h ∙ ap₂ (λ s v. table ++ keyed_length_bytes (record { name = s; column_type = types.u64 }, length (full_column_bytes v))) e f)
 
 -- ---- the whole file
-
--- what a buffer has after a call
-pub in_memory : (a b : List ℕ) (k m : ℕ) (done : Unit {0}) (xs : List ℕ) → Serializes (Some a) (Some b) k m (Ok done) xs → b ≡ a ++ xs
-in_memory a b k m done xs first = same_Some b (a ++ xs) first.ok
 
 length-columns : (es : List Entry) → length es ≡ length (keyed_lengths (full_columns (u64_columns (named es))))
 length-columns [] = refl

@@ -62,7 +62,7 @@ pub fn serialize_footer<K: Sink>(
     num_docs: u32,
     sink: &mut K,
 ) -> Result<(), ColumnarError>
-    ensures { Serializes (K.written sink.old) (K.written sink.new) (K.faults sink.old) (K.faults sink.new)
+    ensures { Serializes (K.seen sink.old) (K.seen sink.new)
         result (footer_bytes key_table_len num_docs) }
 {
     serialize_bytes(sink, &key_table_len.to_le_bytes())?;

@@ -10,12 +10,11 @@ ghost use Rattle.col_model.specs.Spelling.{keyed_length_bytes, keyed_lengths};
 ghost use Rattle.col_model.specs.FullColumns.{full_column_bytes, full_columns, u64_columns, number_file, AreNumberColumns};
 ghost use Rattle.col_tool.specs.Columns.{named_numbers};
 
-use crate::buffer::Buffer;
 use crate::column::FULL_INDEX;
 use crate::column_type::ColumnType;
 use crate::footer::serialize_footer;
-use col_common::{ColumnarError, Sink, VInt, serialize_bytes};
 use col_codecs::{CodecType, serialize_u64_based_column_values};
+use col_common::{Buffer, ColumnarError, Sink, VInt, serialize_bytes};
 use std::alloc::Global;
 use std::collections::BTreeMap;
 
@@ -30,7 +29,7 @@ pub fn serialize_columnar<K: Sink>(
     sink: &mut K,
 ) -> Result<(), ColumnarError>
     requires { AreNumberColumns num_docs (named_numbers columns.now) }
-    ensures { Serializes (K.written sink.old) (K.written sink.new) (K.faults sink.old) (K.faults sink.new)
+    ensures { Serializes (K.seen sink.old) (K.seen sink.new)
         result (number_file num_docs (named_numbers columns.now)) }
 {
     let mut table = Buffer::new(alloc);
@@ -48,7 +47,7 @@ fn serialize_columns<K: Sink>(
     table: &mut Buffer,
 ) -> Result<(), ColumnarError>
     requires { AllByRecursion (λ p. length p.1 < 2 ^ 32) (named_numbers columns.now) }
-    ensures columns { Serializes (K.written sink.old) (K.written sink.new) (K.faults sink.old) (K.faults sink.new)
+    ensures columns { Serializes (K.seen sink.old) (K.seen sink.new)
         result (joined_lists (map (λ p. p.1) (full_columns (u64_columns (named_numbers columns.now))))) }
     ensures table { OnOk result (table.new ≡ table.old
         ++ flat_map keyed_length_bytes (keyed_lengths (full_columns (u64_columns (named_numbers columns.now))))) }
@@ -68,7 +67,7 @@ fn serialize_column<K: Sink>(
     table: &mut Buffer,
 ) -> Result<(), ColumnarError>
     requires { length values.now < 2 ^ 32 }
-    ensures column { Serializes (K.written sink.old) (K.written sink.new) (K.faults sink.old) (K.faults sink.new)
+    ensures column { Serializes (K.seen sink.old) (K.seen sink.new)
         result (full_column_bytes values.now) }
     ensures table { OnOk result (table.new ≡ table.old
         ++ keyed_length_bytes (record { name = name.now; column_type = types.u64 }, length (full_column_bytes values.now))) }
@@ -96,8 +95,7 @@ fn serialize_full_column<K: Sink>(
     sink: &mut K,
 ) -> Result<(), ColumnarError>
     requires { length values.now < 2 ^ 32 }
-    ensures { Serializes (K.written sink.old) (K.written sink.new) (K.faults sink.old) (K.faults sink.new)
-        result (full_column_bytes values.now) }
+    ensures { Serializes (K.seen sink.old) (K.seen sink.new) result (full_column_bytes values.now) }
 {
     serialize_bytes(sink, &FULL_INDEX)?;
     serialize_numbers(alloc, values, sink)?;
@@ -111,8 +109,7 @@ fn serialize_numbers<K: Sink>(
     sink: &mut K,
 ) -> Result<(), ColumnarError>
     requires { length values.now < 2 ^ 32 }
-    ensures { Serializes (K.written sink.old) (K.written sink.new) (K.faults sink.old) (K.faults sink.new)
-        result (bitpacked_bytes values.now) }
+    ensures { Serializes (K.seen sink.old) (K.seen sink.new) result (bitpacked_bytes values.now) }
 {
     serialize_u64_based_column_values::<u64, _, _>(alloc, &values, &CODEC_TYPES, sink)
 }
@@ -132,7 +129,7 @@ fn serialize_keyed_length<K: Sink>(
     num_bytes: u64,
     sink: &mut K,
 ) -> Result<(), ColumnarError>
-    ensures { Serializes (K.written sink.old) (K.written sink.new) (K.faults sink.old) (K.faults sink.new)
+    ensures { Serializes (K.seen sink.old) (K.seen sink.new)
         result (keyed_length_bytes (record { name = name.now; column_type = types.u64 }, num_bytes)) }
 {
     let end = [0, ColumnType::U64.to_code()];

@@ -89,7 +89,7 @@ impl ColumnarWriter {
         sink: &mut K,
     ) -> Result<(), ColumnarError>
         requires { AreNumberColumns num_docs self.now }
-        ensures { Serializes (K.written sink.old) (K.written sink.new) (K.faults sink.old) (K.faults sink.new)
+        ensures { Serializes (K.seen sink.old) (K.seen sink.new)
             result (number_file num_docs self.now) }
     {
         serialize_columnar(alloc, num_docs, &self.columns, sink)

@@ -135,8 +135,7 @@ fn serialize_behind_codec<I: Iterable<u64>, K: Sink>(
     sink: &mut K,
 ) -> Result<(), ColumnarError>
     requires { stats_seen stats.now ≡ stats_of (I.items vals.now) }
-    ensures { Serializes (K.written sink.old) (K.written sink.new)
-        (K.faults sink.old) (K.faults sink.new) result
+    ensures { Serializes (K.seen sink.old) (K.seen sink.new) result
         (blockwise_body (I.items vals.now)) }
 {
     let _greatest = stats.max_value;

@@ -18,10 +18,9 @@ ghost use Rattle.col_codecs.specs.Blocks.{IsBlock};
 
 use super::BLOCK_LEN;
 use super::offsets::train_offsets;
-use crate::buffer::Buffer;
 use crate::column_stats::ColumnStats;
 use crate::packing::{BLOCK_SIZE, pack_block, take_block, take_steps};
-use col_common::{ColumnarError, Iterable, Sink, serialize_bytes};
+use col_common::{Buffer, ColumnarError, Iterable, Sink, serialize_bytes};
 use std::alloc::Global;
 
 // The bytes of a value.
@@ -35,8 +34,7 @@ pub fn serialize_blocks<I: Iterable<u64>, K: Sink>(
     sink: &mut K,
 ) -> Result<(), ColumnarError>
     requires { stats_seen stats.now ≡ stats_of (I.items vals.now) }
-    ensures { Serializes (K.written sink.old) (K.written sink.new)
-        (K.faults sink.old) (K.faults sink.new) result
+    ensures { Serializes (K.seen sink.old) (K.seen sink.new) result
         (blocks_bytes (blocks_of (steps_above (stats_seen stats.now) (I.items vals.now)))) }
 {
     let mut lines = Buffer::new(alloc);
@@ -46,8 +44,7 @@ pub fn serialize_blocks<I: Iterable<u64>, K: Sink>(
 
 // Adds lines, and their length.
 fn serialize_lines<K: Sink>(lines: &[u8], sink: &mut K) -> Result<(), ColumnarError>
-    ensures { Serializes (K.written sink.old) (K.written sink.new)
-        (K.faults sink.old) (K.faults sink.new) result
+    ensures { Serializes (K.seen sink.old) (K.seen sink.new) result
         (lines.now ++ to_le_bytes w64 (length lines.now)) }
 {
     serialize_bytes(sink, lines)?;
@@ -64,8 +61,7 @@ fn serialize_packed<I: Iterable<u64>, K: Sink>(
 ) -> Result<(), ColumnarError>
     requires stats { stats_seen stats.now ≡ stats_of (I.items vals.now) }
     requires empty { lines.old ≡ [] }
-    ensures packed { Serializes (K.written sink.old) (K.written sink.new)
-        (K.faults sink.old) (K.faults sink.new) result
+    ensures packed { Serializes (K.seen sink.old) (K.seen sink.new) result
         (joined_lists (map packed_block
         (blocks_of (steps_above (stats_seen stats.now) (I.items vals.now))))) }
     ensures lines { OnOk result (lines.new ≡
@@ -90,8 +86,7 @@ fn serialize_block<K: Sink>(
     sink: &mut K,
 ) -> Result<(), ColumnarError>
     requires { IsBlock (stats_seen stats.now) vals.old }
-    ensures packed { Serializes (K.written sink.old) (K.written sink.new)
-        (K.faults sink.old) (K.faults sink.new) result
+    ensures packed { Serializes (K.seen sink.old) (K.seen sink.new) result
         (packed_block (steps_above (stats_seen stats.now) vals.old)) }
     ensures line { OnOk result (lines.new ≡ lines.old
         ++ slope_bytes (block_line (steps_above (stats_seen stats.now) vals.old))) }

@@ -166,8 +166,7 @@ fn serialize_behind_codec<I: Iterable<u64>, K: Sink>(
     requires count { length (I.items vals.now) < 2 ^ 32 }
     requires stats { stats_seen stats.now ≡ stats_of (I.items vals.now) }
     requires line { slope_seen slope ≡ linear_line (I.items vals.now) }
-    ensures { Serializes (K.written sink.old) (K.written sink.new)
-        (K.faults sink.old) (K.faults sink.new) result (linear_body (I.items vals.now)) }
+    ensures { Serializes (K.seen sink.old) (K.seen sink.new) result (linear_body (I.items vals.now)) }
 {
     let _greatest = stats.max_value;
     stats.serialize(sink)?;

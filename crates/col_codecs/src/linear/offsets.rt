@@ -36,8 +36,7 @@ pub fn serialize_offsets<I: Iterable<u64>, K: Sink>(
     requires count { length (I.items vals.now) < 2 ^ 32 }
     requires small { AllByRecursion (λ v. v < 2 ^ slope.offset_width)
         (offsets_from (slope_seen slope) (I.items vals.now)) }
-    ensures { Serializes (K.written sink.old) (K.written sink.new)
-        (K.faults sink.old) (K.faults sink.new) result
+    ensures { Serializes (K.seen sink.old) (K.seen sink.new) result
         (packed_offsets (slope_seen slope) (I.items vals.now)) }
 {
     let mut block = [0; BLOCK_SIZE];
@@ -58,8 +57,7 @@ fn serialize_blocks<I: Iterable<u64>, K: Sink>(
     requires small { AllByRecursion (λ v. v < 2 ^ slope.offset_width)
         (offsets_from (slope_seen slope) (I.items vals.now)) }
     requires room { length block.old ≡ block_size }
-    ensures { Serializes (K.written sink.old) (K.written sink.new)
-        (K.faults sink.old) (K.faults sink.new) result
+    ensures { Serializes (K.seen sink.old) (K.seen sink.new) result
         (packed_offsets (slope_seen slope) (I.items vals.now)) }
 {
     let mut start = 0;
@@ -86,8 +84,7 @@ fn serialize_block<K: Sink>(
     requires count { start + length vals.old < 2 ^ 32 }
     requires small { AllByRecursion (λ v. v < 2 ^ slope.offset_width)
         (map (offset_from (slope_seen slope)) (enumerate_from start vals.old)) }
-    ensures { Serializes (K.written sink.old) (K.written sink.new)
-        (K.faults sink.old) (K.faults sink.new) result (packed_bytes slope.offset_width
+    ensures { Serializes (K.seen sink.old) (K.seen sink.new) result (packed_bytes slope.offset_width
         (map (offset_from (slope_seen slope)) (enumerate_from start vals.old))) }
 {
     take_offsets(slope, start, vals);

@@ -1,22 +1,22 @@
 use Rattle.std.proofs.lemmas.Result.{err_from_is_err_and}
-use Rattle.col_common.proofs.SerializingLemmas.{serializes-then}
-use Rattle.col_tool.proofs.SerializeLemmas.{serializes_as, refused_later, keyed_length-parts}
+use Rattle.col_common.proofs.SerializingLemmas.{serializes-as, serializes-refused, serializes-then}
+use Rattle.col_tool.proofs.SerializeLemmas.{keyed_length-parts}
 use Rattle.col_tool.proofs.serializer.serialize_keyed_length.Goals as goal
 
 pub returns-in_err-serialize_bytes : goal.returns-in_err-serialize_bytes
 returns-in_err-serialize_bytes g c =
     let r = c.from_residual-in_err-serialize_bytes in
     let p = err_from_is_err_and r.result r.ensures.1 in
-    rw (p.1, p.2) (refused_later _ _ _ _ _ _ _ _ _ _ _ c.in_ok-serialize.ensures.ok c.in_err-serialize_bytes.ensures)
+    rw (p.1, p.2) (serializes-refused _ _ _ _ _ _ _ _ c.in_ok-serialize.ensures.ok c.in_err-serialize_bytes.ensures)
 
 pub returns-in_err-serialize_bytes-2 : goal.returns-in_err-serialize_bytes-2
 returns-in_err-serialize_bytes-2 g c =
     let r = c.from_residual-in_err-serialize_bytes-2 in
     let p = err_from_is_err_and r.result r.ensures.1 in
-    rw (p.1, p.2) (refused_later _ _ _ _ _ _ _ _ _ _ _ (serializes-then _ _ _ _ _ _ _ _ _ _ c.in_ok-serialize.ensures.ok c.in_ok-serialize_bytes.ensures) c.in_err-serialize_bytes-2.ensures)
+    rw (p.1, p.2) (serializes-refused _ _ _ _ _ _ _ _ (serializes-then _ _ _ _ _ _ _ c.in_ok-serialize.ensures.ok c.in_ok-serialize_bytes.ensures) c.in_err-serialize_bytes-2.ensures)
 
 pub returns : goal.returns
 returns g c =
     let whole = keyed_length-parts c.args.name.now c.as_bytes.result.now c.to_code.result c.args.num_bytes c.as_bytes.ensures.value c.to_code.ensures in
-    let front = serializes-then _ _ _ _ _ _ _ _ _ _ c.in_ok-serialize.ensures.ok c.in_ok-serialize_bytes.ensures in
-    serializes_as _ _ _ _ _ _ _ whole (serializes-then _ _ _ _ _ _ _ _ _ _ (serializes-then _ _ _ _ _ _ _ _ _ _ front c.in_ok-serialize_bytes-2.ensures) c.serialize-2.ensures.ok)
+    let front = serializes-then _ _ _ _ _ _ _ c.in_ok-serialize.ensures.ok c.in_ok-serialize_bytes.ensures in
+    serializes-as _ _ _ _ _ (serializes-then _ _ _ _ _ _ _ (serializes-then _ _ _ _ _ _ _ front c.in_ok-serialize_bytes-2.ensures) c.serialize-2.ensures.ok) whole

@@ -1,11 +1,10 @@
 use Rattle.std.proofs.Common.{◌≡◌, ◌++◌, ◌∙◌, sym, ap, arith, subst}
-use Rattle.col_common.proofs.SerializingLemmas.{serializes-then}
+use Rattle.col_common.proofs.SerializingLemmas.{serializes-as, serializes-then}
 use Rattle.col_bits.specs.Packed.{packed_bytes, width}
 use Rattle.col_model.specs.Stats.{steps_of, stats_bytes}
 use Rattle.col_model.specs.Codecs.{steps_above}
 use Rattle.col_codecs.specs.ColumnStats.{stats_seen}
 use Rattle.col_codecs.specs.Bitpacked.{FitSteps}
-use Rattle.col_codecs.proofs.StatsLemmas.{serializes_as}
 use Rattle.col_codecs.proofs.BitpackedWritingLemmas.{FitSteps-stats_of, body-bytes}
 use Rattle.col_codecs.proofs.PossibleLemmas.{IsPossible-stats_of}
 use Rattle.col_codecs.proofs.bitpacked.BitpackedCodecEstimatorColumnCodecEstimator.serialize.Goals as goal
@@ -33,5 +32,5 @@ returns-clause-ok g c =
     let s = stats_seen c.args.stats.now in
     let xs = g.I.Iterable.items c.args.vals.now in
     let w : c.compute_num_bits-num_bits.result ≡ width (steps_of s) = c.compute_num_bits-num_bits.ensures ∙ ap width c.steps.ensures in
-    serializes_as _ _ _ _ _ _ _ (serializes-then _ _ _ _ _ _ _ _ _ _ c.in_ok-serialize.ensures.ok c.serialize_steps.ensures)
+    serializes-as _ _ _ _ _ (serializes-then _ _ _ _ _ _ _ c.in_ok-serialize.ensures.ok c.serialize_steps.ensures)
     (ap (λ v. stats_bytes s ++ packed_bytes v (steps_above s xs)) w ∙ body-bytes s xs c.requires.stats)

@@ -1,9 +1,8 @@
 use Rattle.std.proofs.Common.{ap, ◌++◌}
-use Rattle.col_common.proofs.SerializingLemmas.{serializes-then}
-use Rattle.col_codecs.proofs.StatsLemmas.{serializes_as}
+use Rattle.col_common.proofs.SerializingLemmas.{serializes-as, serializes-then}
 use Rattle.col_codecs.proofs.blockwise_linear.writer.serialize_lines.Goals as goal
 
 pub returns : goal.returns
-returns g c = serializes_as _ _ _ _ _ _ _
-    (serializes-then _ _ _ _ _ _ _ _ _ _ c.in_ok-serialize_bytes.ensures c.serialize_bytes-2.ensures)
+returns g c = serializes-as _ _ _ _ _
+    (serializes-then _ _ _ _ _ _ _ c.in_ok-serialize_bytes.ensures c.serialize_bytes-2.ensures)
     (ap (λ bytes. c.args.lines.now ++ bytes) c.to_le_bytes.ensures)

@@ -1,17 +1,16 @@
 use Rattle.std.proofs.Common.{◌≡◌, ◌+◌, ◌*◌, ◌++◌, ◌∙◌, ap, sym, arith, drop, take, length, min, refl, length-append}
 use Rattle.std.proofs.lemmas.List.{length-take, length-drop}
 use Rattle.std.proofs.lemmas.Result.{err_from_is_err_and}
-use Rattle.col_common.proofs.SerializingLemmas.{serializes-then, serializes-stopped, serializes-nothing}
+use Rattle.col_common.proofs.SerializingLemmas.{serializes-as, serializes-nothing, serializes-stopped, serializes-then}
 use Rattle.col_model.specs.Codecs.{block_size, cut_blocks, steps_above, packed_block, block_line, slope_bytes}
 use Rattle.col_model.proofs.CutLaws.{block_at}
 use Rattle.col_codecs.specs.ColumnStats.{stats_seen}
-use Rattle.col_codecs.proofs.StatsLemmas.{serializes_as}
 use Rattle.col_codecs.proofs.BlockWritingLemmas.{packed_so_far, lines_so_far, packed_so_far-more, lines_so_far-more, steps_above-block, IsBlock-taken, all_blocks, left-next}
 use Rattle.col_codecs.proofs.blockwise_linear.writer.serialize_packed.Goals as goal
 
 pub loop-block_id-init : goal.loop-block_id-init
 unfolding cut_blocks
-loop-block_id-init g c = record { stands = c.walk-at.ensures.stands; left = c.walk-at.ensures.front; written = serializes-nothing _ _ tt; gathered = c.requires.empty; room = refl }
+loop-block_id-init g c = record { stands = c.walk-at.ensures.stands; left = c.walk-at.ensures.front; written = serializes-nothing _ tt; gathered = c.requires.empty; room = refl }
 
 pub serialize_block-requires : goal.serialize_block-requires
 serialize_block-requires g c =
@@ -25,7 +24,7 @@ serialize_block-requires g c =
 pub returns-in_err-serialize_block-clause-packed : goal.returns-in_err-serialize_block-clause-packed
 returns-in_err-serialize_block-clause-packed g c =
     let p = err_from_is_err_and c.from_residual-in_err-serialize_block.result c.from_residual-in_err-serialize_block.ensures.1 in
-    rw (p.1, p.2) (serializes-stopped _ _ _ _ _ _ _ (serializes-then _ _ _ _ _ _ _ _ _ _ c.loop-block_id.invariant.written c.in_err-serialize_block.ensures.packed))
+    rw (p.1, p.2) (serializes-stopped _ _ _ _ _ (serializes-then _ _ _ _ _ _ _ c.loop-block_id.invariant.written c.in_err-serialize_block.ensures.packed))
 
 pub loop-block_id-preserved : goal.loop-block_id-preserved
 loop-block_id-preserved g c =
@@ -41,8 +40,8 @@ loop-block_id-preserved g c =
       stands = c.take_block-taken.ensures.stands;
       left = c.take_block-taken.ensures.left ∙ ap (drop n) c.loop-block_id.invariant.left ∙ left-next xs k n count;
       written =
-          serializes_as _ _ _ _ _ _ _
-          (serializes-then _ _ _ _ _ _ _ _ _ _ c.loop-block_id.invariant.written c.in_ok-serialize_block.ensures.packed)
+          serializes-as _ _ _ _ _
+          (serializes-then _ _ _ _ _ _ _ c.loop-block_id.invariant.written c.in_ok-serialize_block.ensures.packed)
           (ap (λ b. packed_so_far steps k ++ packed_block b) block ∙ sym (packed_so_far-more steps k));
       gathered =
           c.in_ok-serialize_block.ensures.line
@@ -56,7 +55,7 @@ pub returns-clause-packed : goal.returns-clause-packed
 returns-clause-packed g c =
     let s = stats_seen c.args.stats.now in
     let xs = g.I.Iterable.items c.args.vals.now in
-    serializes_as _ _ _ _ _ _ _ c.loop-block_id.invariant.written
+    serializes-as _ _ _ _ _ c.loop-block_id.invariant.written
     (ap (packed_so_far (steps_above s xs)) (all_blocks s xs c.div_ceil-block_id-end.result c.loop-block_id._block_id c.requires.stats c.div_ceil-block_id-end.ensures (omega arith)))
 
 pub returns-clause-lines : goal.returns-clause-lines

@@ -12,7 +12,7 @@ invariant-loop-block_id g l =
     record {
       stands : g.I.Iterable.stands l.vals l.at;
       left : g.I.Iterable.left l.vals l.at ≡ drop (512 * l._block_id) xs;
-      written : Serializes (g.K.Sink.written l.fn.sink) (g.K.Sink.written l.sink) (g.K.Sink.faults l.fn.sink) (g.K.Sink.faults l.sink) (Ok tt) (packed_so_far steps l._block_id);
+      written : Serializes (g.K.Sink.seen l.fn.sink) (g.K.Sink.seen l.sink) (Ok tt) (packed_so_far steps l._block_id);
       gathered : l.lines ≡ lines_so_far steps l._block_id;
       room : length l.block ≡ 512;
     }

@@ -1,13 +1,13 @@
 use Rattle.std.proofs.Common.{arith, refl}
-use Rattle.col_common.proofs.SerializingLemmas.{serializes-then}
-use Rattle.col_codecs.proofs.StatsLemmas.{serializes_as, stats_bytes-pairs}
+use Rattle.col_common.proofs.SerializingLemmas.{serializes-as, serializes-then}
+use Rattle.col_codecs.proofs.StatsLemmas.{stats_bytes-pairs}
 use Rattle.col_codecs.proofs.PossibleLemmas.{stats_at-possible}
 use Rattle.col_codecs.specs.ColumnStats.{stats_seen}
 use Rattle.col_codecs.proofs.column_stats.ColumnStats.serialize.Goals as goal
 
 pub returns-clause-ok : goal.returns-clause-ok
-returns-clause-ok g c = serializes_as _ _ _ _ _ _ _
-    (serializes-then _ _ _ _ _ _ _ _ _ _ c.in_ok-serialize_two.ensures c.serialize_two-2.ensures)
+returns-clause-ok g c = serializes-as _ _ _ _ _
+    (serializes-then _ _ _ _ _ _ _ c.in_ok-serialize_two.ensures c.serialize_two-2.ensures)
     (stats_bytes-pairs c.args.self.now _ c.from.result refl c.from.ensures)
 
 pub returns-clause-again : goal.returns-clause-again

@@ -6,7 +6,7 @@ use Rattle.col_codecs.proofs.linear.offsets.serialize_blocks.Given as goal
 abbrev pub invariant-values : goal.invariant-values
 invariant-values g l =
     g.I.Iterable.stands l.vals l.at
-    × IsWritten (slope_seen l.slope) (g.I.Iterable.items l.vals) l.start (g.I.Iterable.left l.vals l.at) (g.K.Sink.written l.fn.sink) (g.K.Sink.written l.sink) (g.K.Sink.faults l.fn.sink) (g.K.Sink.faults l.sink)
+    × IsWritten (slope_seen l.slope) (g.I.Iterable.items l.vals) l.start (g.I.Iterable.left l.vals l.at) (g.K.Sink.seen l.fn.sink) (g.K.Sink.seen l.sink)
 
 abbrev pub decreases-values : goal.decreases-values
 decreases-values g l = length (g.I.Iterable.left l.vals l.at)

@@ -1,10 +1,11 @@
-//! Bytes in memory as a sink.
+//! Bytes in memory as a sink that never fails.
+ghost use Rattle.col_common.specs.Outside.{in_memory};
 
-use col_common::{HandleError, Sink};
+use crate::{HandleError, Sink};
 use std::alloc::Global;
 use std::marker::Model;
 
-/// Bytes that were written, one behind another.
+/// Bytes that were written, one behind another. Want of memory alone refuses a write.
 #[derive(Drop)]
 pub struct Buffer {
     bytes: Vec<u8>,
@@ -29,19 +30,23 @@ impl Buffer {
         }
     }
 
+    /// What was written so far.
     pub fn as_slice(&self) -> &[u8]
         ensures { result.now ≡ self.now }
     {
         &self.bytes
     }
+
+    /// The same, without the sink.
+    pub fn into_bytes(self) -> Vec<u8>
+        ensures { result.items ≡ self }
+    {
+        self.bytes
+    }
 }
 
 impl Sink for Buffer {
-    ghost use Rattle.std.specs.Prelude.{Some};
-
-    ghost written = { λ b. Some b };
-
-    ghost faults = { λ b. 0 };
+    ghost seen = { in_memory };
 
     fn write_all(&mut self, bytes: &[u8]) -> Result<(), HandleError> {
         Ok(self.bytes.extend_from_slice(bytes)?)
