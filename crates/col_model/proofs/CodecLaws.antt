@@ -111,15 +111,6 @@ deviations-within xs =
 pub linear_offsets-fit : (xs : List ℕ) → AllByRecursion (λ v. v < 2 ^ (linear_line xs).offset_width) (offsets_from (linear_line xs) xs)
 linear_offsets-fit xs = mapped_all (λ v. v < 2 ^ (linear_line xs).offset_width) (offset_from (linear_line xs)) (enumerate_from 0 xs) (all_by (λ p h. (linear-offset xs p h).1) (enumerate_from 0 xs) (deviations-within xs))
 
-<<<<<<< HEAD
--- a fact of each item at its position, for one of them
-all-enumerated : (P : ℕ × ℕ → Type 0) (xs : List ℕ) (i x : ℕ) → i < length xs → slice_index xs i ≡ x → AllByRecursion P (enumerate_from 0 xs) → P (i, x)
-all-enumerated P xs i x h e all =
-    let place : slice_index_or (enumerate_from 0 xs) i (0, 0) ≡ (i, x) = get_or-enumerate_from 0 xs i (0, 0) h ∙ ap (λ k. (k, slice_index xs i)) (omega arith) ∙ ap (λ v. (i, v)) e in
-    rw place at (All-get_or P (enumerate_from 0 xs) i (0, 0) (rw (length-enumerate_from 0 xs) h) (All-from_recursion P (enumerate_from 0 xs) all))
-
-=======
->>>>>>> 01da4925b9f4c466a6c891076a2093e43d958708
 -- ---- blocks
 
 -- a block's line without its width

@@ -33,12 +33,3 @@ cut_blocks-append zero xs ys h = refl
 cut_blocks-append (suc k) xs ys h =
     let room : 512 ≤ length xs = omega arith in
     rw (take-append-le block_size xs ys room, drop-append-le block_size xs ys room, cut_blocks-append k (drop block_size xs) ys (rw (length-drop block_size xs) (omega arith))) refl
-<<<<<<< HEAD
-
-pub cut_blocks-at : (m k : ℕ) (xs d : List ℕ) → k < m → slice_index_or (cut_blocks m xs) k d ≡ block_at k xs
-unfolding cut_blocks
-cut_blocks-at zero k xs d h = absurd (omega arith)
-cut_blocks-at (suc m) zero xs d h = refl
-cut_blocks-at (suc m) (suc k) xs d h = cut_blocks-at m k (drop block_size xs) d (omega arith) ∙ later-block k xs
-=======
->>>>>>> 01da4925b9f4c466a6c891076a2093e43d958708

@@ -1,9 +1,5 @@
 -- Lists: what all items keep, and where items stand.
-<<<<<<< HEAD
-use Rattle.std.proofs.Common.{◌≡◌, ℕ, zero, suc, nat_lt, true, false, lt-ltb, List, [], ◌∷◌, ◌++◌, map, filter_map, length, take, drop, slice_get, Some, refl, sym, ◌∙◌, ap, arith}
-=======
 use Rattle.std.proofs.Common.{◌≡◌, ℕ, zero, suc, nat_lt, false, lt-ltb, List, [], ◌∷◌, ◌++◌, map, filter_map, length, take, drop, slice_get, Some, refl, sym, ◌∙◌, ap, arith}
->>>>>>> 01da4925b9f4c466a6c891076a2093e43d958708
 use Rattle.std.specs.List.{AllByRecursion}
 use Rattle.std.proofs.lemmas.Bool.{true≢false}
 use Rattle.col_model.specs.Ascending.{differences}

@@ -52,13 +52,8 @@ first_start (r ∷ rs) = r.0
 abbrev pub last_end : List (ℕ × ℕ) → ℕ
 last_end rs = fold (λ e r. r.1) 0 rs
 
-<<<<<<< HEAD
--- The ranges at the front, and the bytes behind them: at least one, apart, of numbers below 2 ^
--- 128, with codes below 2 ^ 32.
-=======
 -- The ranges at the front, and the bytes behind them: at least one, apart, of numbers below
 -- 2 ^ 128, with codes below 2 ^ 32.
->>>>>>> 01da4925b9f4c466a6c891076a2093e43d958708
 unfoldable pub ranges_at : List ℕ → Option (List (ℕ × ℕ) × List ℕ)
 ranges_at bytes = do
   n ← vint bytes

@@ -1,16 +1,10 @@
 -- Laws about the definitions: public calls ensure them, and have nothing else to do.
-<<<<<<< HEAD
-use Rattle.std.specs.Prelude.{◌≡◌, ℕ, ◌^◌, ◌<◌, List, ◌∷◌, ◌++◌, length, Some}
-use Rattle.col_common.specs.Reading.{IsBytes}
-use Rattle.col_common.specs.VInt.{vint, vint_bytes}
-=======
 use Rattle.std.specs.Prelude.{◌≡◌, ℕ, ◌-◌, ◌^◌, ◌<◌, ◌≤◌, List, ◌∷◌, ◌++◌, length, Some}
 use Rattle.std.specs.Int.{◌∣◌}
 use Rattle.std.specs.List.{AllByRecursion}
 use Rattle.col_common.specs.Reading.{IsBytes}
 use Rattle.col_common.specs.VInt.{vint, vint_bytes}
 use Rattle.col_model.specs.Stats.{stats_of, least_of, greatest_of}
->>>>>>> 01da4925b9f4c466a6c891076a2093e43d958708
 use Rattle.col_model.specs.Ascending.{AreBelow}
 use Rattle.col_model.specs.U64List.{values64, bitpacked_bytes}
 use Rattle.col_model.specs.Codecs.{codec_bytes, chosen_codec}
@@ -62,13 +56,8 @@ abbrev pub BitpackedHasOneForm : Type 0
 BitpackedHasOneForm = (bytes xs : List ℕ) → IsBytes bytes → values64 (0 ∷ bytes) ≡ Some xs
     → 0 ∷ bytes ≡ bitpacked_bytes xs
 
-<<<<<<< HEAD
--- where the columns are those of a table of fewer than 2 ^ 32 rows, and the file's length fits 64
--- bits
-=======
 -- The file of Full u64 columns stands for their table, where these are the columns of a table of
 -- fewer than 2 ^ 32 rows, and the file's length fits 64 bits.
->>>>>>> 01da4925b9f4c466a6c891076a2093e43d958708
 abbrev pub NumberFilesAreReadBack : Type 0
 NumberFilesAreReadBack = (n : ℕ) (ps : List NamedNumbers) → n < 2 ^ 32 → AreNumberColumns n ps
     → length (number_file n ps) < 2 ^ 64 → StandsFor (number_table n ps) (number_file n ps)
