@@ -176,7 +176,8 @@ impl BitUnpacker {
         }
     }
 
-    /// Puts there which of the ids have a number from the first to the last of the range, ascending.
+    /// Puts there which of the ids have a number from the first to the last of the range,
+    /// ascending.
     #[tactic(auto, using(crate::proofs::ItemLemmas::ids_rise))]
     pub fn get_ids_for_value_range(
         &self,
