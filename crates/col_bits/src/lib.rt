@@ -1,12 +1,14 @@
-//! Numbers of a fixed width in bits, one after another: their width, their packing and their reading.
-//! A contract sees a reader as its width, and a packer as the bits that it holds.
+//! Numbers of a fixed width in bits, one after another: their width, their packing and their
+//! reading. A contract sees a reader as its width, and a packer as the bits that it holds.
 #![tactic(auto)]
 
 mod bitpacker;
 mod extremes;
+mod spare;
 
 pub use bitpacker::{BitPacker, BitUnpacker, compute_num_bits};
 pub use extremes::minmax;
+pub use spare::is_packed;
 
 #[cfg(test)]
 mod tests;
