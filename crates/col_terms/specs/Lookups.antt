@@ -21,8 +21,8 @@ pub record IsGapFor (ts : List (List ℕ)) (key : List ℕ) (i : ℕ) : Type 0 w
   pub greater_after : (j : ℕ) → i ≤ j → j < length ts
       → is_before key (slice_index_or ts j []) ≡ true
 
--- Exact is the key's place, and Next its gap: the place of the first greater term, or how many terms
--- there are.
+-- Exact is the key's place, and Next its gap: the place of the first greater term, or how many
+-- terms there are.
 abbrev pub IsHit : List (List ℕ) → List ℕ → TermOrdHit → Type 0
 IsHit ts key (Exact i) = IsAt ts key i
 IsHit ts key (Next i) = IsGapFor ts key i
