@@ -5,7 +5,7 @@ use Rattle.std.proofs.lemmas.Cmp.{nat_list_eq_equiv}
 use Rattle.std.proofs.lemmas.List.{length-append}
 use Rattle.std.proofs.lemmas.List.Sums.{sum_by-cons}
 use Rattle.std.proofs.lemmas.List.FromFn.{length-map-range_with_len}
-use Rattle.col_model.specs.Order.{all_rows, has_row, picks, stack, shuffle}
+use Rattle.col_model.specs.Order.{all_rows, has_row, picks, shuffle}
 
 -- the rows of a segment
 abbrev rows_of : ℕ × ℕ → List (ℕ × ℕ)
@@ -28,11 +28,6 @@ length-rows_from s (n ∷ counts) =
 -- a stack picks as many rows as its segments have
 pub length-all_rows : (counts : List ℕ) → length (all_rows counts) ≡ sum counts
 length-all_rows counts = length-rows_from 0 counts
-
--- a stack picks all rows
-pub picks-stack : (counts : List ℕ) → picks (stack counts) counts ≡ Some (all_rows counts)
-unfolding picks
-picks-stack counts = grind (arith, nat_list_eq_equiv.refl counts)
 
 -- a shuffle picks the rows that it names
 pub picks-shuffle : (counts : List ℕ) (addresses : List (ℕ × ℕ)) → list_all (has_row counts) addresses ≡ true → picks (shuffle counts addresses) counts ≡ Some addresses

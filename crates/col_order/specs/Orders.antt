@@ -18,12 +18,15 @@ pub record Shuffle : Type 0 where
 
 -- for each row of a segment, whether it is named
 unfoldable pub named_rows : List (ℕ × ℕ) → ℕ → ℕ → List Bool
-named_rows addresses segment n = map (λ row. list_any (λ a. (a.0 == segment) && (a.1 == row)) addresses) (range_with_len 0 n)
+named_rows addresses segment n = map
+    (λ row. list_any (λ a. (a.0 == segment) && (a.1 == row)) addresses) (range_with_len 0 n)
 
 -- The refusal of a shuffle: a row that no segment has; more than 2 ^ 32 - 1 rows.
 abbrev pub shuffle_refusal : List ℕ → List (ℕ × ℕ) → Option ColumnarError
 shuffle_refusal counts addresses =
-    if list_all (has_row counts) addresses then (if nat_le (2 ^ 32) (length addresses) then Some TooLarge else None) else Some BadOrder
+    if list_all (has_row counts) addresses
+    then (if nat_le (2 ^ 32) (length addresses) then Some TooLarge else None)
+    else Some BadOrder
 
 -- where the rows of each segment start, and behind the last where they end
 abbrev pub offsets_of : List ℕ → List ℕ
@@ -36,7 +39,8 @@ pub record IsStack (counts offsets : List ℕ) : Type 0 where
 
 -- the flags of a segment's rows are those of the rows that are named
 abbrev pub AreAlive : Shuffle → List (List Bool) → Type 0
-AreAlive s flags = (segment : ℕ) → segment < length s.counts → slice_get flags segment ≡ Some (named_rows s.addresses segment (slice_index s.counts segment))
+AreAlive s flags = (segment : ℕ) → segment < length s.counts → slice_get flags segment
+    ≡ Some (named_rows s.addresses segment (slice_index s.counts segment))
 
 -- each row that is named is there, and its flag is set
 pub record IsShuffle (s : Shuffle) (flags : List (List Bool)) : Type 0 where

@@ -7,7 +7,7 @@ ghost use Rattle.col_model.specs.Positions.{start_of};
 ghost use Rattle.col_order.specs.Orders.{offsets_of};
 
 use col_common::{ColumnarError, RowId};
-use std::alloc::Global;
+use std::alloc::{AllocError, Global};
 use std::marker::Model;
 use std::ops::Range;
 
@@ -114,10 +114,9 @@ fn total(row_counts: &[RowId]) -> Option<RowId>
 }
 
 // Where the rows of each segment start, and behind the last where they end.
-fn offsets(alloc: Global, row_counts: &[RowId]) -> Result<Vec<RowId>, ColumnarError>
+fn offsets(alloc: Global, row_counts: &[RowId]) -> Result<Vec<RowId>, AllocError>
     requires { sum row_counts.now < 2 ^ 32 }
-    ensures ok { IfOk result (λ offsets. offsets.items ≡ offsets_of row_counts.now) }
-    ensures err { IfErr result (λ e. e ≡ refusals.OutOfMemory) }
+    ensures { IfOk result (λ offsets. offsets.items ≡ offsets_of row_counts.now) }
 {
     let mut offsets = Vec::with_capacity(alloc, row_counts.len() + 1)?;
     let mut start = 0u32;

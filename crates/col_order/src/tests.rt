@@ -45,16 +45,12 @@ fn a_stack_has_segment_after_segment(rt: HostRuntime) -> Result<(), Fail> {
 }
 
 #[test]
-fn rows_that_32_bits_do_not_count_are_too_many(rt: HostRuntime) {
-    let refused = StackMergeOrder::stack_for_test(rt.alloc(), &[4_000_000_000, 4_000_000_000]);
-    assert!(rt; matches!(refused, Err(ColumnarError::TooLarge)));
-}
-
-#[test]
-fn a_row_behind_the_last_of_its_segment_is_refused(rt: HostRuntime) -> Result<(), Fail> {
-    let rows = addresses(rt.alloc(), &[(0, 2)])?;
-    let refused = ShuffleMergeOrder::new(rt.alloc(), &[2], rows);
-    assert!(rt; matches!(refused, Err(ColumnarError::BadOrder)));
+fn too_many_rows_and_missing_ones_are_refused(rt: HostRuntime) -> Result<(), Fail> {
+    let alloc = rt.alloc();
+    let many = StackMergeOrder::stack_for_test(alloc, &[4_000_000_000, 4_000_000_000]);
+    assert!(rt; matches!(many, Err(ColumnarError::TooLarge)));
+    let missing = ShuffleMergeOrder::new(alloc, &[2], addresses(alloc, &[(0, 2)])?);
+    assert!(rt; matches!(missing, Err(ColumnarError::BadOrder)));
     Ok(())
 }
 

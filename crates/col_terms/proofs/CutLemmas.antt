@@ -20,10 +20,6 @@ ascend_behind (Some last) ts = is_ascending (last ∷ ts)
 abbrev pub cut_rest : ℕ → Option (List ℕ) → List ℕ → List ℕ → Bool
 cut_rest start last ends rest = is_never_falling (start ∷ ends) && (sum (differences (start ∷ ends)) == length rest) && ascend_behind last (cut (differences (start ∷ ends)) rest)
 
-pub cut_whole-rest : (ends text : List ℕ) → cut_whole ends text ≡ cut_rest 0 None ends text
-cut_whole-rest [] text = refl
-cut_whole-rest (e ∷ es) text = ap (λ b. (b && is_never_falling (e ∷ es)) && (sum (differences (0 ∷ e ∷ es)) == length text) && is_ascending (cut (differences (0 ∷ e ∷ es)) text)) (sym (le-leb 0 e (omega arith)))
-
 and_true : (b : Bool) → (b && true) ≡ b
 and_true true = refl
 and_true false = refl
@@ -144,7 +140,3 @@ pub length-cut : (ns xs : List ℕ) → length (cut ns xs) ≡ length ns
 unfolding cut
 length-cut [] xs = refl
 length-cut (n ∷ ns) xs = ap suc (length-cut ns (drop n xs))
-
-pub length-differences : (s : ℕ) (ends : List ℕ) → length (differences (s ∷ ends)) ≡ length ends
-length-differences s [] = refl
-length-differences s (e ∷ es) = ap suc (length-differences e es)

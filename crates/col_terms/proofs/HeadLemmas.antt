@@ -5,18 +5,13 @@ use Rattle.std.specs.declared.cmp.Ordering.TheVariants.{Less, Equal, Greater}
 use Rattle.std.specs.Int.{w64, from_be_bytes}
 use Rattle.std.specs.Ordering.{nat_cmp, ordering_then}
 use Rattle.std.specs.Cmp.Lexicographic.{slice_cmp}
-use Rattle.std.proofs.lemmas.Bool.{lt-ltb, le-ltb, eq-eqb, ne_eqb, cases_order}
+use Rattle.std.proofs.lemmas.Bool.{le-ltb, eq-eqb, cases_order}
 use Rattle.std.proofs.lemmas.List.{drop_more}
 use Rattle.std.proofs.Math.Nat.{mul-le-mul_left}
 use Rattle.std.proofs.lemmas.Map.Lookups.{exact_unsigned}
 use Rattle.col_common.specs.Reading.{IsBytes}
 use Rattle.col_terms.specs.TermTable.{highest_first}
-
-pub cmp_less : (a b : ℕ) → a < b → nat_cmp a b ≡ Less
-cmp_less a b h = rw (lt-ltb a b h) refl
-
-pub cmp_greater : (a b : ℕ) → b < a → nat_cmp a b ≡ Greater
-cmp_greater a b h = rw (le-ltb a b (omega arith), ne_eqb a b (λ e. omega arith)) refl
+use Rattle.col_model.proofs.OrderingLaws.{nat_cmp-less, nat_cmp-greater}
 
 pub cmp_same : (a b : ℕ) → a ≡ b → nat_cmp a b ≡ Equal
 cmp_same a b e = rw (le-ltb a b (omega arith), eq-eqb a b e) refl
@@ -28,8 +23,8 @@ shifted c x y =
     elim (cases_order x y) [
       | inl same ↦ cmp_same (c + x) (c + y) (ap (λ n. c + n) same) ∙ sym (cmp_same x y same)
       | inr apart ↦ elim apart [
-        | inl below ↦ cmp_less (c + x) (c + y) (omega arith) ∙ sym (cmp_less x y below)
-        | inr above ↦ cmp_greater (c + x) (c + y) (omega arith) ∙ sym (cmp_greater x y above)
+        | inl below ↦ nat_cmp-less (c + x) (c + y) (omega arith) ∙ sym (nat_cmp-less x y below)
+        | inr above ↦ nat_cmp-greater (c + x) (c + y) (omega arith) ∙ sym (nat_cmp-greater x y above)
       ]
     ]
 
@@ -43,8 +38,8 @@ by_parts m a b x y h k =
       | inl same ↦
           ap (λ c. nat_cmp (c * m + x) (b * m + y)) same ∙ shifted (b * m) x y ∙ sym (ap (λ o. ordering_then o (nat_cmp x y)) (cmp_same a b same))
       | inr apart ↦ elim apart [
-        | inl below ↦ cmp_less (a * m + x) (b * m + y) (lower_part m a b x y h below) ∙ sym (ap (λ o. ordering_then o (nat_cmp x y)) (cmp_less a b below))
-        | inr above ↦ cmp_greater (a * m + x) (b * m + y) (lower_part m b a y x k above) ∙ sym (ap (λ o. ordering_then o (nat_cmp x y)) (cmp_greater a b above))
+        | inl below ↦ nat_cmp-less (a * m + x) (b * m + y) (lower_part m a b x y h below) ∙ sym (ap (λ o. ordering_then o (nat_cmp x y)) (nat_cmp-less a b below))
+        | inr above ↦ nat_cmp-greater (a * m + x) (b * m + y) (lower_part m b a y x k above) ∙ sym (ap (λ o. ordering_then o (nat_cmp x y)) (nat_cmp-greater a b above))
       ]
     ]
 

@@ -10,3 +10,4 @@ pub mod NumberingLemmas
 pub mod TermRefLemmas
 pub mod WritingLemmas
 pub mod HeadLemmas
+pub mod GivenLemmas

@@ -17,7 +17,8 @@ use Rattle.col_model.specs.Limits.{dictionary_length}
 use Rattle.col_terms.specs.Building.{is_known, id_of, known_id, ordered, id_pairs, terms_by_id, IsNumbering, counted_bytes}
 use Rattle.col_terms.specs.Streams.{OrdTerm, numbered}
 use Rattle.col_terms.proofs.OrderedLemmas.{permutation-ordered}
-use Rattle.col_terms.proofs.PlaceLemmas.{same_term, same_place, numbered-push, numbered_contains, numbered_holds, any_numbered}
+use Rattle.col_terms.proofs.PlaceLemmas.{same_place, numbered-push, numbered_contains, numbered_holds, any_numbered}
+use Rattle.col_model.proofs.OrderingLaws.{bytes_eq-true}
 
 -- ---- the terms in the order of their ids
 
@@ -72,7 +73,7 @@ lookup_contains {Z} t (p ∷ es) id e = go (bytes_eq t p.0.items) refl e (lookup
   where
     go : (b : Bool) → bytes_eq t p.0.items ≡ b → cond b (Some p.1) (lookup (λ (k : Vec ℕ Z). bytes_eq t k.items) es) ≡ Some id → (lookup (λ (k : Vec ℕ Z). bytes_eq t k.items) es ≡ Some id → Contains (id_pairs es) (id, t)) → Contains (id_pairs (p ∷ es)) (id, t)
     go true same here later =
-        let first : ◌≡◌ {A = OrdTerm} (p.1, p.0.items) (id, t) = ap (λ k. (k, p.0.items)) (same_Some p.1 id here) ∙ ap (λ s. (id, s)) (sym (same_term t p.0.items same)) in
+        let first : ◌≡◌ {A = OrdTerm} (p.1, p.0.items) (id, t) = ap (λ k. (k, p.0.items)) (same_Some p.1 id here) ∙ ap (λ s. (id, s)) (sym (bytes_eq-true t p.0.items same)) in
         (0, omega arith, first)
     go false other here later = let c = later here in (suc c.0, omega (arith, c.1), c.2)
 

@@ -2,7 +2,7 @@
 use Rattle.std.proofs.Common.{◌≡◌, ℕ, true, false, List, [], ◌∷◌, bytes_eq, refl, sym, ap, ◌∙◌}
 use Rattle.std.specs.declared.cmp.Ordering.{Ordering}
 use Rattle.std.specs.declared.cmp.Ordering.TheVariants.{Less, Equal, Greater}
-use Rattle.std.specs.Ordering.{nat_cmp, is_eq, match_ordering, ordering_reverse}
+use Rattle.std.specs.Ordering.{nat_cmp, is_eq, match_ordering}
 use Rattle.std.specs.Cmp.Lexicographic.{slice_cmp}
 use Rattle.std.specs.List.{list_any, AllByRecursion, IsDistinct}
 use Rattle.std.specs.List.Sorted.{IsPermutation, IsStrictlySortedBy}
@@ -16,6 +16,7 @@ use Rattle.std.proofs.lemmas.List.Sorted.{IsPermutation-refl, IsPermutation-sym,
 use Rattle.col_model.specs.Ascending.{is_ascending}
 use Rattle.col_model.specs.Sorted.{with_item, distinct_items}
 use Rattle.col_terms.specs.Building.{ordered}
+use Rattle.col_model.proofs.DistinctLaws.{sorted-with_item}
 
 -- the order of terms
 abbrev by_bytes : List ℕ → List ℕ → Ordering
@@ -26,35 +27,10 @@ AreInOrder ts = IsStrictlySortedBy (slice_cmp nat_cmp) ts
 
 -- ---- one more term
 
--- what holds of a term and of others holds with it in its place
-all-with_item : (P : List ℕ → Type 0) (x : List ℕ) (zs : List (List ℕ)) → P x → AllByRecursion P zs → AllByRecursion P (with_item by_bytes x zs)
-all-with_item P x [] h all = (h, tt)
-all-with_item P x (z ∷ zs) h all = go (by_bytes x z) (all-with_item P x zs h all.1)
-  where
-    go : (o : Ordering) → AllByRecursion P (with_item by_bytes x zs) → AllByRecursion P (match_ordering o (x ∷ z ∷ zs) (z ∷ zs) (z ∷ with_item by_bytes x zs))
-    go Less rest = (h, all)
-    go Equal rest = all
-    go Greater rest = (all.0, rest)
-
--- terms above a greater one are above a smaller one
-above : (x z : List ℕ) (zs : List (List ℕ)) → by_bytes x z ≡ Less → AllByRecursion (λ y. by_bytes z y ≡ Less) zs → AllByRecursion (λ y. by_bytes x y ≡ Less) zs
-above x z [] h all = tt
-above x z (y ∷ ys) h all = (nat_list_cmp_total.trans x z y h all.0, above x z ys h all.1)
-
-in_order-with_item : (x : List ℕ) (zs : List (List ℕ)) → AreInOrder zs → AreInOrder (with_item by_bytes x zs)
-unfolding IsStrictlySortedBy
-in_order-with_item x [] s = (tt, tt)
-in_order-with_item x (z ∷ zs) s = go (by_bytes x z) refl (in_order-with_item x zs s.1)
-  where
-    go : (o : Ordering) → by_bytes x z ≡ o → AreInOrder (with_item by_bytes x zs) → AreInOrder (match_ordering o (x ∷ z ∷ zs) (z ∷ zs) (z ∷ with_item by_bytes x zs))
-    go Less e rest = ((e, above x z zs e s.0), s)
-    go Equal e rest = s
-    go Greater e rest = (all-with_item (λ y. by_bytes z y ≡ Less) x zs (nat_list_cmp_total.antisymm z x ∙ ap ordering_reverse e) s.0, rest)
-
 pub in_order-ordered : (ts : List (List ℕ)) → AreInOrder (ordered ts)
 unfolding distinct_items IsStrictlySortedBy
 in_order-ordered [] = tt
-in_order-ordered (t ∷ ts) = in_order-with_item t (ordered ts) (in_order-ordered ts)
+in_order-ordered (t ∷ ts) = sorted-with_item by_bytes nat_list_cmp_total t (ordered ts) (in_order-ordered ts)
 
 -- the test of neighbours
 pub is_ascending-in_order : (ts : List (List ℕ)) → AreInOrder ts → is_ascending ts ≡ true

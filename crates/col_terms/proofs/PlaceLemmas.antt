@@ -11,11 +11,9 @@ use Rattle.std.proofs.lemmas.Map.Keys.{apart_from_distinct}
 use Rattle.std.proofs.lemmas.Slice.Eq.{bytes_eq-Decides}
 use Rattle.col_terms.specs.Building.{is_known, id_of, known_id, Allocates}
 use Rattle.col_terms.specs.Streams.{OrdTerm, numbered}
+use Rattle.col_model.proofs.OrderingLaws.{bytes_eq-true}
 
 -- ---- equal bytes
-
-pub same_term : (a b : List ℕ) → bytes_eq a b ≡ true → a ≡ b
-same_term a b e = (bytes_eq-Decides a b).0 e
 
 pub same_bytes : (a b : List ℕ) → a ≡ b → bytes_eq a b ≡ true
 same_bytes a b e = (bytes_eq-Decides a b).1 e
@@ -38,7 +36,7 @@ place_below ts t e = ltb-true (id_of ts t) (length ts) (sym (known_below ts t) �
 
 -- the term at its place
 pub term_at_place : (ts : List (List ℕ)) (t : List ℕ) → is_known ts t ≡ true → get_or ts (id_of ts t) [] ≡ t
-term_at_place ts t e = sym (same_term t (get_or ts (id_of ts t) []) (passes_at_first (bytes_eq t) ts [] (place_below ts t e)))
+term_at_place ts t e = sym (bytes_eq-true t (get_or ts (id_of ts t) []) (passes_at_first (bytes_eq t) ts [] (place_below ts t e)))
 
 -- a term that isn't there would be behind all others
 pub place_unknown : (ts : List (List ℕ)) (t : List ℕ) → known_id ts t ≡ None → id_of ts t ≡ length ts
@@ -66,7 +64,7 @@ pub place_at : (ts : List (List ℕ)) (i : ℕ) → IsDistinct bytes_eq ts → i
 place_at ts i d h =
     let t = get_or ts i [] in
     position_or_len_is (bytes_eq t) ts i [] (omega arith)
-    (λ k below. false_from_ne_true (bytes_eq t (get_or ts k [])) (λ e. true≢false (sym (same_bytes (get_or ts k []) t (sym (same_term t (get_or ts k []) e))) ∙ apart_from_distinct bytes_eq ts k i [] d below h)))
+    (λ k below. false_from_ne_true (bytes_eq t (get_or ts k [])) (λ e. true≢false (sym (same_bytes (get_or ts k []) t (sym (bytes_eq-true t (get_or ts k []) e))) ∙ apart_from_distinct bytes_eq ts k i [] d below h)))
     (λ k. same_bytes t t refl)
 
 pub same_place : (ts : List (List ℕ)) (i : ℕ) (t : List ℕ) → IsDistinct bytes_eq ts → i < length ts → get_or ts i [] ≡ t → id_of ts t ≡ i

@@ -10,8 +10,9 @@ use Rattle.std.proofs.lemmas.Option.{get_or_from_slice_get}
 use Rattle.col_model.specs.Ascending.{is_before, is_ascending}
 use Rattle.col_terms.specs.Lookups.{IsFirstFrom, has_prefix, IsPrefixEnd}
 use Rattle.col_terms.specs.Streams.{OrdTerm, numbered, with_prefix}
-use Rattle.col_terms.proofs.HeadLemmas.{cmp_less, cmp_greater, cmp_same}
+use Rattle.col_terms.proofs.HeadLemmas.{cmp_same}
 use Rattle.col_terms.proofs.SearchLemmas.{middle, pairwise}
+use Rattle.col_model.proofs.OrderingLaws.{nat_cmp-less, nat_cmp-greater}
 
 -- ---- prefixes and the order
 
@@ -44,8 +45,8 @@ between_has (x ∷ p) (y ∷ t) (z ∷ u) a b h =
           let upper : is_before t u ≡ true = sym (decided y z Equal (slice_cmp nat_cmp t u) (cmp_same y z (same ∙ same_end))) ∙ b in
           and_from (x == y) (has_prefix p t) (eq-eqb x y (sym same)) (between_has p t u lower upper parts.1)
       | inr apart ↦ elim apart [
-        | inl below ↦ absurd (true≢false (sym (decided y x Less (slice_cmp nat_cmp t p) (cmp_less y x below)) ∙ a))
-        | inr above ↦ absurd (false≢true (sym (decided y z Greater (slice_cmp nat_cmp t u) (cmp_greater y z (omega arith))) ∙ b))
+        | inl below ↦ absurd (true≢false (sym (decided y x Less (slice_cmp nat_cmp t p) (nat_cmp-less y x below)) ∙ a))
+        | inr above ↦ absurd (false≢true (sym (decided y z Greater (slice_cmp nat_cmp t u) (nat_cmp-greater y z (omega arith))) ∙ b))
       ]
     ]
 

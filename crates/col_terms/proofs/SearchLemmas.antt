@@ -5,7 +5,7 @@ use Rattle.std.specs.declared.cmp.Ordering.TheVariants.{Less, Equal, Greater}
 use Rattle.std.specs.Ordering.{nat_cmp, is_lt, is_eq, ordering_reverse}
 use Rattle.std.specs.Cmp.Lexicographic.{slice_cmp}
 use Rattle.std.specs.List.Sorted.{IsStrictlySortedBy}
-use Rattle.std.proofs.lemmas.Bool.{and_parts, false≢true, lt-ltb, le-ltb, cases_lt}
+use Rattle.std.proofs.lemmas.Bool.{and_parts, lt-ltb, le-ltb, cases_lt}
 use Rattle.std.proofs.lemmas.Cmp.{nat_list_cmp_total, tied_itself}
 use Rattle.std.proofs.lemmas.Map.Keys.{sorted_from_all_adjacent, Less-from_sorted}
 use Rattle.std.proofs.lemmas.Map.Lookups.{exact_bytes}
@@ -15,13 +15,9 @@ use Rattle.std.proofs.lemmas.Option.{get_or_from_slice_get}
 use Rattle.col_model.specs.Ascending.{is_before, is_ascending}
 use Rattle.col_terms.proofs.PlaceLemmas.{same_bytes}
 use Rattle.col_terms.specs.Lookups.{ord_of, IsAt, IsGapFor, IsFirstFrom}
+use Rattle.col_model.proofs.OrderingLaws.{less_where}
 
 -- ---- the order of byte lists
-
-less_from : (o : Ordering) → is_lt o ≡ true → o ≡ Less
-less_from Less e = refl
-less_from Equal e = absurd (false≢true e)
-less_from Greater e = absurd (false≢true e)
 
 turned : (a b : List ℕ) → slice_cmp nat_cmp a b ≡ Greater → slice_cmp nat_cmp b a ≡ Less
 turned a b e = nat_list_cmp_total.antisymm b a ∙ ap ordering_reverse e
@@ -38,7 +34,7 @@ unlike a b o h n = sym (is_eq-slice_cmp a b) ∙ ap is_eq h ∙ n
 adjacent : (ts : List (List ℕ)) (k : ℕ) → suc k < length ts → is_ascending ts ≡ true → slice_cmp nat_cmp (get_or ts k []) (get_or ts (suc k) []) ≡ Less
 adjacent [] k h e = absurd (omega arith)
 adjacent (x ∷ []) k h e = absurd (omega arith)
-adjacent (x ∷ y ∷ ts) zero h e = less_from _ (and_parts (is_before x y) _ e).0
+adjacent (x ∷ y ∷ ts) zero h e = less_where _ (and_parts (is_before x y) _ e).0
 adjacent (x ∷ y ∷ ts) (suc k) h e = adjacent (y ∷ ts) k (omega arith) (and_parts (is_before x y) _ e).1
 
 -- the test of neighbours orders all terms
@@ -127,8 +123,8 @@ module _ (ts : List (List ℕ)) (key : List ℕ) where
   ord_of-gap i gap =
       let none = position_or_len_is (λ t. bytes_eq t key) ts (length ts) [] (omega arith)
       (λ k h. elim (cases_lt k i) [
-        | inl before ↦ unlike (get_or ts k []) key Less (less_from _ (gap.smaller_before k before)) refl
-        | inr behind ↦ unlike (get_or ts k []) key Greater (nat_list_cmp_total.antisymm (get_or ts k []) key ∙ ap ordering_reverse (less_from _ (gap.greater_after k behind h))) refl
+        | inl before ↦ unlike (get_or ts k []) key Less (less_where _ (gap.smaller_before k before)) refl
+        | inr behind ↦ unlike (get_or ts k []) key Greater (nat_list_cmp_total.antisymm (get_or ts k []) key ∙ ap ordering_reverse (less_where _ (gap.greater_after k behind h))) refl
       ])
       (λ h. absurd (omega arith)) in
       rw (none, le-ltb (length ts) (length ts) (omega arith)) refl
@@ -147,5 +143,5 @@ module _ (ts : List (List ℕ)) (key : List ℕ) where
   first_from-gap i gap = record {
     in_range = gap.in_range;
     smaller_before = gap.smaller_before;
-    none_smaller = λ j h k. not_before_less key (get_or ts j []) (less_from _ (gap.greater_after j h k));
+    none_smaller = λ j h k. not_before_less key (get_or ts j []) (less_where _ (gap.greater_after j h k));
   }

@@ -18,7 +18,8 @@ use Rattle.std.specs.List.{enumerate_from}
 use Rattle.col_terms.specs.Building.{is_known, id_of, ordered, ordinals, IsNumbering, terms_by_id, TermRef, ord_term, texts, AreOrdered}
 use Rattle.col_terms.specs.Streams.{OrdTerm, numbered}
 use Rattle.col_terms.proofs.OrderedLemmas.{AreInOrder, in_order-ordered, permutation-ordered, same_in_order}
-use Rattle.col_terms.proofs.PlaceLemmas.{same_term, same_bytes, known_at, place_at, place_below, term_at_place, numbered-get}
+use Rattle.col_terms.proofs.PlaceLemmas.{same_bytes, known_at, place_at, place_below, term_at_place, numbered-get}
+use Rattle.col_model.proofs.OrderingLaws.{bytes_eq-true}
 
 -- a term of no bytes, for places past the end
 abbrev pub nothing : TermRef
@@ -28,8 +29,8 @@ flips : (a b : List ℕ) → bytes_eq a b ≡ bytes_eq b a
 flips a b = go (bytes_eq a b) refl
   where
     go : (t : Bool) → bytes_eq a b ≡ t → t ≡ bytes_eq b a
-    go true e = sym (same_bytes b a (sym (same_term a b e)))
-    go false e = sym (false_from_ne_true (bytes_eq b a) (λ h. true≢false (sym (same_bytes a b (sym (same_term b a h))) ∙ e)))
+    go true e = sym (same_bytes b a (sym (bytes_eq-true a b e)))
+    go false e = sym (false_from_ne_true (bytes_eq b a) (λ h. true≢false (sym (same_bytes a b (sym (bytes_eq-true b a h))) ∙ e)))
 
 terms_of_refs : (vs : List TermRef) → map (λ (q : OrdTerm). q.1) (map ord_term vs) ≡ texts vs
 terms_of_refs [] = refl

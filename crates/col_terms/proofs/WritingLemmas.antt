@@ -14,12 +14,11 @@ use Rattle.col_model.specs.Dictionary.{cut, terms}
 use Rattle.col_model.specs.Limits.{dictionary_length}
 use Rattle.col_model.proofs.ReadingLaws.{le_number-w32, items-flat_map}
 use Rattle.col_terms.specs.TermTable.{terms_of, ends_from, dictionary_bytes}
-use Rattle.col_terms.specs.Building.{ordered}
 use Rattle.col_terms.specs.Laws.{OrdinalsAreInOrder, DictionariesAreReadBack}
 use Rattle.col_terms.proofs.TableLemmas.{table_counted, table_ascending}
-use Rattle.col_terms.proofs.HeadLemmas.{cmp_less, cmp_greater, cmp_same}
+use Rattle.col_terms.proofs.HeadLemmas.{cmp_same}
 use Rattle.col_terms.proofs.SearchLemmas.{pairwise}
-use Rattle.col_terms.proofs.OrderedLemmas.{in_order-ordered, is_ascending-in_order}
+use Rattle.col_model.proofs.OrderingLaws.{nat_cmp-less, nat_cmp-greater}
 
 -- ---- ends and lengths
 
@@ -88,7 +87,7 @@ terms-dictionary_bytes ts up h =
     rw (le_number-w32 (length ts) (flat_map (to_le_bytes w32) (ends_from 0 ts) ++ concat ts) few, ends_read ts short) (judged ts up)
 
 pub read_back : DictionariesAreReadBack
-read_back = record { read_back = terms-dictionary_bytes; ascend = λ ts. is_ascending-in_order (ordered ts) (in_order-ordered ts) }
+read_back = terms-dictionary_bytes
 
 -- ---- ordinals
 
@@ -98,8 +97,8 @@ compared ts i j up h k =
     elim (cases_order i j) [
       | inl same ↦ ap (λ n. slice_cmp nat_cmp (get_or ts n []) (get_or ts j [])) same ∙ tied_itself nat_list_cmp_total (get_or ts j []) ∙ sym (cmp_same j j refl) ∙ ap (λ n. nat_cmp n j) (sym same)
       | inr apart ↦ elim apart [
-        | inl below ↦ pairwise ts i j up below k ∙ sym (cmp_less i j below)
-        | inr above ↦ nat_list_cmp_total.antisymm (get_or ts i []) (get_or ts j []) ∙ ap ordering_reverse (pairwise ts j i up above h) ∙ sym (cmp_greater i j above)
+        | inl below ↦ pairwise ts i j up below k ∙ sym (nat_cmp-less i j below)
+        | inr above ↦ nat_list_cmp_total.antisymm (get_or ts i []) (get_or ts j []) ∙ ap ordering_reverse (pairwise ts j i up above h) ∙ sym (nat_cmp-greater i j above)
       ]
     ]
 

@@ -33,7 +33,8 @@ abbrev pub with_term : List (List ℕ) → List ℕ → List (List ℕ)
 with_term ts t = if is_known ts t then ts else ts ++ t ∷ []
 
 -- A term came: it has the id, and each term that was there keeps its own.
-pub record Allocates (old : List (List ℕ)) (t : List ℕ) (id : ℕ) (new : List (List ℕ)) : Type 0 where
+pub record Allocates (old : List (List ℕ)) (t : List ℕ) (id : ℕ) (new : List (List ℕ))
+    : Type 0 where
   pub id_is : id ≡ id_of old t
   pub terms : new ≡ with_term old t
   pub held : slice_get new id ≡ Some t
@@ -67,7 +68,8 @@ done (Ok x) = Ok tt
 done (Err e) = Err e
 
 -- Too long bytes are refused before the first one, and others are serialized.
-abbrev pub SerializesWithin : Bool → SeenSink → SeenSink → Result (Unit {0}) ColumnarError → List ℕ → Type 0
+abbrev pub SerializesWithin : Bool → SeenSink → SeenSink → Result (Unit {0}) ColumnarError
+    → List ℕ → Type 0
 SerializesWithin true old new result bytes = (result ≡ Err TooLarge) × (new ≡ old)
 SerializesWithin false old new result bytes = Serializes old new result bytes
 

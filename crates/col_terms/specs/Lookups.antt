@@ -18,9 +18,11 @@ pub record IsAt (ts : List (List ℕ)) (key : List ℕ) (i : ℕ) : Type 0 where
 pub record IsGapFor (ts : List (List ℕ)) (key : List ℕ) (i : ℕ) : Type 0 where
   pub in_range : i ≤ length ts
   pub smaller_before : (j : ℕ) → j < i → is_before (slice_index_or ts j []) key ≡ true
-  pub greater_after : (j : ℕ) → i ≤ j → j < length ts → is_before key (slice_index_or ts j []) ≡ true
+  pub greater_after : (j : ℕ) → i ≤ j → j < length ts
+      → is_before key (slice_index_or ts j []) ≡ true
 
--- Exact is the key's place, and Next its gap: the place of the first greater term, or how many terms there are.
+-- Exact is the key's place, and Next its gap: the place of the first greater term, or how many
+-- terms there are.
 abbrev pub IsHit : List (List ℕ) → List ℕ → TermOrdHit → Type 0
 IsHit ts key (Exact i) = IsAt ts key i
 IsHit ts key (Next i) = IsGapFor ts key i
@@ -29,7 +31,8 @@ IsHit ts key (Next i) = IsGapFor ts key i
 pub record IsFirstFrom (ts : List (List ℕ)) (key : List ℕ) (i : ℕ) : Type 0 where
   pub in_range : i ≤ length ts
   pub smaller_before : (j : ℕ) → j < i → is_before (slice_index_or ts j []) key ≡ true
-  pub none_smaller : (j : ℕ) → i ≤ j → j < length ts → is_before (slice_index_or ts j []) key ≡ false
+  pub none_smaller : (j : ℕ) → i ≤ j → j < length ts
+      → is_before (slice_index_or ts j []) key ≡ false
 
 -- the term begins with the prefix
 abbrev pub has_prefix : List ℕ → List ℕ → Bool
@@ -40,4 +43,5 @@ pub record IsPrefixEnd (ts : List (List ℕ)) (prefix : List ℕ) (start i : ℕ
   pub ordered : start ≤ i
   pub in_range : i ≤ length ts
   pub have : (j : ℕ) → start ≤ j → j < i → has_prefix prefix (slice_index_or ts j []) ≡ true
-  pub have_not : (j : ℕ) → i ≤ j → j < length ts → has_prefix prefix (slice_index_or ts j []) ≡ false
+  pub have_not : (j : ℕ) → i ≤ j → j < length ts
+      → has_prefix prefix (slice_index_or ts j []) ≡ false

@@ -32,7 +32,9 @@ with_prefix prefix ts = filter (λ p. has_prefix prefix p.1) (numbered ts)
 
 -- the walk that stands before the term of an ordinal, and ends before that of another
 abbrev pub walk_between : List ℕ → ℕ → ℕ → Bool → List ℕ → TermStream
-walk_between bytes next end_ord is_on key = record { left = slice_range (numbered (terms_of bytes)) next end_ord; current = if is_on then Some (next - 1, key) else None }
+walk_between bytes next end_ord is_on key =
+    let left = slice_range (numbered (terms_of bytes)) next end_ord in
+    record { left = left; current = if is_on then Some (next - 1, key) else None }
 
 -- the bytes of a dictionary, ordinals in it, and a key where no term has been given
 pub record IsWalk (bytes : List ℕ) (n next end_ord : ℕ) (is_on : Bool) (key : List ℕ) : Type 0 where

@@ -23,7 +23,8 @@ unfoldable pub numbers_in : ℕ → List ℕ → List ℕ
 numbers_in zero bytes = []
 numbers_in (suc n) bytes = number_at bytes 0 ∷ numbers_in n (drop 4 bytes)
 
--- where the term of an ordinal starts, counted from the first term's byte: where the one before ends
+-- where the term of an ordinal starts, counted from the first term's byte: where the one before
+-- ends
 abbrev pub start_at : List ℕ → ℕ → ℕ
 start_at bytes zero = 0
 start_at bytes (suc i) = number_at bytes (4 + 4 * i)
@@ -34,7 +35,9 @@ terms_by ends text = cut (differences (0 ∷ ends)) text
 
 -- the ends cut the text into ascending terms, and nothing is left
 abbrev pub cut_whole : List ℕ → List ℕ → Bool
-cut_whole ends text = is_never_falling ends && (sum (differences (0 ∷ ends)) == length text) && is_ascending (terms_by ends text)
+cut_whole ends text =
+    is_never_falling ends && (sum (differences (0 ∷ ends)) == length text)
+    && is_ascending (terms_by ends text)
 
 -- a term may stand behind the last one, if there is one
 abbrev pub follows : Option (List ℕ) → List ℕ → Bool
@@ -54,4 +57,5 @@ ends_from start (t ∷ ts) = (start + length t) ∷ ends_from (start + length t)
 
 -- the bytes of these terms: their count, the end of each, and their bytes
 unfoldable pub dictionary_bytes : List (List ℕ) → List ℕ
-dictionary_bytes ts = to_le_bytes w32 (length ts) ++ (flat_map (to_le_bytes w32) (ends_from 0 ts) ++ concat ts)
+dictionary_bytes ts =
+    to_le_bytes w32 (length ts) ++ (flat_map (to_le_bytes w32) (ends_from 0 ts) ++ concat ts)

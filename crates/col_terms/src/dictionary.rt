@@ -78,7 +78,8 @@ impl Dictionary {
         self.bytes.len() as u64
     }
 
-    /// Puts the term of an ordinal in the place of what `term` holds, if there is one; else `term` is left empty.
+    /// Puts the term of an ordinal in the place of what `term` holds, if there is one; else `term`
+    /// is left empty.
     pub fn ord_to_term(&self, ord: u64, term: &mut Vec<u8>) -> Result<bool, ColumnarError>
         ensures found { IfOk result (λ found. found ≡ nat_lt ord (length self.now)) }
         ensures term { OnOk result (term.new.items ≡ unwrap_or (slice_get self.now ord) []) }

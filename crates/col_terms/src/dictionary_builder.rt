@@ -1,5 +1,5 @@
 //! The builder of a dictionary.
-ghost use Rattle.std.specs.Prelude.{◌≡◌, ◌↔◌, ◌-◌, ◌^◌, ◌<◌, ◌≤◌, min, Some, Err, true, false, ◌++◌, ◌∷◌, [], length, map, flat_map, sum_by, slice_get, MatchResult, IfOk, IfErr, OnOk, OnErr};
+ghost use Rattle.std.specs.Prelude.{◌≡◌, ◌↔◌, ◌-◌, ◌^◌, ◌<◌, ◌≤◌, min, Some, Err, true, false, ◌++◌, ◌∷◌, [], length, map, flat_map, sum_by, slice_get, IfOk, IfErr, OnOk, OnErr};
 ghost use Rattle.std.specs.Int.{w32, to_le_bytes};
 ghost use Rattle.std.specs.List.{concat};
 ghost use Rattle.col_model.specs.Limits.{dictionary_length};
@@ -66,7 +66,8 @@ impl Model for DictionaryBuilder {
 
     ghost view = { λ b. terms_by_id (id_pairs b.ids.entries) };
 
-    ghost invariant = { λ b. IsNumbering (id_pairs b.ids.entries) × (b.num_bytes ≡ counted_bytes (terms_by_id (id_pairs b.ids.entries))) };
+    ghost invariant = { λ b. IsNumbering (id_pairs b.ids.entries)
+        × (b.num_bytes ≡ counted_bytes (terms_by_id (id_pairs b.ids.entries))) };
 }
 
 impl DictionaryBuilder {
@@ -101,7 +102,8 @@ impl DictionaryBuilder {
     /// The id of a term, which gets the next one if it is new.
     pub fn get_or_allocate_id(&mut self, term: &[u8]) -> Result<UnorderedId, ColumnarError>
         ensures ok { IfOk result (λ id. Allocates self.old term.now id.0 self.new) }
-        ensures too_large { (result ≡ Err ColumnarError.TooLarge) ↔ (is_past_ids self.old term.now ≡ true) }
+        ensures too_large { (result ≡ Err ColumnarError.TooLarge)
+            ↔ (is_past_ids self.old term.now ≡ true) }
         ensures refused { IfErr result IsRefusal }
         ensures kept { OnErr result (self.new ≡ self.old) }
     {
@@ -153,11 +155,11 @@ impl DictionaryBuilder {
     }
 
     /// Gives each id the ordinal of its term.
-    pub fn build_term_id_mapping(&self) -> Result<TermIdMapping, ColumnarError>
-        ensures { MatchResult result (λ m. m ≡ ordinals self.now) (λ e. e ≡ ColumnarError.OutOfMemory) }
+    pub fn build_term_id_mapping(&self) -> Result<TermIdMapping, AllocError>
+        ensures { IfOk result (λ m. m ≡ ordinals self.now) }
     {
         let terms = self.ordered_terms()?;
-        Ok(self.map_ids(&terms)?)
+        self.map_ids(&terms)
     }
 
     // Whether 32 bits don't count the bytes of the dictionary.

@@ -9,7 +9,11 @@ mod table;
 
 pub use dictionary::{Dictionary, TermOrdHit};
 pub use dictionary_builder::{DictionaryBuilder, OrderedId, TermIdMapping, UnorderedId};
-pub use laws::{dictionaries_are_read_back, ordinals_have_the_order_of_their_terms};
+pub use laws::{
+    dictionaries_are_read_back, ordered_ids_compare_as_their_numbers,
+    ordinals_have_the_order_of_their_terms, terms_are_those_given,
+    unordered_ids_compare_as_their_numbers,
+};
 pub use streamer::Streamer;
 
 #[cfg(test)]

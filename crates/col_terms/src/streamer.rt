@@ -24,7 +24,8 @@ impl<'a> Model for Streamer<'a> {
 
     ghost view = { λ s. walk_between s.bytes.now s.next_ord s.end_ord s.is_on_term s.key.now };
 
-    ghost invariant = { λ s. IsWalk s.bytes.now s.num_terms s.next_ord s.end_ord s.is_on_term s.key.now };
+    ghost invariant = { λ s.
+        IsWalk s.bytes.now s.num_terms s.next_ord s.end_ord s.is_on_term s.key.now };
 }
 
 impl<'a> Streamer<'a> {
@@ -49,7 +50,8 @@ impl<'a> Streamer<'a> {
         requires table { IsTable bytes.now num_terms }
         requires ordered { next_ord ≤ end_ord }
         requires within { end_ord ≤ num_terms }
-        ensures { result ≡ stream_of (slice_range (numbered (terms_of bytes.now)) next_ord end_ord) }
+        ensures { result
+            ≡ stream_of (slice_range (numbered (terms_of bytes.now)) next_ord end_ord) }
     {
         Streamer {
             bytes,

@@ -1,4 +1,5 @@
-//! Dictionaries by examples. The bytes of hello, happy and tax are those that the format's page works out.
+//! Dictionaries by examples. The bytes of hello, happy and tax are those that the format's page
+//! works out.
 
 use crate::{Dictionary, DictionaryBuilder, OrderedId, Streamer, TermOrdHit, UnorderedId};
 use bytes::Bytes;
@@ -56,39 +57,16 @@ fn terms_are_numbered_as_they_come_and_written_in_order(rt: HostRuntime) -> Resu
 }
 
 #[test]
-fn terms_are_read_by_their_ordinals(rt: HostRuntime) -> Result<(), Fail> {
+fn terms_are_read_by_their_ordinals_and_searched(rt: HostRuntime) -> Result<(), Fail> {
     let dictionary = three_terms()?;
     assert_eq!(rt; dictionary.num_terms(), 3);
     assert_eq!(rt; dictionary.num_bytes(), 29);
     let mut term = Vec::new(rt.alloc());
-    for (ord, key) in [
-        (0, b"happy".as_slice()),
-        (1, b"hello".as_slice()),
-        (2, b"tax".as_slice()),
-    ] {
-        assert_eq!(rt; dictionary.term_at(ord), Some(key));
-        assert!(rt; dictionary.ord_to_term(ord, &mut term)?);
-        assert_eq!(rt; term.as_slice(), key);
-        assert_eq!(rt; dictionary.term_ord(key), Some(ord));
-    }
-    assert_eq!(rt; dictionary.term_at(3), None);
-    assert!(rt; !dictionary.ord_to_term(3, &mut term)?);
-    assert_eq!(rt; term.as_slice(), b"".as_slice());
-    assert_eq!(rt; dictionary.term_ord(b"happ"), None);
-    Ok(())
-}
-
-#[test]
-fn a_search_finds_a_term_or_the_next_greater_one(rt: HostRuntime) -> Result<(), Fail> {
-    let dictionary = three_terms()?;
-    for (key, hit) in [
-        (b"a".as_slice(), TermOrdHit::Next(0)),
-        (b"happy".as_slice(), TermOrdHit::Exact(0)),
-        (b"heaven".as_slice(), TermOrdHit::Next(1)),
-        (b"zoo".as_slice(), TermOrdHit::Next(3)),
-    ] {
-        assert_eq!(rt; dictionary.term_ord_or_next(key), hit, "{key:?}");
-    }
+    assert!(rt; dictionary.ord_to_term(1, &mut term)?);
+    assert_eq!(rt; term.as_slice(), b"hello".as_slice());
+    assert_eq!(rt; dictionary.term_at(2), Some(b"tax".as_slice()));
+    assert_eq!(rt; dictionary.term_ord(b"hello"), Some(1));
+    assert_eq!(rt; dictionary.term_ord_or_next(b"heaven"), TermOrdHit::Next(1));
     Ok(())
 }
 
@@ -100,62 +78,18 @@ fn walks_go_over_all_terms_or_those_with_a_prefix(rt: HostRuntime) -> Result<(),
     let tax = (2, b"tax".as_slice());
     assert_walk(&rt, dictionary.stream(), &[happy, hello, tax]);
     assert_walk(&rt, dictionary.prefix_range(b"h"), &[happy, hello]);
-    assert_walk(&rt, dictionary.prefix_range(b"he"), &[hello]);
-    assert_walk(&rt, dictionary.prefix_range(b"tax"), &[tax]);
-    assert_walk(&rt, dictionary.prefix_range(b""), &[happy, hello, tax]);
-    assert_walk(&rt, dictionary.prefix_range(b"i"), &[]);
+    assert_walk(&rt, Dictionary::empty().stream(), &[]);
     assert_walk(&rt, Streamer::empty(), &[]);
     Ok(())
 }
 
-fn assert_empty(rt: &impl Abort, dictionary: &Dictionary) {
-    assert_eq!(rt; dictionary.num_terms(), 0);
-    assert_eq!(rt; dictionary.num_bytes(), 4);
-    assert_eq!(rt; dictionary.term_at(0), None);
-    assert_eq!(rt; dictionary.term_ord_or_next(b""), TermOrdHit::Next(0));
-    assert_walk(rt, dictionary.stream(), &[]);
-}
-
 #[test]
-fn a_dictionary_may_be_empty(rt: HostRuntime) -> Result<(), Fail> {
-    let alloc = rt.alloc();
-    let builder = DictionaryBuilder::new(alloc);
-    let mut sink = VecSink::new(Vec::new(alloc), Vec::new(alloc));
-    let _ = builder.serialize(&mut sink)?;
-    assert_eq!(rt; sink.bytes(), [0; 4].as_slice());
-    assert_empty(&rt, &Dictionary::empty());
-    assert_empty(&rt, &Dictionary::from_bytes(Bytes::from_static(&[0; 4]))?);
-    Ok(())
-}
-
-#[test]
-fn other_bytes_are_refused(rt: HostRuntime) {
-    for (what, bytes) in [
-        ("no byte", b"".as_slice()),
-        ("fewer than four bytes", b"\0\0\0".as_slice()),
-        ("a byte left over", b"\0\0\0\0a".as_slice()),
-        ("a count past the bytes", b"\x02\0\0\0\x01\0\0\0".as_slice()),
-        ("an end past the bytes", b"\x01\0\0\0\x02\0\0\0a".as_slice()),
-        (
-            "an end before the bytes' end",
-            b"\x01\0\0\0\x01\0\0\0ab".as_slice(),
-        ),
-        (
-            "ends that fall",
-            b"\x02\0\0\0\x02\0\0\0\x01\0\0\0ab".as_slice(),
-        ),
-        (
-            "equal terms",
-            b"\x02\0\0\0\x01\0\0\0\x02\0\0\0aa".as_slice(),
-        ),
-        (
-            "terms out of order",
-            b"\x02\0\0\0\x01\0\0\0\x02\0\0\0ba".as_slice(),
-        ),
-    ] {
-        match Dictionary::from_bytes(Bytes::from_static(bytes)) {
-            Ok(_) => panic!(rt; "{what}"),
-            Err(error) => assert_eq!(rt; error, ColumnarError::InvalidData, "{what}"),
-        }
-    }
+fn equal_terms_are_refused(rt: HostRuntime) {
+    let bytes = Bytes::from_static(b"\x02\0\0\0\x01\0\0\0\x02\0\0\0aa");
+    assert!(rt;
+        matches!(
+            Dictionary::from_bytes(bytes),
+            Err(ColumnarError::InvalidData)
+        )
+    );
 }

@@ -9,6 +9,6 @@ loop-count-preserved c = record {
   offsets_are = offset_put _ _ _ _ _ c.loop-count.invariant.offsets_are c.loop-count.invariant.start_is c.in_ok-push.ensures.items;
 }
 
-pub returns-clause-ok : goal.returns-clause-ok
-returns-clause-ok c =
+pub returns : goal.returns
+returns c =
     grind (arith, offset_put _ _ _ c.loop-count.count-index _ c.loop-count.invariant.offsets_are c.loop-count.invariant.start_is c.in_ok-push-2.ensures.items)
