@@ -3,7 +3,9 @@
 #![tactic(auto)]
 
 mod bitpacker;
+mod const_width;
 mod extremes;
+mod words;
 
 pub use bitpacker::{BitPacker, BitUnpacker, compute_num_bits};
 pub use extremes::minmax;
