@@ -168,7 +168,7 @@ ids_capped : (bytes : List ℕ) (w low high top a n : ℕ) → w ≤ 32 → top 
 unfolding ids_between
 ids_capped bytes w low high top a n narrow' e =
     filter_agree (λ id. is_in_range low top (item bytes w id)) (λ id. is_in_range low high (item bytes w id))
-        (λ id. capped_test low high top (item bytes w id) (item_fits bytes w id narrow') e) (range_with_len a n)
+    (λ id. capped_test low high top (item bytes w id) (item_fits bytes w id narrow') e) (range_with_len a n)
 
 -- blocks, and the ids behind them
 pub blocks_and_rest : (bytes : List ℕ) (v w low high top a n m b k : ℕ) (front mid out : List ℕ) → v ≡ w → w ≤ 32 → top ≡ min high 4294967295 → a + n ≡ b → n + m ≡ k → mid ≡ front ++ ids_between bytes v low top a n → out ≡ mid ++ ids_between bytes w low high b m → out ≡ front ++ ids_between bytes w low high a k

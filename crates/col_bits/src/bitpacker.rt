@@ -1,6 +1,6 @@
 //! Packs and reads numbers of one width in bits, the lowest bits first.
-
-ghost use Rattle.std.specs.Prelude.{◌≡◌, ℕ, ◌+◌, ◌-◌, ◌*◌, ◌/◌, ◌%◌, ◌^◌, ◌<◌, ◌≤◌, List, length, slice_index};
+ghost use Rattle.std.specs.Prelude.{◌≡◌, ℕ, ◌+◌, ◌-◌, ◌*◌, ◌/◌, ◌%◌, ◌^◌, ◌<◌, ◌≤◌};
+ghost use Rattle.std.specs.Prelude.{List, length, slice_index};
 ghost use Rattle.std.specs.Prelude.{◌↔◌, ◌++◌, [], IsTrue, OnOk, OnErr, take};
 ghost use Rattle.std.specs.Int.{div_ceil, is_in_range};
 ghost use Rattle.std.specs.List.Sorted.{IsStrictlyIncreasing};
@@ -9,26 +9,21 @@ ghost use Rattle.col_bits.specs.Packed.{number_of, width, is_width, item, items,
 ghost use Rattle.col_bits.specs.Places.{IsForBlocks};
 ghost use Rattle.col_bits.specs.Packing.{Held, nothing_held, bits_of, count_of, AddsBytes};
 
-use crate::const_width::{read_groups_by_width, write_ids_by_width};
+use crate::const_width::{BLOCK_LEN, GROUP_LEN, read_groups_by_width, write_ids_by_width};
 use crate::words::word_at;
+use col_common::{BYTE_BITS, U64_NUM_BYTES};
 use std::alloc::AllocError;
 use std::marker::Model;
 use std::ops::{Range, RangeInclusive};
 
-/// The widest numbers that are always read by one load of eight bytes.
+// The widest numbers that are always read by one load of eight bytes.
 const MAX_SMALL_WIDTH: u32 = 56;
 
-/// The bits of a word.
+// The bits of a word.
 const WORD_BITS: u32 = 64;
 
-/// The bits of a byte.
-const BYTE_BITS: u32 = 8;
-
-/// The bytes of a word.
-pub(crate) const WORD_BYTES: usize = 8;
-
-/// How many ids are tested before the room that is left over is given back.
-const BLOCK_LEN: u32 = 1024;
+// How many ids are tested before the room that is left over is given back.
+const ID_BLOCK_LEN: u32 = 1024;
 
 /// The width of numbers up to `n`: its binary digits where these are at most 56, else 64.
 pub fn compute_num_bits(n: u64) -> u8
@@ -54,7 +49,8 @@ impl Model for BitPacker {
 
     ghost view = { λ s. record { number = s.mini_buffer; count = s.mini_buffer_written } };
 
-    ghost invariant = { λ s. (s.mini_buffer_written < 64) × (s.mini_buffer < 2 ^ s.mini_buffer_written) };
+    ghost invariant = { λ s. (s.mini_buffer_written < 64)
+        × (s.mini_buffer < 2 ^ s.mini_buffer_written) };
 }
 
 impl BitPacker {
@@ -81,7 +77,8 @@ impl BitPacker {
         ensures bytes { OnOk result (AddsBytes output.old.items output.new.items) }
 
         // Where memory is wanting, nothing changes.
-        ensures kept { OnErr result ((self.new ≡ self.old) × (output.new.items ≡ output.old.items)) }
+        ensures kept { OnErr result ((self.new ≡ self.old)
+            × (output.new.items ≡ output.old.items)) }
     {
         let filled = self.mini_buffer_written;
         let word = self.mini_buffer | (val << filled);
@@ -100,14 +97,16 @@ impl BitPacker {
     /// Appends the bytes of the bits that are held, where spare bits are 0.
     pub fn close(&mut self, output: &mut Vec<u8>) -> Result<(), AllocError>
         // The bytes are the bits that were there, in as few bytes as take them.
-        ensures bits { OnOk result (number_of 256 output.new.items ≡ bits_of self.old output.old.items) }
+        ensures bits { OnOk result (number_of 256 output.new.items ≡
+            bits_of self.old output.old.items) }
         ensures count { OnOk result (length output.new.items ≡
             div_ceil (count_of self.old output.old.items) 8) }
         ensures bytes { OnOk result (AddsBytes output.old.items output.new.items) }
         ensures held { OnOk result (self.new ≡ nothing_held) }
 
         // Where memory is wanting, nothing changes.
-        ensures kept { OnErr result ((self.new ≡ self.old) × (output.new.items ≡ output.old.items)) }
+        ensures kept { OnErr result ((self.new ≡ self.old)
+            × (output.new.items ≡ output.old.items)) }
     {
         let bytes = self.mini_buffer.to_le_bytes();
         let len = self.mini_buffer_written.div_ceil(BYTE_BITS) as usize;
@@ -162,8 +161,8 @@ impl BitUnpacker {
     pub fn get(&self, idx: u32, data: &[u8]) -> u64
         ensures value { result ≡ item «data».now self.now idx }
         // Item `idx` of the packed list, where the bytes are one of n items.
-        ensures packed { (n : ℕ) (items : List ℕ) → idx < n → packed «data».now self.now n ≡ Some items →
-            slice_index items idx ≡ result }
+        ensures packed { (n : ℕ) (items : List ℕ) → idx < n →
+            packed «data».now self.now n ≡ Some items → slice_index items idx ≡ result }
     {
         self.item_at::<false>(idx, data)
     }
@@ -183,7 +182,8 @@ impl BitUnpacker {
         }
     }
 
-    /// Puts there which of the ids have a number from the first to the last of the range, ascending.
+    /// Puts there which of the ids have a number from the first to the last of the range,
+    /// ascending.
     #[tactic(auto, using(crate::proofs::ItemLemmas::ids_rise))]
     pub fn get_ids_for_value_range(
         &self,
@@ -193,7 +193,8 @@ impl BitUnpacker {
         positions: &mut Vec<u32>,
     ) -> Result<(), AllocError>
         ensures ok { OnOk result (positions.new.items ≡ ids_between «data».now self.now
-            (range_inclusive_start value_range) (range_inclusive_end value_range) ids.start (ids.end - ids.start)) }
+            (range_inclusive_start value_range) (range_inclusive_end value_range)
+            ids.start (ids.end - ids.start)) }
         ensures rises { OnOk result (IsStrictlyIncreasing positions.new.items) }
         // Where memory is wanting, none are there.
         ensures none { OnErr result (positions.new.items ≡ []) }
@@ -202,7 +203,7 @@ impl BitUnpacker {
         positions.clear();
         let mut from = ids.start;
         while from < ids.end {
-            let to = from + (ids.end - from).min(BLOCK_LEN - from % BLOCK_LEN);
+            let to = from + (ids.end - from).min(ID_BLOCK_LEN - from % ID_BLOCK_LEN);
             if let Err(wanting) = self.push_ids(low, high, from..to, data, positions) {
                 positions.clear();
                 return Err(wanting);
@@ -212,7 +213,7 @@ impl BitUnpacker {
         Ok(())
     }
 
-    /// Appends which of the ids have a number between the ends.
+    // Appends which of the ids have a number between the ends.
     fn push_ids(
         &self,
         low: u64,
@@ -233,7 +234,7 @@ impl BitUnpacker {
         Ok(())
     }
 
-    /// Writes them from place `at` on, and says where they end.
+    // Writes them from place `at` on, and says where they end.
     fn write_ids(
         &self,
         low: u64,
@@ -258,7 +259,7 @@ impl BitUnpacker {
         self.write_ids_by::<true>(low, high, ids, data, output, at)
     }
 
-    /// The same, by blocks as far as they go.
+    // The same, by blocks as far as they go.
     fn write_ids_in_blocks(
         &self,
         low: u64,
@@ -288,11 +289,11 @@ impl BitUnpacker {
             output,
             at,
         );
-        let tested = ids.start + count / 64 * 64;
+        let tested = ids.start + count / BLOCK_LEN * BLOCK_LEN;
         self.write_ids_by::<true>(low, high, tested..ids.end, data, output, kept)
     }
 
-    /// The same, with no branch on what a number is.
+    // The same, with no branch on what a number is.
     fn write_ids_by<const PADDED: bool>(
         &self,
         low: u64,
@@ -319,7 +320,7 @@ impl BitUnpacker {
         kept
     }
 
-    /// Writes the numbers from an index on, where those up to place `from` are there, up to place `to`.
+    // Writes the numbers from an index on, where those up to place `from` are there, up to place `to`.
     fn read<const PADDED: bool>(
         &self,
         start: u32,
@@ -341,41 +342,42 @@ impl BitUnpacker {
         }
     }
 
-    /// Writes the numbers from an index on, by groups as far as they go.
+    // Writes the numbers from an index on, by groups as far as they go.
     fn read_in_groups(&self, start: u32, data: &[u8], output: &mut [u64])
         requires narrow { self.now ≤ 56 }
         requires indexes { start + length output.old ≤ 2 ^ 32 }
         requires padded { (start + length output.old) * self.now / 8 + 8 ≤ length «data».now }
-        ensures { take (length output.old) output.new ≡ items «data».now self.now start (length output.old) }
+        ensures { take (length output.old) output.new ≡
+            items «data».now self.now start (length output.old) }
     {
         let len = output.len();
-        let head = (8 - start as usize % 8) % 8;
+        let head = (GROUP_LEN - start as usize % GROUP_LEN) % GROUP_LEN;
         if len < head {
             return self.read::<true>(start, data, output, 0, len);
         }
         self.read::<true>(start, data, output, 0, head);
-        let group = (start as usize + head) / 8;
-        let groups = (len - head) / 8;
+        let group = (start as usize + head) / GROUP_LEN;
+        let groups = (len - head) / GROUP_LEN;
         read_groups_by_width(self.num_bits, group, data, output, head, groups);
-        self.read::<true>(start, data, output, head + 8 * groups, len);
+        self.read::<true>(start, data, output, head + GROUP_LEN * groups, len);
     }
 
-    /// Whether ids from `start` on are compared in blocks: where numbers and the lower end have 32 bits.
+    // Whether ids from `start` on are compared in blocks: where numbers and the lower end have 32 bits.
     fn is_for_blocks(&self, low: u64, high: u64, start: u32) -> bool
         ensures { IsTrue result → IsForBlocks self.now low high start }
     {
         self.num_bits <= 32 && start % 8 == 0 && low <= high && low <= u32::MAX.into()
     }
 
-    /// Whether the eight bytes of a load are there for each number below an index.
+    // Whether the eight bytes of a load are there for each number below an index.
     fn is_padded(&self, end: u64, data: &[u8]) -> bool
         requires { end ≤ 2 ^ 32 }
         ensures { IsTrue result ↔ end * self.now / 8 + 8 ≤ length «data».now }
     {
-        end as usize * self.num_bits as usize / 8 + WORD_BYTES <= data.len()
+        end as usize * self.num_bits as usize / 8 + U64_NUM_BYTES <= data.len()
     }
 
-    /// The number at an index. PADDED says that the eight bytes of its load are there.
+    // The number at an index. PADDED says that the eight bytes of its load are there.
     #[inline(always)]
     fn item_at<const PADDED: bool>(&self, idx: u32, data: &[u8]) -> u64
         requires { IsTrue PADDED → idx * self.now / 8 + 8 ≤ length «data».now }
@@ -386,7 +388,7 @@ impl BitUnpacker {
     }
 }
 
-/// Whether a value is one from `low` to `high`.
+// Whether a value is one from `low` to `high`.
 #[inline(always)]
 fn is_within(value: u64, low: u64, high: u64) -> bool
     ensures { result ≡ is_in_range low high value }
@@ -394,7 +396,7 @@ fn is_within(value: u64, low: u64, high: u64) -> bool
     low <= value && value <= high
 }
 
-/// The bits from place `from` on.
+// The bits from place `from` on.
 #[inline(always)]
 fn above(value: u64, from: u32) -> u64
     requires { from ≤ 64 }

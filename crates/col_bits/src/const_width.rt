@@ -9,16 +9,19 @@ ghost use Rattle.col_bits.specs.Places.{set_places};
 use crate::words::word;
 use std::simd::prelude::*;
 
-/// How many numbers take whole bytes, whatever their width.
-const GROUP_LEN: usize = 8;
+// How many numbers take whole bytes, whatever their width.
+pub(crate) const GROUP_LEN: usize = 8;
 
-/// How many groups are compared at once.
+// How many groups are compared at once.
 const GROUPS: usize = 8;
 
-/// How many numbers are compared at once.
+// How many numbers are compared at once.
 const LANES: usize = 64;
 
-/// Number `k` of a group.
+// The same, as a count of ids.
+pub(crate) const BLOCK_LEN: u32 = 64;
+
+// Number `k` of a group.
 #[inline(always)]
 fn in_group<const W: usize>(data: &[u8], group: usize, k: usize) -> u64
     requires width { W ≤ 56 }
@@ -31,7 +34,7 @@ fn in_group<const W: usize>(data: &[u8], group: usize, k: usize) -> u64
     (word(data, group * W + bit / 8) >> (bit % 8)) & ((1u64 << W) - 1)
 }
 
-/// Decodes the numbers of as many groups as are compared at once.
+// Decodes the numbers of as many groups as are compared at once.
 #[inline(always)]
 fn decode<const W: usize>(group: usize, data: &[u8], block: &mut [u32; LANES])
     requires width { W ≤ 32 }
@@ -46,7 +49,7 @@ fn decode<const W: usize>(group: usize, data: &[u8], block: &mut [u32; LANES])
     }
 }
 
-/// How far each lane lies above `low`, modulo 2^32.
+// How far each lane lies above `low`, modulo 2^32.
 #[inline(always)]
 fn above(lanes: u32x64, low: u32) -> u32x64
     ensures { result ≡ map (λ v. (v + (2 ^ 32 - low)) % 2 ^ 32) lanes }
@@ -54,7 +57,7 @@ fn above(lanes: u32x64, low: u32) -> u32x64
     lanes - u32x64::splat(low)
 }
 
-/// The numbers as lanes.
+// The numbers as lanes.
 #[inline(always)]
 fn lanes_of(block: &[u32; LANES]) -> u32x64
     ensures { result ≡ block.now }
@@ -62,7 +65,7 @@ fn lanes_of(block: &[u32; LANES]) -> u32x64
     u32x64::from_slice(block)
 }
 
-/// Which lanes are at most `span`: a bit for each, the first the lowest.
+// Which lanes are at most `span`: a bit for each, the first the lowest.
 #[inline(always)]
 fn at_most(lanes: u32x64, span: u32) -> u64
     ensures { result ≡ mask_l (map (λ v. nat_le v span) lanes) }
@@ -70,7 +73,7 @@ fn at_most(lanes: u32x64, span: u32) -> u64
     lanes.simd_le(u32x64::splat(span)).to_bitmask()
 }
 
-/// Which numbers lie from `low` on and at most `span` above it: a bit for each, the first the lowest.
+// Which numbers lie from `low` on and at most `span` above it: a bit for each, the first the lowest.
 #[inline(always)]
 fn hits_of(block: &[u32; LANES], low: u32, span: u32) -> u64
     requires { low + span < 2 ^ 32 }
@@ -79,7 +82,7 @@ fn hits_of(block: &[u32; LANES], low: u32, span: u32) -> u64
     at_most(above(lanes_of(block), low), span)
 }
 
-/// Writes the places of the bits that are set, counted from `base`, from place `at` on, and says where they end.
+// Writes the places of the bits that are set, counted from `base`, from place `at` on, and says where they end.
 #[inline(always)]
 fn write_set_places(bits: u64, base: u32, output: &mut [u32], at: usize) -> usize
     requires fits { base + 64 ≤ 2 ^ 32 }
@@ -97,8 +100,8 @@ fn write_set_places(bits: u64, base: u32, output: &mut [u32], at: usize) -> usiz
     end
 }
 
-/// Writes which of as many ids as 64 go into, from `start` on, have a number from `low` to `low + span`,
-/// from place `at` on, and says where they end.
+// Writes which of as many ids as 64 go into, from `start` on, have a number from `low` to `low + span`,
+// from place `at` on, and says where they end.
 pub(crate) fn write_ids_of<const W: usize>(
     low: u32,
     span: u32,
@@ -120,15 +123,15 @@ pub(crate) fn write_ids_of<const W: usize>(
 {
     let mut block = [0; LANES];
     let mut kept = at;
-    for word in 0..count / LANES as u32 {
-        let base = start + word * LANES as u32;
+    for word in 0..count / BLOCK_LEN {
+        let base = start + word * BLOCK_LEN;
         decode::<W>(base as usize / GROUP_LEN, data, &mut block);
         kept = write_set_places(hits_of(&block, low, span), base, output, kept);
     }
     kept
 }
 
-/// The same for a width that is known when it runs.
+// The same for a width that is known when it runs.
 pub(crate) fn write_ids_by_width(
     num_bits: u32,
     low: u32,
@@ -186,7 +189,7 @@ pub(crate) fn write_ids_by_width(
     }
 }
 
-/// Writes the numbers of groups, from `group` on, from place `at` on.
+// Writes the numbers of groups, from `group` on, from place `at` on.
 fn read_groups<const W: usize>(
     group: usize,
     data: &[u8],
@@ -208,7 +211,7 @@ fn read_groups<const W: usize>(
     }
 }
 
-/// The same for a width that is known when it runs.
+// The same for a width that is known when it runs.
 pub(crate) fn read_groups_by_width(
     num_bits: u32,
     group: usize,

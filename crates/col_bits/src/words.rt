@@ -3,9 +3,9 @@
 ghost use Rattle.std.specs.Prelude.{◌≡◌, ◌+◌, ◌*◌, ◌/◌, ◌%◌, ◌^◌, ◌≤◌, length, slice_index, IsTrue};
 ghost use Rattle.col_bits.specs.Packed.{number_of};
 
-use crate::bitpacker::WORD_BYTES;
+use col_common::U64_NUM_BYTES;
 
-/// The 64 bits from byte `at` on.
+// The 64 bits from byte `at` on.
 #[inline(always)]
 pub(crate) fn word(bytes: &[u8], at: usize) -> u64
     requires { at + 8 ≤ length bytes.now }
@@ -23,7 +23,7 @@ pub(crate) fn word(bytes: &[u8], at: usize) -> u64
     ])
 }
 
-/// A byte, and past the end 0.
+// A byte, and past the end 0.
 fn byte_or_zero(bytes: &[u8], at: usize) -> u8
     ensures { result ≡ slice_index bytes.now at }
 {
@@ -33,7 +33,7 @@ fn byte_or_zero(bytes: &[u8], at: usize) -> u8
     }
 }
 
-/// The 64 bits from byte `at` on, where those past the end are 0.
+// The 64 bits from byte `at` on, where those past the end are 0.
 #[cold]
 #[inline(never)]
 fn last_word(bytes: &[u8], at: usize) -> u64
@@ -52,14 +52,14 @@ fn last_word(bytes: &[u8], at: usize) -> u64
     ])
 }
 
-/// The 64 bits from byte `at` on, where those past the end are 0. PADDED says that none is past it.
+// The 64 bits from byte `at` on, where those past the end are 0. PADDED says that none is past it.
 #[inline(always)]
 pub(crate) fn word_at<const PADDED: bool>(bytes: &[u8], at: usize) -> u64
     requires fits { at + 8 ≤ usize.MAX }
     requires padded { IsTrue PADDED → at + 8 ≤ length bytes.now }
     ensures { result ≡ number_of 256 bytes.now / 2 ^ (8 * at) % 2 ^ 64 }
 {
-    if PADDED || at + WORD_BYTES <= bytes.len() {
+    if PADDED || at + U64_NUM_BYTES <= bytes.len() {
         word(bytes, at)
     } else {
         last_word(bytes, at)

@@ -22,7 +22,8 @@ pub record CountsFlags (words : List ℕ) (n count : ℕ) : Type 0 where
 
 -- the numbers from a place on whose flag is set, ascending
 unfoldable pub members_from : List Bool → ℕ → List ℕ
-members_from flags from = filter (λ k. slice_index_or flags k false) (range_with_len from (length flags - from))
+members_from flags from =
+    filter (λ k. slice_index_or flags k false) (range_with_len from (length flags - from))
 
 -- the numbers whose flag is set, ascending
 abbrev pub members : List Bool → List ℕ
@@ -31,4 +32,5 @@ members flags = members_from flags 0
 -- the first number from a place on whose flag is set, and none where there is none
 abbrev pub IsFirstMember : List Bool → ℕ → Option ℕ → Type 0
 IsFirstMember flags from result =
-    MatchOption result (members_from flags from ≡ []) (λ el. (el < length flags) × (members_from flags from ≡ el ∷ members_from flags (el + 1)))
+    MatchOption result (members_from flags from ≡ [])
+    (λ el. (el < length flags) × (members_from flags from ≡ el ∷ members_from flags (el + 1)))

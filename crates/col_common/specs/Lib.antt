@@ -10,3 +10,4 @@ pub mod Memory
 pub mod Walks
 pub mod Octets
 pub mod Flags
+pub mod Laws

@@ -2,8 +2,8 @@
 use Rattle.std.specs.Prelude.{ℕ, zero, suc, ◌+◌, ◌-◌, ◌*◌, ◌/◌, ◌%◌, ◌^◌, ◌<◌, slice_index, nat_lt, nat_le, List, [], ◌∷◌, if◌then◌else◌, Option, Some, None}
 use Rattle.col_common.specs.Reading.{◌>>=◌, only_if}
 
--- The number at the front, and the bytes behind it. Each byte has seven bits, the lowest group first; the last byte alone has its top bit set.
--- The groups behind the first one stand for a number that isn't 0, so each number has one form.
+-- The number at the front, and the bytes behind it. Each byte has seven bits, the lowest group
+-- first; the last byte alone has its top bit set. The groups behind the first one stand for a number that isn't 0, so each number has one form.
 unfoldable pub groups : List ℕ → Option (ℕ × List ℕ)
 groups [] = None
 groups (b ∷ bytes) =
@@ -27,7 +27,9 @@ vint_u128 bytes = do
 -- the bytes of a number that takes at most k groups
 unfoldable pub group_bytes : ℕ → ℕ → List ℕ
 group_bytes zero n = []
-group_bytes (suc k) n = let longer = n % 128 ∷ group_bytes k (n / 128) in if nat_lt n 128 then (n + 128) ∷ [] else longer
+group_bytes (suc k) n =
+    let longer = n % 128 ∷ group_bytes k (n / 128) in
+    if nat_lt n 128 then (n + 128) ∷ [] else longer
 
 -- the bytes of a number below 2 ^ 128
 abbrev pub vint_bytes : ℕ → List ℕ

@@ -3,7 +3,8 @@ use Rattle.std.specs.Prelude.{◌≡◌, ℕ, zero, suc, ℤ, pos, negsuc, ◌+�
 
 -- The next of the items left, and what is left behind it; nothing where none is left.
 abbrev pub IsNext : {T : Type 0} → List T → Option T → List T → Type 0
-IsNext before result after = MatchOption result ((before ≡ []) × (after ≡ [])) (λ x. before ≡ x ∷ after)
+IsNext before result after =
+    MatchOption result ((before ≡ []) × (after ≡ [])) (λ x. before ≡ x ∷ after)
 
 -- how far a number is above 0
 abbrev pub above_zero : ℤ → ℕ

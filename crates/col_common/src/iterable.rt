@@ -106,7 +106,8 @@ impl Iterable<i64> for Range<i64> {
 
     ghost stands = { λ r w. w.place ≤ int_range_len r.start r.end };
 
-    ghost left = { λ r w. int_range (r.start +ℤ pos w.place) (int_range_len r.start r.end - w.place) };
+    ghost left = { λ r w.
+        int_range (r.start +ℤ pos w.place) (int_range_len r.start r.end - w.place) };
 
     fn walk(&self) -> Walk {
         Walk::default()

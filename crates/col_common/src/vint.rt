@@ -25,7 +25,8 @@ impl VInt {
     pub fn serialize<K: Sink>(&self, sink: &mut K) -> Result<(), ColumnarError>
         ensures ok { Serializes (K.seen sink.old) (K.seen sink.new) result (vint_bytes self.now.0) }
         // What was added reads back, whatever follows.
-        ensures again { (rest : List ℕ) → vint (vint_bytes self.now.0 ++ rest) ≡ Some (self.now.0, rest) }
+        ensures again { (rest : List ℕ) →
+            vint (vint_bytes self.now.0 ++ rest) ≡ Some (self.now.0, rest) }
     {
         let mut buffer = [0; MAX_GROUPS];
         let len = spell(u128::from(self.0), &mut buffer);
@@ -61,10 +62,10 @@ pub struct VIntU128(pub u128);
 impl VIntU128 {
     /// Adds the number's bytes.
     pub fn serialize<K: Sink>(&self, sink: &mut K) -> Result<(), ColumnarError>
-        ensures ok { Serializes (K.written sink.old) (K.written sink.new) (K.faults sink.old) (K.faults sink.new)
-            result (vint_bytes self.now.0) }
+        ensures ok { Serializes (K.seen sink.old) (K.seen sink.new) result (vint_bytes self.now.0) }
         // What was added reads back, whatever follows.
-        ensures again { (rest : List ℕ) → vint_u128 (vint_bytes self.now.0 ++ rest) ≡ Some (self.now.0, rest) }
+        ensures again { (rest : List ℕ) →
+            vint_u128 (vint_bytes self.now.0 ++ rest) ≡ Some (self.now.0, rest) }
     {
         let mut buffer = [0; MAX_GROUPS];
         let len = spell(self.0, &mut buffer);
@@ -73,7 +74,8 @@ impl VIntU128 {
 
     /// Takes the number at the front.
     pub fn deserialize(data: &mut &[u8]) -> Result<VIntU128, InvalidData>
-        ensures { TakesFront (λ v. v.0) result (vint_u128 «data».old.now) «data».old.now «data».new.now }
+        ensures { TakesFront (λ v. v.0) result (vint_u128 «data».old.now)
+            «data».old.now «data».new.now }
     {
         let Some((value, rest)) = read_vint_u128(data) else {
             return Err(InvalidData);

@@ -28,7 +28,7 @@ loop-word-preserved g c =
     let base : ℕ = a.start + l.word * 64 in
     let eighth : 8 * (base / 8) ≡ base = omega (arith, c.requires.aligned) in
     let found : set_places 64 base c.hits_of.result ≡ ids_between a.«data».now g.row.W a.low (a.low + a.span) base 64 =
-        places_of_block a.«data».now _ g.row.W a.low (a.low + a.span) base c.hits_of.result (c.decode.ensures ∙ ap (λ n. items a.«data».now g.row.W n 64) eighth) c.hits_of.ensures in
+    places_of_block a.«data».now _ g.row.W a.low (a.low + a.span) base c.hits_of.result (c.decode.ensures ∙ ap (λ n. items a.«data».now g.row.W n 64) eighth) c.hits_of.ensures in
     record {
       below = omega (arith, places-room 64 base c.hits_of.result, c.write_set_places-kept.ensures.within);
       front = c.write_set_places-kept.ensures.front
