@@ -20,7 +20,7 @@ items_more bytes w a i x out within value so_far =
     ∙ sym (map-range_with_len_more (item bytes w) a i (a + i) refl)))
 
 -- a range in two parts
-range_parts : (a n m : ℕ) → range_with_len a (n + m) ≡ range_with_len a n ++ range_with_len (a + n) m
+pub range_parts : (a n m : ℕ) → range_with_len a (n + m) ≡ range_with_len a n ++ range_with_len (a + n) m
 range_parts a zero m = ap (range_with_len a) (zero-add m) ∙ ap (λ k. range_with_len k m) (sym (add-zero a))
 range_parts a (suc n) m =
     let later : range_with_len (a + 1) (n + m) ≡ range_with_len (a + 1) n ++ range_with_len (a + 1 + n) m = range_parts (a + 1) n m in

@@ -7,3 +7,4 @@ pub mod PackingLemmas
 pub mod ExtremeLemmas
 pub mod ItemLemmas
 pub mod SpareLemmas
+pub mod GroupLemmas

@@ -6,8 +6,11 @@ ghost use Rattle.std.specs.Int.{div_ceil, is_in_range};
 ghost use Rattle.std.specs.List.Sorted.{IsStrictlyIncreasing};
 ghost use Rattle.std.specs.Range.{range_inclusive_start, range_inclusive_end};
 ghost use Rattle.col_bits.specs.Packed.{number_of, width, is_width, item, items, ids_between, packed};
+ghost use Rattle.col_bits.specs.Places.{IsForBlocks};
 ghost use Rattle.col_bits.specs.Packing.{Held, nothing_held, bits_of, count_of, AddsBytes};
 
+use crate::const_width::{BLOCK_LEN, GROUP_LEN, read_groups_by_width, write_ids_by_width};
+use crate::words::word_at;
 use col_common::{BYTE_BITS, U64_NUM_BYTES};
 use std::alloc::AllocError;
 use std::marker::Model;
@@ -169,10 +172,13 @@ impl BitUnpacker {
         requires { start + length output.old ≤ 2 ^ 32 }
         ensures { output.new ≡ items «data».now self.now start (length output.old) }
     {
-        if self.is_padded(start as u64 + output.len() as u64, data) {
-            self.read::<true>(start, data, output)
+        let len = output.len();
+        if !self.is_padded(start as u64 + len as u64, data) {
+            self.read::<false>(start, data, output, 0, len);
+        } else if self.num_bits > MAX_SMALL_WIDTH {
+            self.read::<true>(start, data, output, 0, len);
         } else {
-            self.read::<false>(start, data, output)
+            self.read_in_groups(start, data, output);
         }
     }
 
@@ -197,7 +203,7 @@ impl BitUnpacker {
         positions.clear();
         let mut from = ids.start;
         while from < ids.end {
-            let to = from + (ids.end - from).min(ID_BLOCK_LEN);
+            let to = from + (ids.end - from).min(ID_BLOCK_LEN - from % ID_BLOCK_LEN);
             if let Err(wanting) = self.push_ids(low, high, from..to, data, positions) {
                 positions.clear();
                 return Err(wanting);
@@ -244,11 +250,47 @@ impl BitUnpacker {
         ensures front { take result output.new ≡ take at output.old
             ++ ids_between «data».now self.now low high ids.start (ids.end - ids.start) }
     {
-        if self.is_padded(ids.end as u64, data) {
-            self.write_ids_by::<true>(low, high, ids, data, output, at)
-        } else {
-            self.write_ids_by::<false>(low, high, ids, data, output, at)
+        if !self.is_padded(ids.end as u64, data) {
+            return self.write_ids_by::<false>(low, high, ids, data, output, at);
         }
+        if self.is_for_blocks(low, high, ids.start) {
+            return self.write_ids_in_blocks(low, high, ids, data, output, at);
+        }
+        self.write_ids_by::<true>(low, high, ids, data, output, at)
+    }
+
+    // The same, by blocks as far as they go.
+    fn write_ids_in_blocks(
+        &self,
+        low: u64,
+        high: u64,
+        ids: Range<u32>,
+        data: &[u8],
+        output: &mut [u32],
+        at: usize,
+    ) -> usize
+        requires blocks { IsForBlocks self.now low high ids.start }
+        requires order { ids.start ≤ ids.end }
+        requires room { at + (ids.end - ids.start) ≤ length output.old }
+        requires padded { ids.end * self.now / 8 + 8 ≤ length «data».now }
+        ensures within { result ≤ length output.old }
+        ensures front { take result output.new ≡ take at output.old
+            ++ ids_between «data».now self.now low high ids.start (ids.end - ids.start) }
+    {
+        let count = ids.end - ids.start;
+        let most = high.min(u32::MAX.into());
+        let kept = write_ids_by_width(
+            self.num_bits,
+            low as u32,
+            (most - low) as u32,
+            ids.start,
+            count,
+            data,
+            output,
+            at,
+        );
+        let tested = ids.start + count / BLOCK_LEN * BLOCK_LEN;
+        self.write_ids_by::<true>(low, high, tested..ids.end, data, output, kept)
     }
 
     // The same, with no branch on what a number is.
@@ -278,17 +320,53 @@ impl BitUnpacker {
         kept
     }
 
-    // Writes the numbers from an index on.
-    fn read<const PADDED: bool>(&self, start: u32, data: &[u8], output: &mut [u64])
-        requires indexes { start + length output.old ≤ 2 ^ 32 }
-        requires padded { IsTrue PADDED →
-            (start + length output.old) * self.now / 8 + 8 ≤ length «data».now }
-        ensures { output.new ≡ items «data».now self.now start (length output.old) }
+    // Writes the numbers from an index on, where those up to place `from` are there, up to place `to`.
+    fn read<const PADDED: bool>(
+        &self,
+        start: u32,
+        data: &[u8],
+        output: &mut [u64],
+        from: usize,
+        to: usize,
+    )
+        requires order { from ≤ to }
+        requires room { to ≤ length output.old }
+        requires indexes { start + to ≤ 2 ^ 32 }
+        requires padded { IsTrue PADDED → (start + to) * self.now / 8 + 8 ≤ length «data».now }
+        requires so_far { take from output.old ≡ items «data».now self.now start from }
+        ensures { take to output.new ≡ items «data».now self.now start to }
     {
         let unpacker = *self;
-        for i in 0..output.len() {
+        for i in from..to {
             output[i] = unpacker.item_at::<PADDED>(start + i as u32, data);
         }
+    }
+
+    // Writes the numbers from an index on, by groups as far as they go.
+    fn read_in_groups(&self, start: u32, data: &[u8], output: &mut [u64])
+        requires narrow { self.now ≤ 56 }
+        requires indexes { start + length output.old ≤ 2 ^ 32 }
+        requires padded { (start + length output.old) * self.now / 8 + 8 ≤ length «data».now }
+        ensures { take (length output.old) output.new ≡
+            items «data».now self.now start (length output.old) }
+    {
+        let len = output.len();
+        let head = (GROUP_LEN - start as usize % GROUP_LEN) % GROUP_LEN;
+        if len < head {
+            return self.read::<true>(start, data, output, 0, len);
+        }
+        self.read::<true>(start, data, output, 0, head);
+        let group = (start as usize + head) / GROUP_LEN;
+        let groups = (len - head) / GROUP_LEN;
+        read_groups_by_width(self.num_bits, group, data, output, head, groups);
+        self.read::<true>(start, data, output, head + GROUP_LEN * groups, len);
+    }
+
+    // Whether ids from `start` on are compared in blocks: where numbers and the lower end have 32 bits.
+    fn is_for_blocks(&self, low: u64, high: u64, start: u32) -> bool
+        ensures { IsTrue result → IsForBlocks self.now low high start }
+    {
+        self.num_bits <= 32 && start % 8 == 0 && low <= high && low <= u32::MAX.into()
     }
 
     // Whether the eight bytes of a load are there for each number below an index.
@@ -325,65 +403,4 @@ fn above(value: u64, from: u32) -> u64
     ensures { result ≡ value / 2 ^ from }
 {
     if from == WORD_BITS { 0 } else { value >> from }
-}
-
-// The 64 bits from byte `at` on.
-#[inline(always)]
-fn word(bytes: &[u8], at: usize) -> u64
-    requires { at + 8 ≤ length bytes.now }
-    ensures { result ≡ number_of 256 bytes.now / 2 ^ (8 * at) % 2 ^ 64 }
-{
-    u64::from_le_bytes([
-        bytes[at],
-        bytes[at + 1],
-        bytes[at + 2],
-        bytes[at + 3],
-        bytes[at + 4],
-        bytes[at + 5],
-        bytes[at + 6],
-        bytes[at + 7],
-    ])
-}
-
-// A byte, and past the end 0.
-fn byte_or_zero(bytes: &[u8], at: usize) -> u8
-    ensures { result ≡ slice_index bytes.now at }
-{
-    match bytes.get(at) {
-        Some(byte) => *byte,
-        None => 0,
-    }
-}
-
-// The 64 bits from byte `at` on, where those past the end are 0.
-#[cold]
-#[inline(never)]
-fn last_word(bytes: &[u8], at: usize) -> u64
-    requires { at + 8 ≤ usize.MAX }
-    ensures { result ≡ number_of 256 bytes.now / 2 ^ (8 * at) % 2 ^ 64 }
-{
-    u64::from_le_bytes([
-        byte_or_zero(bytes, at),
-        byte_or_zero(bytes, at + 1),
-        byte_or_zero(bytes, at + 2),
-        byte_or_zero(bytes, at + 3),
-        byte_or_zero(bytes, at + 4),
-        byte_or_zero(bytes, at + 5),
-        byte_or_zero(bytes, at + 6),
-        byte_or_zero(bytes, at + 7),
-    ])
-}
-
-// The 64 bits from byte `at` on, where those past the end are 0. PADDED says that none is past it.
-#[inline(always)]
-fn word_at<const PADDED: bool>(bytes: &[u8], at: usize) -> u64
-    requires fits { at + 8 ≤ usize.MAX }
-    requires padded { IsTrue PADDED → at + 8 ≤ length bytes.now }
-    ensures { result ≡ number_of 256 bytes.now / 2 ^ (8 * at) % 2 ^ 64 }
-{
-    if PADDED || at + U64_NUM_BYTES <= bytes.len() {
-        word(bytes, at)
-    } else {
-        last_word(bytes, at)
-    }
 }

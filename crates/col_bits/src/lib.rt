@@ -3,8 +3,10 @@
 #![tactic(auto)]
 
 mod bitpacker;
+mod const_width;
 mod extremes;
 mod spare;
+mod words;
 
 pub use bitpacker::{BitPacker, BitUnpacker, compute_num_bits};
 pub use extremes::minmax;

@@ -1,6 +1,6 @@
 use Rattle.std.proofs.Common.{arith}
 use Rattle.col_bits.proofs.WordLemmas.{word_is}
-use Rattle.col_bits.proofs.bitpacker.last_word.Goals as goal
+use Rattle.col_bits.proofs.words.last_word.Goals as goal
 
 pub returns : goal.returns
 returns c = omega (arith, word_is c.args.bytes.now c.args.at (λ k. (c.type_inv.bytes k).fits))

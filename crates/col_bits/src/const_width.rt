@@ -1,0 +1,289 @@
+//! Packed lists whose width the compiler knows: read by groups of eight, compared 64 numbers at a time.
+
+ghost use Rattle.std.specs.Prelude.{◌≡◌, ◌+◌, ◌-◌, ◌*◌, ◌/◌, ◌%◌, ◌^◌, ◌<◌, ◌≤◌, length, ◌++◌, map, take, nat_le};
+ghost use Rattle.std.specs.Int.{is_in_range};
+ghost use Rattle.std.specs.Simd.Lanes.{mask_l};
+ghost use Rattle.col_bits.specs.Packed.{item, items, ids_between};
+ghost use Rattle.col_bits.specs.Places.{set_places};
+
+use crate::words::word;
+use std::simd::prelude::*;
+
+// How many numbers take whole bytes, whatever their width.
+pub(crate) const GROUP_LEN: usize = 8;
+
+// How many groups are compared at once.
+const GROUPS: usize = 8;
+
+// How many numbers are compared at once.
+const LANES: usize = 64;
+
+// The same, as a count of ids.
+pub(crate) const BLOCK_LEN: u32 = 64;
+
+// Number `k` of a group.
+#[inline(always)]
+fn in_group<const W: usize>(data: &[u8], group: usize, k: usize) -> u64
+    requires width { W ≤ 56 }
+    requires place { k < 8 }
+    requires room { (group + 1) * W + 8 ≤ length «data».now }
+    ensures value { result ≡ item «data».now W (8 * group + k) }
+    ensures small { W ≤ 32 → result < 2 ^ 32 }
+{
+    let bit = k * W;
+    (word(data, group * W + bit / 8) >> (bit % 8)) & ((1u64 << W) - 1)
+}
+
+// Decodes the numbers of as many groups as are compared at once.
+#[inline(always)]
+fn decode<const W: usize>(group: usize, data: &[u8], block: &mut [u32; LANES])
+    requires width { W ≤ 32 }
+    requires group { group < 2 ^ 32 }
+    requires room { (group + 8) * W + 8 ≤ length «data».now }
+    ensures { block.new ≡ items «data».now W (8 * group) 64 }
+{
+    for g in 0..GROUPS {
+        for k in 0..GROUP_LEN {
+            block[GROUP_LEN * g + k] = in_group::<W>(data, group + g, k) as u32;
+        }
+    }
+}
+
+// How far each lane lies above `low`, modulo 2^32.
+#[inline(always)]
+fn above(lanes: u32x64, low: u32) -> u32x64
+    ensures { result ≡ map (λ v. (v + (2 ^ 32 - low)) % 2 ^ 32) lanes }
+{
+    lanes - u32x64::splat(low)
+}
+
+// The numbers as lanes.
+#[inline(always)]
+fn lanes_of(block: &[u32; LANES]) -> u32x64
+    ensures { result ≡ block.now }
+{
+    u32x64::from_slice(block)
+}
+
+// Which lanes are at most `span`: a bit for each, the first the lowest.
+#[inline(always)]
+fn at_most(lanes: u32x64, span: u32) -> u64
+    ensures { result ≡ mask_l (map (λ v. nat_le v span) lanes) }
+{
+    lanes.simd_le(u32x64::splat(span)).to_bitmask()
+}
+
+// Which numbers lie from `low` on and at most `span` above it: a bit for each, the first the lowest.
+#[inline(always)]
+fn hits_of(block: &[u32; LANES], low: u32, span: u32) -> u64
+    requires { low + span < 2 ^ 32 }
+    ensures { result ≡ mask_l (map (is_in_range low (low + span)) block.now) }
+{
+    at_most(above(lanes_of(block), low), span)
+}
+
+// Writes the places of the bits that are set, counted from `base`, from place `at` on, and says where they end.
+#[inline(always)]
+fn write_set_places(bits: u64, base: u32, output: &mut [u32], at: usize) -> usize
+    requires fits { base + 64 ≤ 2 ^ 32 }
+    requires room { at + length (set_places 64 base bits) ≤ length output.old }
+    ensures within { result ≡ at + length (set_places 64 base bits) }
+    ensures front { take result output.new ≡ take at output.old ++ set_places 64 base bits }
+{
+    let mut left = bits;
+    let mut end = at;
+    while left != 0 {
+        output[end] = base + left.trailing_zeros();
+        end += 1;
+        left &= left - 1;
+    }
+    end
+}
+
+// Writes which of as many ids as 64 go into, from `start` on, have a number from `low` to `low + span`,
+// from place `at` on, and says where they end.
+pub(crate) fn write_ids_of<const W: usize>(
+    low: u32,
+    span: u32,
+    start: u32,
+    count: u32,
+    data: &[u8],
+    output: &mut [u32],
+    at: usize,
+) -> usize
+    requires width { W ≤ 32 }
+    requires range { low + span < 2 ^ 32 }
+    requires aligned { start % 8 ≡ 0 }
+    requires fits { start + count < 2 ^ 32 }
+    requires padded { (start + count) * W / 8 + 8 ≤ length «data».now }
+    requires room { at + count ≤ length output.old }
+    ensures within { result ≤ at + count / 64 * 64 }
+    ensures front { take result output.new ≡ take at output.old
+        ++ ids_between «data».now W low (low + span) start (count / 64 * 64) }
+{
+    let mut block = [0; LANES];
+    let mut kept = at;
+    for word in 0..count / BLOCK_LEN {
+        let base = start + word * BLOCK_LEN;
+        decode::<W>(base as usize / GROUP_LEN, data, &mut block);
+        kept = write_set_places(hits_of(&block, low, span), base, output, kept);
+    }
+    kept
+}
+
+// The same for a width that is known when it runs.
+pub(crate) fn write_ids_by_width(
+    num_bits: u32,
+    low: u32,
+    span: u32,
+    start: u32,
+    count: u32,
+    data: &[u8],
+    output: &mut [u32],
+    at: usize,
+) -> usize
+    requires width { num_bits ≤ 32 }
+    requires range { low + span < 2 ^ 32 }
+    requires aligned { start % 8 ≡ 0 }
+    requires fits { start + count < 2 ^ 32 }
+    requires padded { (start + count) * num_bits / 8 + 8 ≤ length «data».now }
+    requires room { at + count ≤ length output.old }
+    ensures within { result ≤ at + count / 64 * 64 }
+    ensures front { take result output.new ≡ take at output.old
+        ++ ids_between «data».now num_bits low (low + span) start (count / 64 * 64) }
+{
+    match num_bits {
+        0 => write_ids_of::<0>(low, span, start, count, data, output, at),
+        1 => write_ids_of::<1>(low, span, start, count, data, output, at),
+        2 => write_ids_of::<2>(low, span, start, count, data, output, at),
+        3 => write_ids_of::<3>(low, span, start, count, data, output, at),
+        4 => write_ids_of::<4>(low, span, start, count, data, output, at),
+        5 => write_ids_of::<5>(low, span, start, count, data, output, at),
+        6 => write_ids_of::<6>(low, span, start, count, data, output, at),
+        7 => write_ids_of::<7>(low, span, start, count, data, output, at),
+        8 => write_ids_of::<8>(low, span, start, count, data, output, at),
+        9 => write_ids_of::<9>(low, span, start, count, data, output, at),
+        10 => write_ids_of::<10>(low, span, start, count, data, output, at),
+        11 => write_ids_of::<11>(low, span, start, count, data, output, at),
+        12 => write_ids_of::<12>(low, span, start, count, data, output, at),
+        13 => write_ids_of::<13>(low, span, start, count, data, output, at),
+        14 => write_ids_of::<14>(low, span, start, count, data, output, at),
+        15 => write_ids_of::<15>(low, span, start, count, data, output, at),
+        16 => write_ids_of::<16>(low, span, start, count, data, output, at),
+        17 => write_ids_of::<17>(low, span, start, count, data, output, at),
+        18 => write_ids_of::<18>(low, span, start, count, data, output, at),
+        19 => write_ids_of::<19>(low, span, start, count, data, output, at),
+        20 => write_ids_of::<20>(low, span, start, count, data, output, at),
+        21 => write_ids_of::<21>(low, span, start, count, data, output, at),
+        22 => write_ids_of::<22>(low, span, start, count, data, output, at),
+        23 => write_ids_of::<23>(low, span, start, count, data, output, at),
+        24 => write_ids_of::<24>(low, span, start, count, data, output, at),
+        25 => write_ids_of::<25>(low, span, start, count, data, output, at),
+        26 => write_ids_of::<26>(low, span, start, count, data, output, at),
+        27 => write_ids_of::<27>(low, span, start, count, data, output, at),
+        28 => write_ids_of::<28>(low, span, start, count, data, output, at),
+        29 => write_ids_of::<29>(low, span, start, count, data, output, at),
+        30 => write_ids_of::<30>(low, span, start, count, data, output, at),
+        31 => write_ids_of::<31>(low, span, start, count, data, output, at),
+        _ => write_ids_of::<32>(low, span, start, count, data, output, at),
+    }
+}
+
+// Writes the numbers of groups, from `group` on, from place `at` on.
+fn read_groups<const W: usize>(
+    group: usize,
+    data: &[u8],
+    output: &mut [u64],
+    at: usize,
+    groups: usize,
+)
+    requires width { W ≤ 56 }
+    requires fits { group + groups ≤ 2 ^ 32 }
+    requires padded { (group + groups) * W + 8 ≤ length «data».now }
+    requires room { at + 8 * groups ≤ length output.old }
+    ensures { take (at + 8 * groups) output.new ≡ take at output.old
+        ++ items «data».now W (8 * group) (8 * groups) }
+{
+    for g in 0..groups {
+        for k in 0..GROUP_LEN {
+            output[at + (GROUP_LEN * g + k)] = in_group::<W>(data, group + g, k);
+        }
+    }
+}
+
+// The same for a width that is known when it runs.
+pub(crate) fn read_groups_by_width(
+    num_bits: u32,
+    group: usize,
+    data: &[u8],
+    output: &mut [u64],
+    at: usize,
+    groups: usize,
+)
+    requires width { num_bits ≤ 56 }
+    requires fits { group + groups ≤ 2 ^ 32 }
+    requires padded { (group + groups) * num_bits + 8 ≤ length «data».now }
+    requires room { at + 8 * groups ≤ length output.old }
+    ensures { take (at + 8 * groups) output.new ≡ take at output.old
+        ++ items «data».now num_bits (8 * group) (8 * groups) }
+{
+    match num_bits {
+        0 => read_groups::<0>(group, data, output, at, groups),
+        1 => read_groups::<1>(group, data, output, at, groups),
+        2 => read_groups::<2>(group, data, output, at, groups),
+        3 => read_groups::<3>(group, data, output, at, groups),
+        4 => read_groups::<4>(group, data, output, at, groups),
+        5 => read_groups::<5>(group, data, output, at, groups),
+        6 => read_groups::<6>(group, data, output, at, groups),
+        7 => read_groups::<7>(group, data, output, at, groups),
+        8 => read_groups::<8>(group, data, output, at, groups),
+        9 => read_groups::<9>(group, data, output, at, groups),
+        10 => read_groups::<10>(group, data, output, at, groups),
+        11 => read_groups::<11>(group, data, output, at, groups),
+        12 => read_groups::<12>(group, data, output, at, groups),
+        13 => read_groups::<13>(group, data, output, at, groups),
+        14 => read_groups::<14>(group, data, output, at, groups),
+        15 => read_groups::<15>(group, data, output, at, groups),
+        16 => read_groups::<16>(group, data, output, at, groups),
+        17 => read_groups::<17>(group, data, output, at, groups),
+        18 => read_groups::<18>(group, data, output, at, groups),
+        19 => read_groups::<19>(group, data, output, at, groups),
+        20 => read_groups::<20>(group, data, output, at, groups),
+        21 => read_groups::<21>(group, data, output, at, groups),
+        22 => read_groups::<22>(group, data, output, at, groups),
+        23 => read_groups::<23>(group, data, output, at, groups),
+        24 => read_groups::<24>(group, data, output, at, groups),
+        25 => read_groups::<25>(group, data, output, at, groups),
+        26 => read_groups::<26>(group, data, output, at, groups),
+        27 => read_groups::<27>(group, data, output, at, groups),
+        28 => read_groups::<28>(group, data, output, at, groups),
+        29 => read_groups::<29>(group, data, output, at, groups),
+        30 => read_groups::<30>(group, data, output, at, groups),
+        31 => read_groups::<31>(group, data, output, at, groups),
+        32 => read_groups::<32>(group, data, output, at, groups),
+        33 => read_groups::<33>(group, data, output, at, groups),
+        34 => read_groups::<34>(group, data, output, at, groups),
+        35 => read_groups::<35>(group, data, output, at, groups),
+        36 => read_groups::<36>(group, data, output, at, groups),
+        37 => read_groups::<37>(group, data, output, at, groups),
+        38 => read_groups::<38>(group, data, output, at, groups),
+        39 => read_groups::<39>(group, data, output, at, groups),
+        40 => read_groups::<40>(group, data, output, at, groups),
+        41 => read_groups::<41>(group, data, output, at, groups),
+        42 => read_groups::<42>(group, data, output, at, groups),
+        43 => read_groups::<43>(group, data, output, at, groups),
+        44 => read_groups::<44>(group, data, output, at, groups),
+        45 => read_groups::<45>(group, data, output, at, groups),
+        46 => read_groups::<46>(group, data, output, at, groups),
+        47 => read_groups::<47>(group, data, output, at, groups),
+        48 => read_groups::<48>(group, data, output, at, groups),
+        49 => read_groups::<49>(group, data, output, at, groups),
+        50 => read_groups::<50>(group, data, output, at, groups),
+        51 => read_groups::<51>(group, data, output, at, groups),
+        52 => read_groups::<52>(group, data, output, at, groups),
+        53 => read_groups::<53>(group, data, output, at, groups),
+        54 => read_groups::<54>(group, data, output, at, groups),
+        55 => read_groups::<55>(group, data, output, at, groups),
+        _ => read_groups::<56>(group, data, output, at, groups),
+    }
+}
