@@ -15,10 +15,6 @@ below limit n h = grind (arith, nat_tests)
 passes_below : (limit n : ℕ) → n < limit → is_below limit n ≡ true
 passes_below limit n h = grind (arith, nat_tests)
 
--- what is below a number below the limit
-down_to : (limit m n : ℕ) → m ≤ n → is_below limit n ≡ true → is_below limit m ≡ true
-down_to limit m n h k = grind (arith, nat_tests)
-
 -- each number below the limit is a value that stands for itself
 pub number_laws : (limit : ℕ) → IsCoded limit number_cmp (is_below limit) (λ n. n) (λ n. n) (λ _. true)
 number_laws limit = record {
@@ -28,7 +24,6 @@ number_laws limit = record {
   image = λ x _. refl;
   known = λ n h _. passes_below limit n h;
   again = λ n _ _. refl;
-  downward = λ _ _ _ _. refl;
 }
 
 pub u32_laws : IsCoded (2 ^ 64) number_cmp (is_below (2 ^ 32)) (λ n. n) (λ n. n) is_image_of_u32
@@ -39,7 +34,6 @@ u32_laws = record {
   image = λ x h. h;
   known = λ n h k. k;
   again = λ n _ _. refl;
-  downward = down_to (2 ^ 32);
 }
 
 bool_compares : (x y : Bool) → number_cmp (bool_code x) (bool_code y) ≡ Some (bool_cmp x y)
@@ -71,7 +65,6 @@ bool_laws = record {
   image = λ x _. bool_image x;
   known = λ n _ _. refl;
   again = λ n _ h. bool_again n h;
-  downward = down_to 2;
 }
 
 i64_compares : (x y : ℤ) → is_i64 x ≡ true → is_i64 y ≡ true → number_cmp (i64_code x) (i64_code y) ≡ Some (int_cmp x y)
@@ -102,7 +95,6 @@ i64_laws = record {
   image = λ x _. refl;
   known = λ n h _. i64_known n h;
   again = λ n h _. i64_again n h;
-  downward = λ _ _ _ _. refl;
 }
 
 left_true : (s t : Bool) → (s && t) ≡ true → s ≡ true

@@ -4,7 +4,7 @@ use crate::tests::doubling::Doubling;
 use crate::{
     MonotonicallyMappableToU64, MonotonicallyMappableToU128, StrictlyMonotonicFn,
     StrictlyMonotonicMappingInverter, StrictlyMonotonicMappingToInternal, images_are_told,
-    images_reach_down, inverses_lead_back, maps_increase, numbers_of_64_bits_are_read_back,
+    inverses_lead_back, maps_increase, numbers_of_64_bits_are_read_back,
     numbers_of_64_bits_increase, numbers_of_128_bits_are_images, numbers_of_128_bits_are_read_back,
     numbers_of_128_bits_increase,
 };
@@ -34,6 +34,7 @@ fn a_bool_is_0_or_1(rt: HostRuntime) {
         assert_eq!(rt; bool::from_u64(number), value, "{number}");
     }
     assert!(rt; !bool::is_image(2));
+    assert!(rt; bool::images_reach_down());
 }
 
 #[test]
@@ -115,7 +116,6 @@ fn a_map_that_is_not_onto_leads_back_from_its_images(rt: HostRuntime) {
 fn the_laws_can_be_called() {
     numbers_of_64_bits_increase::<i64>();
     numbers_of_64_bits_are_read_back::<bool>();
-    images_reach_down::<u32>();
     numbers_of_128_bits_increase::<u128>();
     numbers_of_128_bits_are_read_back::<u128>();
     numbers_of_128_bits_are_images::<u128>();
