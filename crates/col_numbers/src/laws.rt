@@ -1,9 +1,13 @@
 //! Laws of codecs, each the contract of a call that does nothing.
-ghost use Rattle.std.specs.Prelude.{◌≡◌, ◌↔◌, true};
-ghost use Rattle.std.specs.declared.cmp.Ordering.TheVariants.{Equal};
+ghost use Rattle.std.specs.Ordering.{nat_cmp};
+ghost use Rattle.col_common.specs.Laws.{EqualAsCompared};
+ghost use Rattle.col_numbers.specs.CodecTypes.{ComparesByCode};
 
 use crate::CodecType;
 
-/// Two codecs are ordered as equal exactly where they are equal.
-pub fn codecs_are_equal_as_ordered(a: CodecType, b: CodecType)
+/// Codecs compare as their codes, and equality agrees.
+pub fn codecs_compare_as_their_codes()
+    ensures order { ComparesByCode ⟦<CodecType as PartialOrd>⟧.partial_cmp
+        ⟦<CodecType as Ord>⟧.cmp }
+    ensures equality { EqualAsCompared ⟦<CodecType as PartialEq>⟧.eq ⟦<CodecType as Ord>⟧.cmp }
 {}

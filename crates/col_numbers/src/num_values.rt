@@ -88,7 +88,7 @@ impl<T: MonotonicallyMappableToU64 + Default> ColumnValues<T> for NumValues<T> {
 
     fn get_range(&self, start: u64, output: &mut [T]) {
         match self {
-            NumValues::Read(values) => values.get_range(start, output),
+            NumValues::Read(values) => values.get_mapped_range(start, output),
             NumValues::Empty(values) => values.get_range(start, output),
         }
     }

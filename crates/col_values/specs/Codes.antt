@@ -9,8 +9,10 @@ abbrev pub number_cmp : ℕ → ℕ → Option Ordering
 number_cmp m n = Some (nat_cmp m n)
 
 -- Numbers below a limit stand for the values of a type, in their order.
-pub record IsCoded {X : Type 0} (limit : ℕ) (cmp : X → X → Option Ordering) (in_type : X → Bool) (code : X → ℕ) (value : ℕ → X) (is_image : ℕ → Bool) : Type 0 where
-  pub compares : (x y : X) → Passes in_type x → Passes in_type y → number_cmp (code x) (code y) ≡ cmp x y
+pub record IsCoded {X : Type 0} (limit : ℕ) (cmp : X → X → Option Ordering)
+    (in_type : X → Bool) (code : X → ℕ) (value : ℕ → X) (is_image : ℕ → Bool) : Type 0 where
+  pub compares : (x y : X) → Passes in_type x → Passes in_type y →
+      number_cmp (code x) (code y) ≡ cmp x y
   pub undoes : (x : X) → Passes in_type x → value (code x) ≡ x
   pub fits : (x : X) → Passes in_type x → code x < limit
   pub image : (x : X) → Passes in_type x → Passes is_image (code x)

@@ -89,6 +89,23 @@ where
     }
 }
 
+impl<Internal, V, M> MonotonicColumn<u64, Internal, V, M>
+where
+    Internal: PartialOrd + Copy,
+    V: ColumnValues<u64>,
+    M: StrictlyMonotonicFn<u64, Internal>,
+{
+    /// Does what `get_range` does, with numbers that the list's own `get_range` reads, a block at a
+    /// time.
+    pub fn get_mapped_range(&self, start: u64, output: &mut [Internal])
+        requires { start + length output.old ≤ length self.now.values }
+        ensures { output.new ≡ take (length output.old) (drop start self.now.values) }
+    {
+        let mut block = [0; BLOCK_LEN];
+        map_range(&self.values, &self.mapping, start, &mut block, output);
+    }
+}
+
 impl<External, Internal, V, M> ColumnValues<Internal> for MonotonicColumn<External, Internal, V, M>
 where
     External: PartialOrd + Copy,
@@ -118,14 +135,6 @@ where
     fn max_value(&self) -> Internal {
         self.max_value
     }
-
-    fn get_range(&self, start: u64, output: &mut [Internal]) {
-        if output.is_empty() {
-            return;
-        }
-        let mut block = [self.values.get_val(start as u32); BLOCK_LEN];
-        map_range(&self.values, &self.mapping, start, &mut block, output);
-    }
 }
 
 // What the values from a position on are mapped to, a block at a time.
@@ -135,7 +144,8 @@ fn map_range<External, Internal, V, M>(
     start: u64,
     block: &mut [External],
     output: &mut [Internal],
-) where
+)
+where
     External: PartialOrd + Copy,
     Internal: PartialOrd + Copy,
     V: ColumnValues<External>,
