@@ -186,7 +186,7 @@ pub struct BitpackedCodec;
 impl ColumnCodec for BitpackedCodec {
     ghost code = { 0 };
 
-    type Reader = BitpackedReader;
+    type ColumnValues = BitpackedReader;
 
     type Estimator = BitpackedCodecEstimator;
 

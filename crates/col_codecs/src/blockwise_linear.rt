@@ -25,7 +25,7 @@ pub struct BlockwiseLinearCodec;
 impl ColumnCodec for BlockwiseLinearCodec {
     ghost code = { 2 };
 
-    type Reader = BlockwiseLinearReader;
+    type ColumnValues = BlockwiseLinearReader;
 
     type Estimator = BlockwiseLinearEstimator;
 

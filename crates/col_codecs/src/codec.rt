@@ -73,14 +73,14 @@ pub trait ColumnCodec {
     ghost code: { ℕ };
 
     /// A list that is read in place.
-    type Reader: ColumnValues<u64>;
+    type ColumnValues: ColumnValues<u64>;
 
     /// What estimates and writes.
     type Estimator: ColumnCodecEstimator;
 
     /// Reads the bytes behind the codec's code.
-    fn load(alloc: Global, bytes: Bytes) -> Result<Self::Reader, ColumnarError>
-        ensures { Decodes Self.Reader.values result (values64 (code ∷ bytes)) };
+    fn load(alloc: Global, bytes: Bytes) -> Result<Self::ColumnValues, ColumnarError>
+        ensures { Decodes Self.ColumnValues.values result (values64 (code ∷ bytes)) };
 
     /// An estimator that has collected nothing.
     fn estimator(alloc: Global) -> Result<Self::Estimator, ColumnarError>

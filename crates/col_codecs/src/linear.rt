@@ -18,7 +18,7 @@ pub struct LinearCodec;
 impl ColumnCodec for LinearCodec {
     ghost code = { 1 };
 
-    type Reader = LinearReader;
+    type ColumnValues = LinearReader;
 
     type Estimator = LinearCodecEstimator;
 

@@ -1,68 +1,79 @@
 -- Lists of numbers that stand for values of a type.
-use Rattle.std.proofs.Common.{◌≡◌, ℕ, zero, suc, ◌==◌, ◌&&◌, ◌<◌, ◌≤◌, ◌^◌, nat_lt, Bool, true, false, List, [], ◌∷◌, length, map, Option, Some, None, refl, sym, ap, ◌∙◌, arith, subst, slice_index, cond, inl, inr}
+use Rattle.std.proofs.Common.{◌≡◌, ℕ, zero, suc, ◌==◌, ◌&&◌, ◌<◌, ◌≤◌, ◌^◌, nat_lt, min, max, fold, Bool, true, false, List, [], ◌∷◌, length, map, Contains, Option, Some, None, refl, sym, ap, ◌∙◌, arith, subst, slice_index, cond, inl, inr}
 use Rattle.std.specs.Option.{option_map, IfNone}
 use Rattle.std.proofs.lemmas.Option.{none-some}
 use Rattle.col_numbers.specs.CodecTypes.{code_of}
 use Rattle.col_numbers.specs.declared.codec_type.CodecType.{CodecType}
 use Rattle.std.specs.List.{AllByRecursion, All, list_all}
 use Rattle.std.proofs.lemmas.Bool.{and_parts, and_from, lt-ltb, cases_lt}
-use Rattle.std.proofs.lemmas.List.Elements.{All-from_recursion}
+use Rattle.std.proofs.lemmas.List.Elements.{All-from_recursion, recursion_from_All, All-contains, All-contains_itself}
+use Rattle.std.proofs.lemmas.List.Sums.{AllPass-from_list_all}
 use Rattle.col_common.specs.Reading.{◌>>=◌, only_if}
 use Rattle.col_model.specs.Stats.{Stats, stats_of, stats_at, same_stats, least_of, greatest_of}
 use Rattle.col_model.specs.U64List.{values64, values_by}
-use Rattle.col_model.proofs.StatsLaws.{all_by, fold-max, fold-max-one, least_of-all}
+use Rattle.col_model.proofs.StatsLaws.{all_by, fold-max, fold-max-one}
+use Rattle.col_values.specs.Bounds.{IsOfValues}
 use Rattle.col_values.specs.Monotonic.{Passes, AllMapped}
+use Rattle.col_values.specs.Laws.{ImagesReachDown}
 use Rattle.col_values.specs.Codes.{is_below}
 
-module _ (is_image : ℕ → Bool) (downward : (m n : ℕ) → m ≤ n → Passes is_image n → Passes is_image m) where
-  all-below : (xs : List ℕ) (top : ℕ) → AllByRecursion (λ x. x ≤ top) xs → is_image top ≡ true → list_all is_image xs ≡ true
-  all-below [] top below t = refl
-  all-below (x ∷ xs) top below t = and_from _ _ (downward x top below.0 t) (all-below xs top below.1 t)
+-- ---- the bounds of a list are items of it
 
-  each : (xs : List ℕ) → list_all is_image xs ≡ true → AllByRecursion (Passes is_image) xs
-  each [] t = tt
-  each (x ∷ xs) t = ((and_parts _ _ t).0, each xs (and_parts _ _ t).1)
+-- what holds of a and of each item holds of the least
+fold-min-one : (P : ℕ → Type 0) (a : ℕ) (xs : List ℕ) → P a → AllByRecursion P xs → P (fold min a xs)
+fold-min-one P a [] p all = p
+fold-min-one P a (x ∷ xs) p all = fold-min-one P (min a x) xs (lesser a x p all.0) all.1
+  where
+    lesser : (m n : ℕ) → P m → P n → P (min m n)
+    lesser m n p q = elim (cases_lt m n) [ inl h ↦ (let e : m ≡ min m n = omega arith in subst P e p) | inr h ↦ (let e : n ≡ min m n = omega arith in subst P e q) ]
+
+each-in : (xs : List ℕ) → AllByRecursion (Contains xs) xs
+each-in xs = recursion_from_All (Contains xs) xs (All-contains_itself xs)
+
+pub least-in : (xs : List ℕ) → IsOfValues xs (λ v. v ≡ least_of xs)
+least-in [] v some e = absurd (omega arith)
+least-in (x ∷ xs) v some e =
+    subst (Contains (x ∷ xs)) (sym e) (fold-min-one (Contains (x ∷ xs)) x xs (each-in (x ∷ xs)).0 (each-in (x ∷ xs)).1)
+
+pub greatest-in : (xs : List ℕ) → IsOfValues xs (λ v. v ≡ greatest_of xs)
+greatest-in [] v some e = absurd (omega arith)
+greatest-in (x ∷ xs) v some e =
+    let first : x ≡ max 0 x = omega arith in
+    subst (Contains (x ∷ xs)) (sym e) (fold-max-one (Contains (x ∷ xs)) (max 0 x) xs (subst (Contains (x ∷ xs)) first (each-in (x ∷ xs)).0) (each-in (x ∷ xs)).1)
+
+-- ---- images
+
+module _ (is_image : ℕ → Bool) where
+  all-below : ImagesReachDown is_image → (xs : List ℕ) (top : ℕ) → AllByRecursion (λ x. x ≤ top) xs → is_image top ≡ true → list_all is_image xs ≡ true
+  all-below down [] top below t = refl
+  all-below down (x ∷ xs) top below t = and_from _ _ (down x top below.0 t) (all-below down xs top below.1 t)
 
   -- the greatest item of a list of images is one
-  pub greatest-image : (x : ℕ) (xs : List ℕ) → list_all is_image (x ∷ xs) ≡ true → is_image (greatest_of (x ∷ xs)) ≡ true
-  greatest-image x xs t = fold-max-one (Passes is_image) 0 (x ∷ xs) (downward 0 x (omega arith) (and_parts _ _ t).0) (each (x ∷ xs) t)
+  greatest-image : (xs : List ℕ) → 0 < length xs → list_all is_image xs ≡ true → is_image (greatest_of xs) ≡ true
+  greatest-image xs some t = All-contains (Passes is_image) xs (greatest_of xs) (AllPass-from_list_all is_image xs t) (greatest-in xs (greatest_of xs) some refl)
 
   same_test : (s t : Bool) → (s ≡ true → t ≡ true) → (t ≡ true → s ≡ true) → s ≡ t
   same_test true t f g = sym (f refl)
   same_test false true f g = g refl
   same_test false false f g = refl
 
-  -- the greatest item tells of all
-  pub greatest-tells : (xs : List ℕ) → ¬ (length xs ≡ 0) → is_image (greatest_of xs) ≡ list_all is_image xs
-  greatest-tells [] some = absurd (some refl)
-  greatest-tells (x ∷ xs) some = same_test _ _ (all-below (x ∷ xs) (greatest_of (x ∷ xs)) (fold-max 0 (x ∷ xs)).1) (greatest-image x xs)
+  -- where images reach down, the greatest item tells of all
+  pub greatest-tells : ImagesReachDown is_image → (xs : List ℕ) → 0 < length xs → is_image (greatest_of xs) ≡ list_all is_image xs
+  greatest-tells down xs some = same_test _ _ (all-below down xs (greatest_of xs) (fold-max 0 xs).1) (greatest-image xs some)
 
-  pub none-tells : (xs : List ℕ) → length xs ≡ 0 → true ≡ list_all is_image xs
-  none-tells [] e = refl
-  none-tells (x ∷ xs) e = absurd (omega arith)
-
-  passed : (n : ℕ) → n < 2 ^ 64 → is_image n ≡ true → Passes (λ n. is_below (2 ^ 64) n && is_image n) n
-  passed n fits t = and_from _ _ (lt-ltb n (2 ^ 64) fits) t
-
-  all_passed : (xs : List ℕ) → AllByRecursion (λ n. n < 2 ^ 64) xs → AllByRecursion (Passes is_image) xs → AllByRecursion (Passes (λ n. is_below (2 ^ 64) n && is_image n)) xs
+  all_passed : (xs : List ℕ) → AllByRecursion (λ n. n < 2 ^ 64) xs → list_all is_image xs ≡ true → AllByRecursion (Passes (λ n. is_below (2 ^ 64) n && is_image n)) xs
   all_passed [] fit t = tt
-  all_passed (x ∷ xs) fit t = (passed x fit.0 t.0, all_passed xs fit.1 t.1)
-
-  least_passes : (xs : List ℕ) → 0 < length xs → AllByRecursion (λ n. n < 2 ^ 64) xs → list_all is_image xs ≡ true → Passes (λ n. is_below (2 ^ 64) n && is_image n) (least_of xs)
-  least_passes [] some fit t = absurd (omega arith)
-  least_passes (x ∷ xs) some fit t = let below = (least_of-all (x ∷ xs)).0 in passed (least_of (x ∷ xs)) (omega (arith, below, fit.0)) (downward (least_of (x ∷ xs)) x below (and_parts _ _ t).0)
-
-  greatest_passes : (xs : List ℕ) → 0 < length xs → AllByRecursion (λ n. n < 2 ^ 64) xs → list_all is_image xs ≡ true → Passes (λ n. is_below (2 ^ 64) n && is_image n) (greatest_of xs)
-  greatest_passes [] some fit t = absurd (omega arith)
-  greatest_passes (x ∷ xs) some fit t = passed (greatest_of (x ∷ xs)) (fold-max-one (λ n. n < 2 ^ 64) 0 (x ∷ xs) (omega arith) fit) (greatest-image x xs t)
+  all_passed (x ∷ xs) fit t = let p = and_parts _ _ t in (and_from _ _ (lt-ltb x (2 ^ 64) fit.0) p.0, all_passed xs fit.1 p.1)
 
   -- each image of 64 bits is in the domain of the map to values
   pub images-mapped : (xs : List ℕ) → AllByRecursion (λ n. n < 2 ^ 64) xs → list_all is_image xs ≡ true → AllMapped (λ n. is_below (2 ^ 64) n && is_image n) xs (λ v. v ≡ least_of xs) (λ v. v ≡ greatest_of xs)
-  images-mapped xs fit t = record {
-    each = All-from_recursion (Passes (λ n. is_below (2 ^ 64) n && is_image n)) xs (all_passed xs fit (each xs t));
-    least = λ x some e. subst (Passes (λ n. is_below (2 ^ 64) n && is_image n)) (sym e) (least_passes xs some fit t);
-    greatest = λ x some e. subst (Passes (λ n. is_below (2 ^ 64) n && is_image n)) (sym e) (greatest_passes xs some fit t);
-  }
+  images-mapped xs fit t =
+      let all = All-from_recursion (Passes (λ n. is_below (2 ^ 64) n && is_image n)) xs (all_passed xs fit t) in
+      record {
+        each = all;
+        least = λ x some e. All-contains (Passes (λ n. is_below (2 ^ 64) n && is_image n)) xs x all (least-in xs x some e);
+        greatest = λ x some e. All-contains (Passes (λ n. is_below (2 ^ 64) n && is_image n)) xs x all (greatest-in xs x some e);
+      }
 
 -- each item fits where the greatest one does
 pub all-fit : (xs : List ℕ) (top : ℕ) → top ≡ greatest_of xs → top < 2 ^ 64 → AllByRecursion (λ n. n < 2 ^ 64) xs

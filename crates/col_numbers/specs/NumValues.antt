@@ -1,7 +1,9 @@
 -- What values of a type mean.
 use Rattle.std.specs.Prelude.{◌≡◌, ℕ, Bool, List, [], Option}
 use Rattle.std.specs.List.{list_all}
+use Rattle.std.specs.declared.cmp.Ordering.{Ordering}
 use Rattle.col_common.specs.Reading.{only_if}
+use Rattle.col_values.specs.Bounds.{AreToldExactly}
 use Rattle.col_numbers.specs.declared.num_values.NumValues.{NumValues}
 use Rattle.col_numbers.specs.declared.num_values.NumValues.TheVariants.{Read, Empty}
 
@@ -18,6 +20,13 @@ IsLow is_default (Empty _) v = is_default v
 abbrev pub IsHigh : {T : Type 0} → (T → Type 0) → NumValues T → T → Type 0
 IsHigh is_default (Read c) v = v ≡ c.high
 IsHigh is_default (Empty _) v = is_default v
+
+-- the bounds are exact: the least and the greatest value, and without values a default
+abbrev pub HasExactBounds : {T : Type 0} → (T → T → Option Ordering) → (T → Type 0) →
+    NumValues T → Type 0
+HasExactBounds partial_cmp is_default v =
+    AreToldExactly partial_cmp is_default (num_values_of v) (IsLow is_default v)
+    (IsHigh is_default v)
 
 -- the list, where each number is an image
 abbrev pub images_of : (ℕ → Bool) → List ℕ → Option (List ℕ)

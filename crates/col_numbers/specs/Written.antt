@@ -22,10 +22,12 @@ abbrev pub no_codec_of : Option ℕ → Option ColumnarError
 no_codec_of None = Some NoCodec
 no_codec_of (Some codec) = None
 
--- The refusal of a list, before its first byte: no codec is offered; more than 2 ^ 32 - 1 values; no codec applies.
+-- The refusal of a list, before its first byte: no codec is offered; more than 2 ^ 32 - 1 values;
+-- no codec applies.
 abbrev pub list_refusal : List ℕ → List ℕ → Option ColumnarError
 list_refusal xs [] = Some NoCodec
-list_refusal xs (c ∷ cs) = if nat_le (2 ^ 32) (length xs) then Some TooLarge else no_codec_of (chosen_codec xs (c ∷ cs))
+list_refusal xs (c ∷ cs) =
+    if nat_le (2 ^ 32) (length xs) then Some TooLarge else no_codec_of (chosen_codec xs (c ∷ cs))
 
 -- an estimator that has collected a list, with its estimate
 pub record IsCandidate (xs : List ℕ) (c : Candidate) : Type 0 where
@@ -34,4 +36,5 @@ pub record IsCandidate (xs : List ℕ) (c : Candidate) : Type 0 where
 
 -- the candidate of the codec that is chosen for a list, none where none is
 abbrev pub HasBest : List ℕ → List ℕ → Option Candidate → Type 0
-HasBest xs codecs found = MatchOption found (chosen_codec xs codecs ≡ None) (λ c. (chosen_codec xs codecs ≡ Some (estimator_code c.estimator)) × IsCandidate xs c)
+HasBest xs codecs found = MatchOption found (chosen_codec xs codecs ≡ None)
+    (λ c. (chosen_codec xs codecs ≡ Some (estimator_code c.estimator)) × IsCandidate xs c)

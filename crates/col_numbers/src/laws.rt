@@ -1,19 +1,13 @@
-//! Laws of lists of values.
-ghost use Rattle.std.specs.Prelude.{◌≡◌, length};
+//! Laws of codecs, each the contract of a call that does nothing.
+ghost use Rattle.std.specs.Ordering.{nat_cmp};
+ghost use Rattle.col_common.specs.Laws.{EqualAsCompared};
+ghost use Rattle.col_numbers.specs.CodecTypes.{ComparesByCode};
 
-use col_common::Iterable;
-use col_values::ColumnValues;
+use crate::CodecType;
 
-/// How many items an iterator gives before it ends: as many as the list has.
-pub fn count_items<T: PartialOrd + Copy, V: ColumnValues<T>>(values: &V) -> u64
-    ensures { result ≡ length (V.values values.now) }
-{
-    let _len = values.num_vals();
-    let items = values.iter();
-    let mut at = items.walk();
-    let mut count = 0;
-    while let Some(_item) = items.next(&mut at) {
-        count += 1;
-    }
-    count
-}
+/// Codecs compare as their codes, and equality agrees.
+pub fn codecs_compare_as_their_codes()
+    ensures order { ComparesByCode ⟦<CodecType as PartialOrd>⟧.partial_cmp
+        ⟦<CodecType as Ord>⟧.cmp }
+    ensures equality { EqualAsCompared ⟦<CodecType as PartialEq>⟧.eq ⟦<CodecType as Ord>⟧.cmp }
+{}

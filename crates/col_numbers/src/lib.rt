@@ -1,4 +1,4 @@
-//! Lists of numbers: the choice among the codecs, any of them by its code, and values of other types over them.
+//! Lists of numbers: any codec by its code, the choice among them, and values of types over them.
 #![tactic(auto)]
 
 mod codec_type;
@@ -10,7 +10,7 @@ mod u64_values;
 
 pub use codec_type::{ALL_U64_CODEC_TYPES, CodecType};
 pub use estimator::Estimator;
-pub use laws::count_items;
+pub use laws::codecs_compare_as_their_codes;
 pub use num_values::{NumValues, NumView, load_u64_based_column_values, load_u64_values};
 pub use serialize::{
     serialize_and_load_u64_based_column_values, serialize_and_load_u64_values,

@@ -1,22 +1,23 @@
 //! A list of numbers, seen as values of a type.
-ghost use Rattle.std.specs.Prelude.{◌≡◌, ◌<◌, ◌^◌, ◌∷◌, map, drop, option_map, None, IfSome, IfNone};
+ghost use Rattle.std.specs.Prelude.{◌≡◌, ◌≤◌, ◌<◌, ◌^◌, ◌∷◌, length, map, drop, option_map, None, IfOk, IfSome, IfNone};
 ghost use Rattle.std.specs.List.{AllByRecursion, list_all};
 ghost use Rattle.col_common.specs.Decoding.{Decodes};
 ghost use Rattle.col_model.specs.Images.{images64};
 ghost use Rattle.col_model.specs.U64List.{values64};
-ghost use Rattle.col_numbers.specs.NumValues.{num_values_of, images_of};
+ghost use Rattle.col_numbers.specs.NumValues.{num_values_of, images_of, HasExactBounds};
 ghost use Rattle.col_numbers.specs.Readers.{list_of};
 ghost use Rattle.col_numbers.specs.CodecTypes.{code_of};
 
 use crate::{CodecType, U64Values};
 use bytes::Bytes;
 use col_codecs::{BitpackedCodec, BlockwiseLinearCodec, ColumnCodec, LinearCodec};
-use col_common::ColumnarError;
+use col_common::{ColumnarError, Iterable, RowId, Walk};
 use col_values::{
     ColumnValues, EmptyColumnValues, MonotonicColumn, MonotonicallyMappableToU64,
     StrictlyMonotonicMappingInverter, StrictlyMonotonicMappingToInternal, monotonic_map_column,
 };
 use std::alloc::Global;
+use std::ops::Range;
 
 /// A list of numbers, seen as values of a type.
 pub type NumView<T> = MonotonicColumn<
@@ -70,22 +71,93 @@ impl<T: MonotonicallyMappableToU64 + Default> ColumnValues<T> for NumValues<T> {
             NumValues::Empty(values) => values.max_value(),
         }
     }
+
+    fn get_vals(&self, indexes: &[u32], output: &mut [T]) {
+        match self {
+            NumValues::Read(values) => values.get_vals(indexes, output),
+            NumValues::Empty(values) => values.get_vals(indexes, output),
+        }
+    }
+
+    fn get_vals_opt(&self, indexes: &[u32], output: &mut [Option<T>]) {
+        match self {
+            NumValues::Read(values) => values.get_vals_opt(indexes, output),
+            NumValues::Empty(values) => values.get_vals_opt(indexes, output),
+        }
+    }
+
+    fn get_range(&self, start: u64, output: &mut [T]) {
+        match self {
+            NumValues::Read(values) => values.get_mapped_range(start, output),
+            NumValues::Empty(values) => values.get_range(start, output),
+        }
+    }
+
+    fn get_row_ids_between(
+        &self,
+        low: T,
+        high: T,
+        row_ids: Range<RowId>,
+        hits: &mut Vec<RowId>,
+    ) -> Result<(), ColumnarError> {
+        match self {
+            NumValues::Read(values) => values.get_row_ids_between(low, high, row_ids, hits),
+            NumValues::Empty(values) => values.get_row_ids_between(low, high, row_ids, hits),
+        }
+    }
 }
 
-// Whether each number stands for a value of the type, which the greatest one tells.
+impl<T: MonotonicallyMappableToU64 + Default> Iterable<T> for NumValues<T> {
+    ghost items = { num_values_of };
+
+    ghost stands = { λ r w. w.place ≤ length (num_values_of r) };
+
+    ghost left = { λ r w. drop w.place (num_values_of r) };
+
+    fn walk(&self) -> Walk {
+        self.iter().walk()
+    }
+
+    #[inline]
+    fn next(&self, at: &mut Walk) -> Option<T> {
+        self.iter().next(at)
+    }
+}
+
+// Whether each number stands for a value of the type.
+fn is_each_image<T: MonotonicallyMappableToU64>(values: &U64Values) -> bool
+    ensures { result ≡ list_all T.is_code (list_of values.now) }
+{
+    for idx in 0..values.num_vals() {
+        if !T::is_image(values.get_val(idx)) {
+            return false;
+        }
+    }
+    true
+}
+
+// The same, which the greatest number tells where images reach down.
 fn are_images<T: MonotonicallyMappableToU64>(values: &U64Values) -> bool
     ensures images { result ≡ list_all T.is_code (list_of values.now) }
     ensures fit { AllByRecursion (λ n. n < 2 ^ 64) (list_of values.now) }
 {
     let greatest = values.max_value();
-    values.num_vals() == 0 || T::is_image(greatest)
+    if values.num_vals() == 0 {
+        return true;
+    }
+    if T::images_reach_down() {
+        return T::is_image(greatest);
+    }
+    is_each_image::<T>(values)
 }
 
 // The values of the type that these numbers stand for, where each stands for one.
 fn see_as<T: MonotonicallyMappableToU64 + Default>(
     values: U64Values,
 ) -> Result<NumValues<T>, ColumnarError>
-    ensures { Decodes num_values_of result (option_map (map T.value) (images_of T.is_code (list_of values))) }
+    ensures ok { Decodes num_values_of result
+        (option_map (map T.value) (images_of T.is_code (list_of values))) }
+    ensures bounds { IfOk result (HasExactBounds T.partial_cmp T.is_default) }
 {
     if !are_images::<T>(&values) {
         return Err(ColumnarError::InvalidData);
@@ -118,7 +190,9 @@ impl CodecType {
         alloc: Global,
         bytes: Bytes,
     ) -> Result<NumValues<T>, ColumnarError>
-        ensures { Decodes num_values_of result (option_map (map T.value) (images64 T.is_code (code_of self ∷ bytes))) }
+        ensures ok { Decodes num_values_of result
+            (option_map (map T.value) (images64 T.is_code (code_of self ∷ bytes))) }
+        ensures bounds { IfOk result (HasExactBounds T.partial_cmp T.is_default) }
     {
         see_as(self.load_u64(alloc, bytes)?)
     }
@@ -152,7 +226,9 @@ pub fn load_u64_based_column_values<T: MonotonicallyMappableToU64 + Default>(
     alloc: Global,
     bytes: Bytes,
 ) -> Result<NumValues<T>, ColumnarError>
-    ensures { Decodes num_values_of result (option_map (map T.value) (images64 T.is_code bytes)) }
+    ensures ok { Decodes num_values_of result
+        (option_map (map T.value) (images64 T.is_code bytes)) }
+    ensures bounds { IfOk result (HasExactBounds T.partial_cmp T.is_default) }
 {
     let Some(codec) = codec_of(bytes.as_slice()) else {
         return Err(ColumnarError::InvalidData);

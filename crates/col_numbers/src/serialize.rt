@@ -2,7 +2,7 @@
 ghost use Rattle.std.specs.Prelude.{◌≡◌, ◌≤◌, ◌<◌, ◌^◌, ℕ, List, [], ◌∷◌, ◌++◌, map, length, option_map, ◌⊎◌, Some, None, Err, IfOk, IfErr, IfSome, IfNone, OnOk};
 ghost use Rattle.std.specs.List.{AllByRecursion};
 ghost use Rattle.col_common.specs.Decoding.{Decodes};
-ghost use Rattle.col_numbers.specs.NumValues.{num_values_of, images_of};
+ghost use Rattle.col_numbers.specs.NumValues.{num_values_of, images_of, HasExactBounds};
 ghost use Rattle.col_numbers.specs.Readers.{list_of};
 ghost use Rattle.col_common.specs.Serializing.{Serializes, Stopped};
 ghost use Rattle.col_model.specs.Stats.{stats_of};
@@ -141,14 +141,18 @@ where
     I: Iterable<T>,
     K: Sink,
     // What is added stands for the list, and is its form under the codec that is chosen.
-    ensures list { OnOk result (AppendsList (K.seen sink.old) (K.seen sink.new) (map T.code (I.items vals.now))) }
-    ensures ok { IfSome (chosen_codec (map T.code (I.items vals.now)) (map code_of codec_types.now)) (λ codec.
-        length (I.items vals.now) < 2 ^ 32 →
+    ensures list { OnOk result
+        (AppendsList (K.seen sink.old) (K.seen sink.new) (map T.code (I.items vals.now))) }
+    ensures ok { IfSome
+        (chosen_codec (map T.code (I.items vals.now)) (map code_of codec_types.now))
+        (λ codec. length (I.items vals.now) < 2 ^ 32 →
         Serializes (K.seen sink.old) (K.seen sink.new)
         result (codec_bytes codec (map T.code (I.items vals.now)))) }
 
-    // No codec is given, there are too many values, or no codec applies, in this order, before the first byte.
-    ensures refused { IfSome (list_refusal (map T.code (I.items vals.now)) (map code_of codec_types.now))
+    // No codec is given, there are too many values, or no codec applies, in this order, before the
+    // first byte.
+    ensures refused { IfSome
+        (list_refusal (map T.code (I.items vals.now)) (map code_of codec_types.now))
         (Stopped sink.old sink.new result) }
 {
     serialize_estimated_values(alloc, vals, codec_types, sink)?;
@@ -166,15 +170,18 @@ where
     T: MonotonicallyMappableToU64,
     I: Iterable<T>,
     K: Sink,
-    ensures list { OnOk result (AppendsList (K.seen sink.old) (K.seen sink.new) (map T.code (I.items vals.now))) }
-    ensures ok { IfSome (chosen_codec (map T.code (I.items vals.now)) (map code_of codec_types.now)) (λ codec.
-        length (I.items vals.now) < 2 ^ 32 →
+    ensures list { OnOk result
+        (AppendsList (K.seen sink.old) (K.seen sink.new) (map T.code (I.items vals.now))) }
+    ensures ok { IfSome
+        (chosen_codec (map T.code (I.items vals.now)) (map code_of codec_types.now))
+        (λ codec. length (I.items vals.now) < 2 ^ 32 →
         Serializes (K.seen sink.old) (K.seen sink.new)
         (done result) (codec_bytes codec (map T.code (I.items vals.now)))) }
     ensures estimate { IfOk result (λ n. IfSome
         (chosen_codec (map T.code (I.items vals.now)) (map code_of codec_types.now))
         (λ codec. estimate (map T.code (I.items vals.now)) codec ≡ Some n)) }
-    ensures refused { IfSome (list_refusal (map T.code (I.items vals.now)) (map code_of codec_types.now))
+    ensures refused { IfSome
+        (list_refusal (map T.code (I.items vals.now)) (map code_of codec_types.now))
         (Stopped sink.old sink.new (done result)) }
 {
     if codec_types.is_empty() {
@@ -206,7 +213,8 @@ where
     I: Iterable<T>,
     ensures ok { IfNone (list_refusal (map T.code (I.items vals.now)) (map code_of codec_types.now))
         (Decodes list_of result (Some (map T.code (I.items vals.now)))) }
-    ensures refused { IfSome (list_refusal (map T.code (I.items vals.now)) (map code_of codec_types.now)) (λ e.
+    ensures refused { IfSome
+        (list_refusal (map T.code (I.items vals.now)) (map code_of codec_types.now)) (λ e.
         (result ≡ Err e) ⊎ (result ≡ Err refusals.OutOfMemory)) }
 {
     let mut buffer = Buffer::new(alloc);
@@ -224,7 +232,9 @@ where
     T: MonotonicallyMappableToU64 + Default,
     I: Iterable<u64>,
     ensures ok { IfNone (list_refusal (I.items vals.now) (map code_of codec_types.now))
-        (Decodes num_values_of result (option_map (map T.value) (images_of T.is_code (I.items vals.now)))) }
+        (Decodes num_values_of result
+        (option_map (map T.value) (images_of T.is_code (I.items vals.now)))) }
+    ensures bounds { IfOk result (HasExactBounds T.partial_cmp T.is_default) }
     ensures refused { IfSome (list_refusal (I.items vals.now) (map code_of codec_types.now)) (λ e.
         (result ≡ Err e) ⊎ (result ≡ Err refusals.OutOfMemory)) }
 {

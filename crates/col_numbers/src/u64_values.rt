@@ -1,9 +1,9 @@
 //! A list of u64 under any codec.
-ghost use Rattle.std.specs.Prelude.{◌≡◌, IfOk, IfErr};
+ghost use Rattle.std.specs.Prelude.{◌≡◌, ◌≤◌, IfOk, IfErr, drop, length};
 ghost use Rattle.col_model.specs.Stats.{least_of, greatest_of};
 
 use col_codecs::{BitpackedReader, BlockwiseLinearReader, LinearReader};
-use col_common::{ColumnarError, RowId};
+use col_common::{ColumnarError, Iterable, RowId, Walk};
 use col_values::ColumnValues;
 use std::alloc::Global;
 use std::ops::Range;
@@ -84,6 +84,14 @@ impl ColumnValues<u64> for U64Values {
         }
     }
 
+    fn get_vals_opt(&self, indexes: &[u32], output: &mut [Option<u64>]) {
+        match self {
+            U64Values::Bitpacked(values) => values.get_vals_opt(indexes, output),
+            U64Values::Linear(values) => values.get_vals_opt(indexes, output),
+            U64Values::BlockwiseLinear(values) => values.get_vals_opt(indexes, output),
+        }
+    }
+
     fn get_range(&self, start: u64, output: &mut [u64]) {
         match self {
             U64Values::Bitpacked(values) => values.get_range(start, output),
@@ -106,5 +114,24 @@ impl ColumnValues<u64> for U64Values {
                 values.get_row_ids_between(low, high, row_ids, hits)
             }
         }
+    }
+}
+
+impl Iterable<u64> for U64Values {
+    ghost use Rattle.col_numbers.specs.Readers.{list_of};
+
+    ghost items = { list_of };
+
+    ghost stands = { λ r w. w.place ≤ length (list_of r) };
+
+    ghost left = { λ r w. drop w.place (list_of r) };
+
+    fn walk(&self) -> Walk {
+        self.iter().walk()
+    }
+
+    #[inline]
+    fn next(&self, at: &mut Walk) -> Option<u64> {
+        self.iter().next(at)
     }
 }

@@ -2,3 +2,4 @@ pub mod HitLemmas
 pub mod OrderLemmas
 pub mod MonotonicLemmas
 pub mod CodeLemmas
+pub mod PartLemmas

@@ -15,12 +15,9 @@ below limit n h = grind (arith, nat_tests)
 passes_below : (limit n : ℕ) → n < limit → is_below limit n ≡ true
 passes_below limit n h = grind (arith, nat_tests)
 
--- what is below a number below the limit
-down_to : (limit m n : ℕ) → m ≤ n → is_below limit n ≡ true → is_below limit m ≡ true
-down_to limit m n h k = grind (arith, nat_tests)
-
 -- each number below the limit is a value that stands for itself
-pub number_laws : (limit : ℕ) → IsCoded limit number_cmp (is_below limit) (λ n. n) (λ n. n) (λ _. true)
+pub number_laws : (limit : ℕ) →
+    IsCoded limit number_cmp (is_below limit) (λ n. n) (λ n. n) (λ _. true)
 number_laws limit = record {
   compares = λ x y _ _. refl;
   undoes = λ x _. refl;
@@ -28,7 +25,6 @@ number_laws limit = record {
   image = λ x _. refl;
   known = λ n h _. passes_below limit n h;
   again = λ n _ _. refl;
-  downward = λ _ _ _ _. refl;
 }
 
 pub u32_laws : IsCoded (2 ^ 64) number_cmp (is_below (2 ^ 32)) (λ n. n) (λ n. n) is_image_of_u32
@@ -39,7 +35,6 @@ u32_laws = record {
   image = λ x h. h;
   known = λ n h k. k;
   again = λ n _ _. refl;
-  downward = down_to (2 ^ 32);
 }
 
 bool_compares : (x y : Bool) → number_cmp (bool_code x) (bool_code y) ≡ Some (bool_cmp x y)
@@ -63,7 +58,8 @@ bool_image false = refl
 bool_again : (n : ℕ) → is_image_of_bool n ≡ true → bool_code (bool_value n) ≡ n
 bool_again n h = grind (arith, nat_tests)
 
-pub bool_laws : IsCoded (2 ^ 64) (λ x y. Some (bool_cmp x y)) (λ _. true) bool_code bool_value is_image_of_bool
+pub bool_laws : IsCoded (2 ^ 64) (λ x y. Some (bool_cmp x y)) (λ _. true)
+    bool_code bool_value is_image_of_bool
 bool_laws = record {
   compares = λ x y _ _. bool_compares x y;
   undoes = λ x _. bool_undoes x;
@@ -71,10 +67,10 @@ bool_laws = record {
   image = λ x _. bool_image x;
   known = λ n _ _. refl;
   again = λ n _ h. bool_again n h;
-  downward = down_to 2;
 }
 
-i64_compares : (x y : ℤ) → is_i64 x ≡ true → is_i64 y ≡ true → number_cmp (i64_code x) (i64_code y) ≡ Some (int_cmp x y)
+i64_compares : (x y : ℤ) → is_i64 x ≡ true → is_i64 y ≡ true →
+    number_cmp (i64_code x) (i64_code y) ≡ Some (int_cmp x y)
 i64_compares (pos m) (pos n) h k = ap Some (grind (arith, nat_tests))
 i64_compares (pos m) (negsuc n) h k = ap Some (grind (arith, nat_tests))
 i64_compares (negsuc m) (pos n) h k = ap Some (grind (arith, nat_tests))
@@ -102,7 +98,6 @@ i64_laws = record {
   image = λ x _. refl;
   known = λ n h _. i64_known n h;
   again = λ n h _. i64_again n h;
-  downward = λ _ _ _ _. refl;
 }
 
 left_true : (s t : Bool) → (s && t) ≡ true → s ≡ true
@@ -113,12 +108,15 @@ right_true : (s t : Bool) → (s && t) ≡ true → t ≡ true
 right_true true t h = h
 right_true false t h = absurd (true≢false (sym h))
 
-module _ {X : Type 0} {limit : ℕ} {cmp : X → X → Option Ordering} {in_type : X → Bool} {code : X → ℕ} {value : ℕ → X} {is_image : ℕ → Bool} (laws : IsCoded limit cmp in_type code value is_image) where
+module _ {X : Type 0} {limit : ℕ} {cmp : X → X → Option Ordering} {in_type : X → Bool}
+    {code : X → ℕ} {value : ℕ → X} {is_image : ℕ → Bool}
+    (laws : IsCoded limit cmp in_type code value is_image) where
   -- from values to their numbers
   pub to_internal_laws : IsMonotonic cmp number_cmp in_type code value
   to_internal_laws = record { compares = laws.compares; undoes = laws.undoes }
 
-  module _ (is_in : ℕ → Bool) (inside : (n : ℕ) → Passes is_in n → (n < limit) × Passes is_image n) where
+  module _ (is_in : ℕ → Bool)
+      (inside : (n : ℕ) → Passes is_in n → (n < limit) × Passes is_image n) where
     in_known : (n : ℕ) → Passes is_in n → Passes in_type (value n)
     in_known n h = let p = inside n h in laws.known n p.0 p.1
 
@@ -127,15 +125,21 @@ module _ {X : Type 0} {limit : ℕ} {cmp : X → X → Option Ordering} {in_type
 
     in_laws : IsMonotonic number_cmp cmp is_in value code
     in_laws = record {
-      compares = λ m n h k. sym (laws.compares (value m) (value n) (in_known m h) (in_known n k)) ∙ (λ i. number_cmp (in_again m h i) (in_again n k i));
+      compares = λ m n h k.
+          sym (laws.compares (value m) (value n) (in_known m h) (in_known n k))
+          ∙ (λ i. number_cmp (in_again m h i) (in_again n k i));
       undoes = in_again;
     }
 
   -- from the images to their values
   pub inverter_laws : IsMonotonic number_cmp cmp (λ n. is_below limit n && is_image n) value code
   inverter_laws = in_laws (λ n. is_below limit n && is_image n)
-      (λ n h. (below limit n (left_true (is_below limit n) (is_image n) h), right_true (is_below limit n) (is_image n) h))
+      (λ n h. (
+        below limit n (left_true (is_below limit n) (is_image n) h),
+        right_true (is_below limit n) (is_image n) h,
+      ))
 
   -- the same where each number is an image
-  pub onto_laws : ((n : ℕ) → Passes is_image n) → IsMonotonic number_cmp cmp (is_below limit) value code
+  pub onto_laws : ((n : ℕ) → Passes is_image n) →
+      IsMonotonic number_cmp cmp (is_below limit) value code
   onto_laws each = in_laws (is_below limit) (λ n h. (below limit n h, each n))

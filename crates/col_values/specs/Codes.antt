@@ -1,5 +1,5 @@
 -- Values as numbers in their order. States docs/FORMAT.md, section 9.
-use Rattle.std.specs.Prelude.{◌≡◌, ℕ, ℤ, pos, negsuc, ◌+◌, ◌-◌, ◌<◌, ◌≤◌, ◌^◌, ◌==◌, ◌&&◌, nat_lt, int_le, int_lt, Bool, cond, Option, Some}
+use Rattle.std.specs.Prelude.{◌≡◌, ℕ, ℤ, pos, negsuc, ◌+◌, ◌-◌, ◌<◌, ◌^◌, ◌==◌, ◌&&◌, nat_lt, int_le, int_lt, Bool, cond, Option, Some}
 use Rattle.std.specs.Ordering.{nat_cmp}
 use Rattle.std.specs.declared.cmp.Ordering.{Ordering}
 use Rattle.col_values.specs.Monotonic.{Passes}
@@ -8,15 +8,16 @@ use Rattle.col_values.specs.Monotonic.{Passes}
 abbrev pub number_cmp : ℕ → ℕ → Option Ordering
 number_cmp m n = Some (nat_cmp m n)
 
--- Numbers below a limit stand for the values of a type, in their order, and each number up to an image is an image.
-pub record IsCoded {X : Type 0} (limit : ℕ) (cmp : X → X → Option Ordering) (in_type : X → Bool) (code : X → ℕ) (value : ℕ → X) (is_image : ℕ → Bool) : Type 0 where
-  pub compares : (x y : X) → Passes in_type x → Passes in_type y → number_cmp (code x) (code y) ≡ cmp x y
+-- Numbers below a limit stand for the values of a type, in their order.
+pub record IsCoded {X : Type 0} (limit : ℕ) (cmp : X → X → Option Ordering)
+    (in_type : X → Bool) (code : X → ℕ) (value : ℕ → X) (is_image : ℕ → Bool) : Type 0 where
+  pub compares : (x y : X) → Passes in_type x → Passes in_type y →
+      number_cmp (code x) (code y) ≡ cmp x y
   pub undoes : (x : X) → Passes in_type x → value (code x) ≡ x
   pub fits : (x : X) → Passes in_type x → code x < limit
   pub image : (x : X) → Passes in_type x → Passes is_image (code x)
   pub known : (n : ℕ) → n < limit → Passes is_image n → Passes in_type (value n)
   pub again : (n : ℕ) → n < limit → Passes is_image n → code (value n) ≡ n
-  pub downward : (m n : ℕ) → m ≤ n → Passes is_image n → Passes is_image m
 
 -- a number below a limit
 abbrev pub is_below : ℕ → ℕ → Bool

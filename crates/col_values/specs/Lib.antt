@@ -2,5 +2,5 @@ pub mod Values
 pub mod Bounds
 pub mod Monotonic
 pub mod Codes
-pub mod CodeLaws
 pub mod Laws
+pub mod CodeLaws

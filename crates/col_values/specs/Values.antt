@@ -31,10 +31,12 @@ span count from to = min to count - from
 
 -- The positions from a place up to another whose value is one from low to high, ascending.
 abbrev pub hits_between : {T : Type 0} → (T → T → Option Ordering) → List T → T → T → ℕ → ℕ → List ℕ
-hits_between partial_cmp values low high from to = hits (is_between partial_cmp low high) values from (span (length values) from to)
+hits_between partial_cmp values low high from to =
+    hits (is_between partial_cmp low high) values from (span (length values) from to)
 
 -- no value is below the first or above the second
-pub record Encloses {T : Type 0} (partial_cmp : T → T → Option Ordering) (low high : T) (values : List T) : Type 0 where
+pub record Encloses {T : Type 0} (partial_cmp : T → T → Option Ordering) (low high : T)
+    (values : List T) : Type 0 where
   pub below : All (IsAtMost partial_cmp low) values
   pub above : All (λ v. IsAtMost partial_cmp v high) values
 

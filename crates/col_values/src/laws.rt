@@ -1,8 +1,25 @@
-//! Laws of the numbers of values and of maps, each the contract of a call that does nothing.
-ghost use Rattle.std.specs.Prelude.{◌^◌};
-ghost use Rattle.col_values.specs.Laws.{NumbersIncrease, ImagesAreTold, EachIsImage, ImagesReachDown, Increases, LeadsBack};
+//! Laws of lists, of the numbers of values and of maps, each the contract of a public call.
+ghost use Rattle.std.specs.Prelude.{◌≡◌, ◌^◌, length};
+ghost use Rattle.col_values.specs.Laws.{NumbersIncrease, ImagesAreTold, EachIsImage, Increases, LeadsBack};
 
-use crate::{MonotonicallyMappableToU64, MonotonicallyMappableToU128, StrictlyMonotonicFn};
+use crate::{
+    ColumnValues, MonotonicallyMappableToU64, MonotonicallyMappableToU128, StrictlyMonotonicFn,
+};
+use col_common::Iterable;
+
+/// How many items an iterator gives before it ends: as many as the list has.
+pub fn count_items<T: PartialOrd + Copy, V: ColumnValues<T>>(values: &V) -> u64
+    ensures { result ≡ length (V.values values.now) }
+{
+    let _len = values.num_vals();
+    let items = values.iter();
+    let mut at = items.walk();
+    let mut count = 0;
+    while let Some(_item) = items.next(&mut at) {
+        count += 1;
+    }
+    count
+}
 
 /// `to_u64` strictly increases.
 pub fn numbers_of_64_bits_increase<T: MonotonicallyMappableToU64>()
@@ -17,11 +34,6 @@ pub fn numbers_of_64_bits_are_read_back<T: MonotonicallyMappableToU64>()
 /// A number is the number of a value exactly where `is_image` says so.
 pub fn images_are_told<T: MonotonicallyMappableToU64>()
     ensures { ImagesAreTold (2 ^ 64) T.in_type T.code T.is_code }
-{}
-
-/// Each number up to an image is an image.
-pub fn images_reach_down<T: MonotonicallyMappableToU64>()
-    ensures { ImagesReachDown T.is_code }
 {}
 
 /// `to_u128` strictly increases.

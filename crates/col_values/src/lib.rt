@@ -1,4 +1,4 @@
-//! Values by position: what a list of values can be asked, views of such lists, and maps that keep an order.
+//! Values by position: what a list of values can be asked, its views, and maps that keep an order.
 #![tactic(auto)]
 
 mod column_values;
@@ -15,7 +15,7 @@ mod vec_column;
 pub use column_values::ColumnValues;
 pub use empty_column_values::EmptyColumnValues;
 pub use laws::{
-    images_are_told, images_reach_down, inverses_lead_back, maps_increase,
+    count_items, images_are_told, inverses_lead_back, maps_increase,
     numbers_of_64_bits_are_read_back, numbers_of_64_bits_increase, numbers_of_128_bits_are_images,
     numbers_of_128_bits_are_read_back, numbers_of_128_bits_increase,
 };

@@ -1,10 +1,15 @@
 //! A list of values seen through a map.
-ghost use Rattle.std.specs.Prelude.{◌≡◌, map as map_by};
-ghost use Rattle.col_values.specs.Bounds.{IsMappedBound};
-ghost use Rattle.col_values.specs.Monotonic.{AllMapped};
+ghost use Rattle.std.specs.Prelude.{◌≡◌, ◌+◌, ◌<◌, ◌≤◌, length, take, drop, map as map_by};
+ghost use Rattle.std.specs.List.{All};
+ghost use Rattle.col_values.specs.Bounds.{IsMappedBound, IsOfValues, AreExact};
+ghost use Rattle.col_values.specs.Monotonic.{AllMapped, Passes};
 
 use crate::{ColumnValues, StrictlyMonotonicFn};
+use col_common::{Iterable, Walk};
 use std::marker::{Model, PhantomData};
+
+// So many values are read before they are mapped.
+const BLOCK_LEN: usize = 64;
 
 /// A list of values seen through a map.
 #[derive(Drop)]
@@ -63,6 +68,9 @@ where
         (M.there map) (V.values values) (V.IsLeast values) result.low }
     ensures greatest { IsMappedBound Internal.is_default
         (M.there map) (V.values values) (V.IsGreatest values) result.high }
+    ensures exact { IsOfValues (V.values values) (V.IsLeast values) →
+        IsOfValues (V.values values) (V.IsGreatest values) →
+        AreExact Internal.partial_cmp Internal.is_default result.values result.low result.high }
 {
     let (min_value, max_value) = if values.num_vals() == 0 {
         (Internal::default(), Internal::default())
@@ -78,6 +86,23 @@ where
         min_value,
         max_value,
         types: PhantomData,
+    }
+}
+
+impl<Internal, V, M> MonotonicColumn<u64, Internal, V, M>
+where
+    Internal: PartialOrd + Copy,
+    V: ColumnValues<u64>,
+    M: StrictlyMonotonicFn<u64, Internal>,
+{
+    /// Does what `get_range` does, with numbers that the list's own `get_range` reads, a block at a
+    /// time.
+    pub fn get_mapped_range(&self, start: u64, output: &mut [Internal])
+        requires { start + length output.old ≤ length self.now.values }
+        ensures { output.new ≡ take (length output.old) (drop start self.now.values) }
+    {
+        let mut block = [0; BLOCK_LEN];
+        map_range(&self.values, &self.mapping, start, &mut block, output);
     }
 }
 
@@ -109,5 +134,72 @@ where
 
     fn max_value(&self) -> Internal {
         self.max_value
+    }
+}
+
+// What the values from a position on are mapped to, a block at a time.
+fn map_range<External, Internal, V, M>(
+    values: &V,
+    mapping: &M,
+    start: u64,
+    block: &mut [External],
+    output: &mut [Internal],
+)
+where
+    External: PartialOrd + Copy,
+    Internal: PartialOrd + Copy,
+    V: ColumnValues<External>,
+    M: StrictlyMonotonicFn<External, Internal>,
+    requires inside { All (Passes (M.is_in mapping.now)) (V.values values.now) }
+    requires within { start + length output.old ≤ length (V.values values.now) }
+    requires room { 0 < length block.old }
+    ensures { output.new ≡
+        take (length output.old) (drop start (map_by (M.there mapping.now) (V.values values.now))) }
+{
+    // That there are fewer than 2 ^ 32 values is known of the count.
+    let _count = values.num_vals();
+    let mut done = 0;
+    while done < output.len() {
+        let len = (output.len() - done).min(block.len());
+        values.get_range(start + done as u64, &mut block[..len]);
+        map_block(mapping, &block[..len], &mut output[done..done + len]);
+        done += len;
+    }
+}
+
+// What the values of a block are mapped to.
+fn map_block<External, Internal, M>(mapping: &M, block: &[External], output: &mut [Internal])
+where
+    External: PartialOrd + Copy,
+    Internal: PartialOrd + Copy,
+    M: StrictlyMonotonicFn<External, Internal>,
+    requires inside { All (Passes (M.is_in mapping.now)) block.now }
+    requires alike { length block.now ≡ length output.old }
+    ensures { output.new ≡ map_by (M.there mapping.now) block.now }
+{
+    for at in 0..block.len() {
+        output[at] = mapping.mapping(block[at]);
+    }
+}
+
+impl<External, Internal, V, M> Iterable<Internal> for MonotonicColumn<External, Internal, V, M>
+where
+    External: PartialOrd + Copy,
+    Internal: PartialOrd + Copy,
+    V: ColumnValues<External>,
+    M: StrictlyMonotonicFn<External, Internal>,
+{
+    ghost items = { λ c. c.values };
+
+    ghost stands = { λ c w. w.place ≤ length c.values };
+
+    ghost left = { λ c w. drop w.place c.values };
+
+    fn walk(&self) -> Walk {
+        self.iter().walk()
+    }
+
+    fn next(&self, at: &mut Walk) -> Option<Internal> {
+        self.iter().next(at)
     }
 }

@@ -6,7 +6,8 @@ ghost use Rattle.col_values.specs.CodeLaws.{number_laws};
 
 use col_common::Ipv6Addr;
 
-/// A type whose values stand as numbers of 128 bits, in their order. Each such number stands for a value.
+/// A type whose values stand as numbers of 128 bits, in their order. Each such number stands for a
+/// value.
 pub trait MonotonicallyMappableToU128: PartialOrd + Copy {
     /// Holds of the values of the type.
     ghost in_type: { Self → Bool };

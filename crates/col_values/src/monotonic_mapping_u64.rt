@@ -3,6 +3,7 @@ ghost use Rattle.std.specs.Prelude.{◌≡◌, ℕ, ◌^◌, Bool, true};
 ghost use Rattle.col_model.specs.Column.{signed_of};
 ghost use Rattle.col_model.specs.Images.{is_image_of_bool, is_image_of_u32};
 ghost use Rattle.col_values.specs.Monotonic.{Passes};
+ghost use Rattle.col_values.specs.Laws.{ImagesReachDown};
 ghost use Rattle.col_values.specs.Codes.{IsCoded, is_below, bool_code, bool_value, i64_code, is_i64};
 ghost use Rattle.col_values.specs.CodeLaws.{number_laws, u32_laws, bool_laws, i64_laws};
 
@@ -42,6 +43,11 @@ pub trait MonotonicallyMappableToU64: PartialOrd + Copy {
     fn is_image(val: u64) -> bool
         ensures { result ≡ is_code val };
 
+    /// Whether it is said that each number up to an image is one, so that the greatest of some numbers
+    /// tells of all.
+    fn images_reach_down() -> bool
+        ensures { result ≡ true → ImagesReachDown is_code };
+
     /// The numbers stand for the values in their order.
     ghost laws: { IsCoded (2 ^ 64) Self.partial_cmp in_type code value is_code };
 }
@@ -76,6 +82,11 @@ impl MonotonicallyMappableToU64 for u64 {
     fn is_image(_val: u64) -> bool {
         true
     }
+
+    #[inline(always)]
+    fn images_reach_down() -> bool {
+        true
+    }
 }
 
 impl MonotonicallyMappableToU64 for u32 {
@@ -108,6 +119,11 @@ impl MonotonicallyMappableToU64 for u32 {
     fn is_image(val: u64) -> bool {
         val <= u64::from(u32::MAX)
     }
+
+    #[inline(always)]
+    fn images_reach_down() -> bool {
+        true
+    }
 }
 
 impl MonotonicallyMappableToU64 for bool {
@@ -137,6 +153,11 @@ impl MonotonicallyMappableToU64 for bool {
     #[inline(always)]
     fn is_image(val: u64) -> bool {
         val <= u64::from(true)
+    }
+
+    #[inline(always)]
+    fn images_reach_down() -> bool {
+        true
     }
 }
 
@@ -170,6 +191,11 @@ impl MonotonicallyMappableToU64 for i64 {
     fn is_image(_val: u64) -> bool {
         true
     }
+
+    #[inline(always)]
+    fn images_reach_down() -> bool {
+        true
+    }
 }
 
 impl MonotonicallyMappableToU64 for DateTime {
@@ -200,6 +226,11 @@ impl MonotonicallyMappableToU64 for DateTime {
 
     #[inline(always)]
     fn is_image(_val: u64) -> bool {
+        true
+    }
+
+    #[inline(always)]
+    fn images_reach_down() -> bool {
         true
     }
 }

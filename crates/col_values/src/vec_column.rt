@@ -1,8 +1,9 @@
 //! Values in a vector.
-ghost use Rattle.std.specs.Prelude.{◌≡◌, ◌^◌, ◌<◌, length};
+ghost use Rattle.std.specs.Prelude.{◌≡◌, ◌^◌, ◌<◌, ◌≤◌, length, drop};
 ghost use Rattle.col_values.specs.Bounds.{AreExact};
 
 use crate::ColumnValues;
+use col_common::{Iterable, Walk};
 use std::marker::Model;
 
 /// Values in a vector.
@@ -88,5 +89,21 @@ impl<T: PartialOrd + Copy> ColumnValues<T> for VecColumn<T> {
 
     fn max_value(&self) -> T {
         self.max_value
+    }
+}
+
+impl<T: PartialOrd + Copy> Iterable<T> for VecColumn<T> {
+    ghost items = { λ c. c.values };
+
+    ghost stands = { λ c w. w.place ≤ length c.values };
+
+    ghost left = { λ c w. drop w.place c.values };
+
+    fn walk(&self) -> Walk {
+        self.iter().walk()
+    }
+
+    fn next(&self, at: &mut Walk) -> Option<T> {
+        self.iter().next(at)
     }
 }

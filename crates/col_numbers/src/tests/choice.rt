@@ -1,13 +1,15 @@
 //! The codec that is chosen, and lists of several types that are written and read back.
 
 use crate::{
-    ALL_U64_CODEC_TYPES, CodecType, NumValues, load_u64_based_column_values,
-    serialize_and_load_u64_based_column_values, serialize_u64_based_column_values,
+    ALL_U64_CODEC_TYPES, CodecType, NumValues, codecs_compare_as_their_codes,
+    load_u64_based_column_values, serialize_and_load_u64_based_column_values,
+    serialize_u64_based_column_values,
 };
 use bytes::Bytes;
 use col_common::{ColumnarError, VecSink};
 use col_values::ColumnValues;
 use std::alloc::Global;
+use std::process::Abort;
 use std::test::Fail;
 
 const LINEAR: [CodecType; 1] = [CodecType::Linear];
@@ -67,28 +69,36 @@ fn the_first_codec_of_the_least_estimate_is_written(rt: HostRuntime) -> Result<(
 }
 
 #[test]
-fn lists_that_no_codec_applies_to_are_refused(rt: HostRuntime) -> Result<(), Fail> {
+fn lists_take_as_many_bytes_as_their_form_has(rt: HostRuntime) -> Result<(), Fail> {
     let alloc = rt.alloc();
-    let few = rising(alloc, 511)?;
-    assert_eq!(rt;
-        written(alloc, &few, &LINEAR).err(),
-        Some(ColumnarError::NoCodec)
-    );
-    assert_eq!(rt;
-        written(alloc, &few, &[]).err(),
-        Some(ColumnarError::NoCodec)
-    );
-    assert_eq!(rt;
-        written(alloc, &[], &[]).err(),
-        Some(ColumnarError::NoCodec)
-    );
+    let thousands: Vec<u64> = (0..80u64).map(|i| i % 7 * 1000).collect(alloc)?;
+    assert_eq!(rt; written(alloc, &thousands, &BITPACKED)?.len(), 36);
+    assert_eq!(rt; written(alloc, &[1, 2, 5], &WITHOUT_LINEAR)?.len(), 7);
     let nothing = written(alloc, &[], &ALL_U64_CODEC_TYPES)?;
     assert_eq!(rt; nothing.as_slice(), [0, 0x80, 0x81, 0x80, 0x80].as_slice());
     Ok(())
 }
 
 #[test]
+fn lists_that_no_codec_applies_to_are_refused(rt: HostRuntime) -> Result<(), Fail> {
+    let alloc = rt.alloc();
+    let few = rising(alloc, 511)?;
+    for (vals, codec_types) in [
+        (few.as_slice(), LINEAR.as_slice()),
+        (few.as_slice(), [].as_slice()),
+        ([].as_slice(), [].as_slice()),
+    ] {
+        assert_eq!(rt;
+            written(alloc, vals, codec_types).err(),
+            Some(ColumnarError::NoCodec)
+        );
+    }
+    Ok(())
+}
+
+#[test]
 fn codes_name_codecs(rt: HostRuntime) {
+    codecs_compare_as_their_codes();
     for (code, codec) in [
         (0, Some(CodecType::Bitpacked)),
         (1, Some(CodecType::Linear)),
@@ -99,35 +109,55 @@ fn codes_name_codecs(rt: HostRuntime) {
     }
 }
 
-#[test]
-fn numbers_are_read_back_as_values_of_their_type_alone(rt: HostRuntime) -> Result<(), Fail> {
-    let alloc = rt.alloc();
-    let vals = [1u64, 5, 10];
-    let numbers: NumValues<u64> = serialize_and_load_u64_based_column_values(
-        alloc,
-        &vals.as_slice(),
-        &ALL_U64_CODEC_TYPES,
-    )?;
-    assert_eq!(rt; numbers.num_vals(), 3);
+// What a column of values gives, which is written again from the column itself.
+fn is_given_again(
+    rt: &impl Abort,
+    alloc: Global,
+    numbers: &NumValues<i64>,
+    vals: &[i64; 3],
+    bytes: &[u8],
+) -> Result<(), Fail> {
+    assert_eq!(rt; (numbers.min_value(), numbers.max_value()), (-1, 300));
     let mut read = [0; 3];
     numbers.get_range(0, &mut read);
-    assert_eq!(rt; read, vals);
-    assert_eq!(rt; (numbers.min_value(), numbers.max_value()), (1, 10));
+    assert_eq!(rt; read, *vals);
+    let mut found = [None; 1];
+    numbers.get_vals_opt(&[1], &mut found);
+    assert_eq!(rt; found, [Some(-1)]);
+    numbers.get_vals(&[2, 1, 0], &mut read);
+    assert_eq!(rt; read, [vals[2], vals[1], vals[0]]);
     let mut hits = Vec::new(alloc);
-    numbers.get_row_ids_for_value_range(5..=9, 0..3, &mut hits)?;
-    assert_eq!(rt; hits.as_slice(), [1].as_slice());
-    let bools: Result<NumValues<bool>, ColumnarError> = serialize_and_load_u64_based_column_values(
-        alloc,
-        &vals.as_slice(),
-        &ALL_U64_CODEC_TYPES,
-    );
-    assert_eq!(rt; bools.err(), Some(ColumnarError::InvalidData));
-    let signed: NumValues<i64> = serialize_and_load_u64_based_column_values(
-        alloc,
-        &[1u64 << 63, (1 << 63) - 1].as_slice(),
-        &BITPACKED,
-    )?;
-    assert_eq!(rt; (signed.min_value(), signed.max_value()), (-1, 0));
+    numbers.get_row_ids_for_value_range(0..=299, 0..3, &mut hits)?;
+    assert_eq!(rt; hits.as_slice(), [0].as_slice());
+    let mut sink = VecSink::new(Vec::new(alloc), Vec::new(alloc));
+    serialize_u64_based_column_values(alloc, numbers, &ALL_U64_CODEC_TYPES, &mut sink)?;
+    assert_eq!(rt; sink.bytes(), bytes);
+    Ok(())
+}
+
+#[test]
+fn a_column_is_written_again_as_it_was_read(rt: HostRuntime) -> Result<(), Fail> {
+    let alloc = rt.alloc();
+    let vals = [5, -1, 300];
+    let mut sink = VecSink::new(Vec::new(alloc), Vec::new(alloc));
+    serialize_u64_based_column_values(alloc, &vals.as_slice(), &ALL_U64_CODEC_TYPES, &mut sink)?;
+    let bytes = sink.bytes();
+    let numbers = load_u64_based_column_values(alloc, Bytes::copy_from_slice(alloc, bytes)?)?;
+    is_given_again(&rt, alloc, &numbers, &vals, bytes)
+}
+
+#[test]
+fn without_values_both_bounds_are_the_default(rt: HostRuntime) -> Result<(), Fail> {
+    let alloc = rt.alloc();
+    for codec in [CodecType::Bitpacked, CodecType::BlockwiseLinear] {
+        let nothing: NumValues<i64> = serialize_and_load_u64_based_column_values(
+            alloc,
+            &[].as_slice(),
+            &[codec],
+        )?;
+        assert_eq!(rt; nothing.num_vals(), 0);
+        assert_eq!(rt; (nothing.min_value(), nothing.max_value()), (0, 0));
+    }
     Ok(())
 }
 
@@ -152,13 +182,19 @@ fn two_bools_take_six_bytes(rt: HostRuntime) -> Result<(), Fail> {
 }
 
 #[test]
-fn bytes_of_no_codec_are_invalid(rt: HostRuntime) -> Result<(), Fail> {
+fn bytes_of_no_codec_and_numbers_of_no_value_are_invalid(rt: HostRuntime) -> Result<(), Fail> {
     let alloc = rt.alloc();
     let refused: [(&str, &[u8]); 3] = [
         ("nothing", &[]),
         ("another codec", &[3, 0x80, 0x81, 0x80, 0x80]),
         ("a byte behind", &[0, 0x80, 0x81, 0x80, 0x80, 0]),
     ];
+    let bools: Result<NumValues<bool>, ColumnarError> = serialize_and_load_u64_based_column_values(
+        alloc,
+        &[1u64, 5, 10].as_slice(),
+        &ALL_U64_CODEC_TYPES,
+    );
+    assert_eq!(rt; bools.err(), Some(ColumnarError::InvalidData));
     for (what, bytes) in refused {
         let list: Result<NumValues<u64>, ColumnarError> = load_u64_based_column_values(
             alloc,

@@ -1,25 +1,28 @@
 //! Lists of values, by examples.
 
 use crate::tests::doubling::Doubling;
-use crate::{ColumnValues, EmptyColumnValues, VecColumn, monotonic_map_column};
+use crate::{ColumnValues, EmptyColumnValues, VecColumn, count_items, monotonic_map_column};
 use col_common::Iterable;
 use std::test::Fail;
 
 #[test]
-fn a_mapped_list_is_found_by_its_images(rt: HostRuntime) -> Result<(), Fail> {
+fn a_mapped_list_is_read_and_found_by_its_images(rt: HostRuntime) -> Result<(), Fail> {
     let alloc = rt.alloc();
     let doubled = monotonic_map_column(VecColumn::from_vec(vec![in alloc; 1, 2, 3]?), Doubling);
-    assert_eq!(rt; doubled.num_vals(), 3);
-    for (idx, value) in [(0, 2), (1, 4), (2, 6)] {
-        assert_eq!(rt; doubled.get_val(idx), value, "{idx}");
+    let mut read = [0; 3];
+    doubled.get_range(0, &mut read);
+    assert_eq!(rt; read, [2, 4, 6]);
+    let mut read = [0; 2];
+    doubled.get_mapped_range(1, &mut read);
+    assert_eq!(rt; read, [4, 6]);
+    assert_eq!(rt; (doubled.min_value(), doubled.max_value()), (2, 6));
+    let mut at = doubled.walk();
+    for item in [Some(2), Some(4), Some(6), None] {
+        assert_eq!(rt; doubled.next(&mut at), item);
     }
-    assert_eq!(rt; doubled.min_value(), 2);
-    assert_eq!(rt; doubled.max_value(), 6);
     let mut hits = vec![in alloc; 7]?;
     doubled.get_row_ids_for_value_range(3..=5, 0..3, &mut hits)?;
     assert_eq!(rt; hits.as_slice(), [1].as_slice());
-    doubled.get_row_ids_for_value_range(3..=3, 0..3, &mut hits)?;
-    assert_eq!(rt; hits.len(), 0);
     Ok(())
 }
 
@@ -65,59 +68,37 @@ fn a_lookup_replaces_its_hits_by_the_positions_inside(rt: HostRuntime) -> Result
 }
 
 #[test]
-fn values_are_read_at_positions_and_from_one_on(rt: HostRuntime) -> Result<(), Fail> {
+fn values_are_read_at_positions_from_one_on_and_in_a_walk(rt: HostRuntime) -> Result<(), Fail> {
     let column = VecColumn::from_vec(vec![in rt.alloc(); 5, 1, 9]?);
+    assert_eq!(rt; count_items(&column), 3);
+    assert_eq!(rt; (column.min_value(), column.max_value()), (1, 9));
     let mut output = [0, 0];
     column.get_vals(&[2, 0], &mut output);
-    assert_eq!(rt; output.as_slice(), [9, 5].as_slice());
+    assert_eq!(rt; output, [9, 5]);
     let mut found = [None, None];
     column.get_vals_opt(&[1, 1], &mut found);
-    assert_eq!(rt; found.as_slice(), [Some(1), Some(1)].as_slice());
+    assert_eq!(rt; found, [Some(1), Some(1)]);
     column.get_range(1, &mut output);
-    assert_eq!(rt; output.as_slice(), [1, 9].as_slice());
-    Ok(())
-}
-
-#[test]
-fn bounds_are_the_least_and_the_greatest(rt: HostRuntime) -> Result<(), Fail> {
-    let column = VecColumn::from_vec(vec![in rt.alloc(); 5, 1, 9]?);
-    assert_eq!(rt; column.min_value(), 1);
-    assert_eq!(rt; column.max_value(), 9);
+    assert_eq!(rt; output, [1, 9]);
+    let mut at = column.walk();
+    for item in [Some(5), Some(1), Some(9), None] {
+        assert_eq!(rt; column.next(&mut at), item);
+    }
     assert_eq!(rt; column.into_vec().as_slice(), [5, 1, 9].as_slice());
     Ok(())
 }
 
 #[test]
-fn a_walk_gives_each_value_once(rt: HostRuntime) -> Result<(), Fail> {
-    let column = VecColumn::from_vec(vec![in rt.alloc(); true, false]?);
-    let list = column.iter();
-    let mut at = list.walk();
-    assert_eq!(rt; list.next(&mut at), Some(true));
-    assert_eq!(rt; list.next(&mut at), Some(false));
-    assert_eq!(rt; list.next(&mut at), None);
-    Ok(())
-}
-
-#[test]
-fn without_values_both_bounds_are_a_default(rt: HostRuntime) -> Result<(), Fail> {
-    let column = VecColumn::from_vec(Vec::<u64>::new(rt.alloc()));
-    assert_eq!(rt; column.min_value(), 0);
-    assert_eq!(rt; column.max_value(), 0);
-    let doubled = monotonic_map_column(column, Doubling);
+fn without_values_both_bounds_are_a_default_and_nothing_is_found(
+    rt: HostRuntime,
+) -> Result<(), Fail> {
+    let doubled = monotonic_map_column(VecColumn::from_vec(Vec::<u64>::new(rt.alloc())), Doubling);
     assert_eq!(rt; doubled.num_vals(), 0);
-    assert_eq!(rt; doubled.max_value(), 0);
-    Ok(())
-}
-
-#[test]
-fn no_values_are_found_nowhere(rt: HostRuntime) -> Result<(), Fail> {
+    assert_eq!(rt; (doubled.min_value(), doubled.max_value()), (0, 0));
     let none = EmptyColumnValues;
     let values: [i64; 3] = [none.min_value(), none.max_value(), none.get_val(0)];
     assert_eq!(rt; values, [0, 0, 0]);
-    assert_eq!(rt;
-        <EmptyColumnValues as ColumnValues<i64>>::num_vals(&none),
-        0
-    );
+    assert_eq!(rt; count_items::<i64, EmptyColumnValues>(&none), 0);
     let mut hits = vec![in rt.alloc(); 7]?;
     none.get_row_ids_for_value_range(0..=0, 0..9, &mut hits)?;
     assert_eq!(rt; hits.len(), 0);

@@ -1,5 +1,5 @@
 use Rattle.std.proofs.Common.{◌≡◌, ◌+◌, ◌≤◌, length, drop}
-use Rattle.col_numbers.proofs.laws.count_items.Given as goal
+use Rattle.col_values.proofs.laws.count_items.Given as goal
 
 -- what was counted and what is left are the list
 abbrev pub invariant-loop-item : goal.invariant-loop-item
