@@ -4,6 +4,7 @@ use Rattle.std.specs.Int.{div_ceil}
 use Rattle.std.specs.List.{AllByRecursion}
 use Rattle.std.proofs.lemmas.Bool.{cases_lt}
 use Rattle.std.proofs.lemmas.List.{length-map, length-take, length-drop, take-append-drop}
+use Rattle.std.proofs.lemmas.List.Folds.{flat_map-map}
 use Rattle.col_common.specs.Reading.{◌>>=◌, nothing_left, items}
 use Rattle.col_common.specs.VInt.{group_bytes}
 use Rattle.col_common.proofs.VIntLemmas.{group_bytes-short, group_bytes-long}
@@ -14,22 +15,13 @@ use Rattle.col_model.specs.U64List.{Slope, slope_at, block_len, blocks, joined_l
 use Rattle.col_model.specs.Codecs.{slope_bytes, offsets_from, block_size, cut_blocks, block_count, blocks_of, block_line, packed_block, lines_bytes, blocks_bytes, steps_above, blockwise_body}
 use Rattle.col_model.specs.Laws.{BlockwiseIsReadBack}
 use Rattle.col_model.proofs.StatsLaws.{all_by, mapped_all, map-map, map-same}
+use Rattle.col_model.proofs.ListLaws.{all_taken, all_dropped}
 use Rattle.col_model.proofs.ReadingLaws.{front-append, parts_by_second-w64, items-flat_map}
 use Rattle.col_model.proofs.U64ListLaws.{stats_of-describes, steps_list-back}
 use Rattle.col_model.proofs.CodecLaws.{IsWritable, slope_at-slope_bytes, block_line-writable, block_offsets-fit}
 use Rattle.col_model.proofs.LinearLaws.{length-offsets_from, packed-packed_offsets, items-above_line, values64-behind_stats}
 
 -- ---- cuts into blocks
-
-all_taken : (P : ℕ → Type 0) (n : ℕ) (xs : List ℕ) → AllByRecursion P xs → AllByRecursion P (take n xs)
-all_taken P zero xs all = tt
-all_taken P (suc n) [] all = tt
-all_taken P (suc n) (x ∷ xs) all = (all.0, all_taken P n xs all.1)
-
-all_dropped : (P : ℕ → Type 0) (n : ℕ) (xs : List ℕ) → AllByRecursion P xs → AllByRecursion P (drop n xs)
-all_dropped P zero xs all = all
-all_dropped P (suc n) [] all = tt
-all_dropped P (suc n) (x ∷ xs) all = all_dropped P n xs all.1
 
 pub length-cut_blocks : (k : ℕ) (xs : List ℕ) → length (cut_blocks k xs) ≡ k
 unfolding cut_blocks
@@ -71,10 +63,6 @@ blocks-cut_blocks (suc k) xs rest all =
 
 -- ---- lines are read back
 
-flat_map-map : {A B C : Type 0} (f : A → B) (g : B → List C) (xs : List A) → flat_map g (map f xs) ≡ flat_map (λ x. g (f x)) xs
-flat_map-map f g [] = refl
-flat_map-map f g (x ∷ xs) = ap (λ r. g (f x) ++ r) (flat_map-map f g xs)
-
 lines-writable : (bs : List (List ℕ)) → AllByRecursion IsWritable (map block_line bs)
 lines-writable [] = tt
 lines-writable (b ∷ bs) = (block_line-writable b, lines-writable bs)
@@ -82,7 +70,7 @@ lines-writable (b ∷ bs) = (block_line-writable b, lines-writable bs)
 pub items-lines_bytes : (n : ℕ) (bs : List (List ℕ)) → n ≡ length bs → (items slope_at n (lines_bytes bs) >>= nothing_left) ≡ Some (map block_line bs)
 items-lines_bytes n bs e =
     let read = items-flat_map slope_at slope_bytes IsWritable slope_at-slope_bytes (map block_line bs) [] (lines-writable bs) in
-    let same = rw (append-nil, flat_map-map block_line slope_bytes bs, length-map bs block_line, ← e) at read in
+    let same = rw (append-nil, flat_map-map slope_bytes block_line bs, length-map bs block_line, ← e) at read in
     rw same refl
 
 length-group_bytes : (k n : ℕ) → length (group_bytes k n) ≤ k

@@ -84,12 +84,3 @@ unfolding are_blocks
 at_block-end n ls bytes k start so h = rw (so.so_far, drop_all k ls h, length-drop start bytes) refl
 
 -- ---- for a reader of the items
-
-pub length-blockwise_items : (s : Stats) (ls : List Slope) (bytes : List ℕ) → length (blockwise_items s ls bytes) ≡ s.count
-length-blockwise_items s ls bytes = length-map-range_with_len (blockwise_item s ls bytes) 0 s.count
-
-pub blockwise_items-at : (s : Stats) (ls : List Slope) (bytes : List ℕ) (i : ℕ) → i < s.count → slice_index (blockwise_items s ls bytes) i ≡ blockwise_item s ls bytes i
-blockwise_items-at s ls bytes i h = get_or-map-range_with_len (blockwise_item s ls bytes) 0 s.count i i 0 h (omega arith)
-
-pub blockwise_item-below : (s : Stats) (ls : List Slope) (bytes : List ℕ) (i : ℕ) → blockwise_item s ls bytes i < 2 ^ 64
-blockwise_item-below s ls bytes i = mod-lt (s.least + s.divisor * block_item s.count ls bytes i) (lit< tt)

@@ -119,10 +119,6 @@ all-enumerated P xs i x h e all =
     let place : slice_index_or (enumerate_from 0 xs) i (0, 0) ≡ (i, x) = get_or-enumerate_from 0 xs i (0, 0) h ∙ ap (λ k. (k, slice_index xs i)) (omega arith) ∙ ap (λ v. (i, v)) e in
     rw place at (All-get_or P (enumerate_from 0 xs) i (0, 0) (rw (length-enumerate_from 0 xs) h) (All-from_recursion P (enumerate_from 0 xs) all))
 
--- the offset of the item at a place
-pub linear_offset-at : (xs : List ℕ) (i x : ℕ) → i < length xs → slice_index xs i ≡ x → (offset_from (linear_line xs) (i, x) ≡ deviation (trained xs) (i, x) - lowest xs) × (offset_from (linear_line xs) (i, x) < 2 ^ (linear_line xs).offset_width)
-linear_offset-at xs i x h e = linear-offset xs (i, x) (all-enumerated (λ p. (lowest xs ≤ deviation (trained xs) p) × (deviation (trained xs) p ≤ highest xs)) xs i x h e (deviations-within xs))
-
 -- ---- blocks
 
 -- a block's line without its width
@@ -142,6 +138,3 @@ unfolding block_line
 block_offsets-fit xs =
     let os = offsets_from (bare_line xs) xs in
     all_by (λ v h. lt_of_le_of_lt h (width-above (greatest_of os) (greatest_offset-below (bare_line xs) xs))) os (fold-max 0 os).1
-
-pub block_offset-at : (xs : List ℕ) (i x : ℕ) → i < length xs → slice_index xs i ≡ x → offset_from (block_line xs) (i, x) < 2 ^ (block_line xs).offset_width
-block_offset-at xs i x h e = all-enumerated (λ p. offset_from (block_line xs) p < 2 ^ (block_line xs).offset_width) xs i x h e (all_mapped (λ v. v < 2 ^ (block_line xs).offset_width) (offset_from (block_line xs)) (enumerate_from 0 xs) (block_offsets-fit xs))

@@ -39,7 +39,3 @@ unfolding cut_blocks
 cut_blocks-at zero k xs d h = absurd (omega arith)
 cut_blocks-at (suc m) zero xs d h = refl
 cut_blocks-at (suc m) (suc k) xs d h = cut_blocks-at m k (drop block_size xs) d (omega arith) ∙ later-block k xs
-
--- how many items block k has
-pub length-block_at : (k : ℕ) (xs : List ℕ) → length (block_at k xs) ≡ block_len (length xs - 512 * k)
-length-block_at k xs = length-take block_size (drop (512 * k) xs) ∙ rw (length-drop (512 * k) xs) (omega arith)

@@ -1,5 +1,5 @@
 -- A file is read back from its parts, whichever bytes its columns have.
-use Rattle.std.proofs.Common.{◌≡◌, ℕ, ◌+◌, ◌-◌, ◌^◌, ◌<◌, List, [], ◌∷◌, ◌++◌, length, map, flat_map, sum, slice_range, Some, true, refl, sym, ◌∙◌, ap, ap₂, arith, append_assoc, length-append}
+use Rattle.std.proofs.Common.{◌≡◌, ℕ, ◌+◌, ◌-◌, ◌^◌, ◌<◌, List, [], ◌∷◌, ◌++◌, length, map, flat_map, sum, slice_range, Some, true, refl, sym, ◌∙◌, ap, ap₂, arith, append_assoc, length-append, append-nil}
 use Rattle.std.specs.List.{AllByRecursion, list_all}
 use Rattle.std.specs.Int.{w32, w64, to_le_bytes}
 use Rattle.std.proofs.lemmas.Bool.{eq-eqb, and_from}
@@ -52,14 +52,10 @@ unfolding keyed_length keyed_length_bytes
 keyed_length-keyed_length_bytes p rest h =
     rw (append_assoc, vint-vint_bytes (length (key_bytes p.0)) _ h.key_fits, append_assoc, front-append (length (key_bytes p.0)) (key_bytes p.0) _ refl, key_of-key_bytes p.0 h.name, vint-vint_bytes p.1 rest h.size_fits) refl
 
-append-none : (xs : List ℕ) → xs ++ [] ≡ xs
-append-none [] = refl
-append-none (x ∷ xs) = ap (λ r. x ∷ r) (append-none xs)
-
 pub key_table-key_table_bytes : (ps : List (Key × ℕ)) → AllByRecursion IsSpelled ps → length ps < 2 ^ 64 → are_keys (map (λ p. p.0) ps) ≡ true → key_table (key_table_bytes ps) ≡ Some ps
 unfolding key_table key_table_bytes
 key_table-key_table_bytes ps all h e =
-    let read : items keyed_length (length ps) (flat_map keyed_length_bytes ps) ≡ Some (ps, []) = ap (items keyed_length (length ps)) (sym (append-none (flat_map keyed_length_bytes ps))) ∙ items-flat_map keyed_length keyed_length_bytes IsSpelled keyed_length-keyed_length_bytes ps [] all in
+    let read : items keyed_length (length ps) (flat_map keyed_length_bytes ps) ≡ Some (ps, []) = ap (items keyed_length (length ps)) (sym (append-nil (flat_map keyed_length_bytes ps))) ∙ items-flat_map keyed_length keyed_length_bytes IsSpelled keyed_length-keyed_length_bytes ps [] all in
     rw (vint-vint_bytes (length ps) (flat_map keyed_length_bytes ps) h, read, e) refl
 
 file_footer-parts : (a b c : List ℕ) (table_length row_count : ℕ) → le_number w64 a ≡ Some (table_length, b) → le_number w32 b ≡ Some (row_count, c) → le_number w32 c ≡ Some (2, magic) → file_footer a ≡ Some (record { table_length = table_length; row_count = row_count; version = 2 })

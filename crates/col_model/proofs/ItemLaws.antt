@@ -26,10 +26,6 @@ pub packed-items : (bytes : List ℕ) (w n : ℕ) → packed bytes w n ≡ only_
 unfolding packed
 packed-items bytes w n = ap (only_if (is_packed bytes (n * w))) (digits-items bytes w n)
 
--- where a packed list is read, the bytes are packed and its items are those of the bytes
-pub packed-parts : (bytes : List ℕ) (w n : ℕ) (xs : List ℕ) → packed bytes w n ≡ Some xs → (is_packed bytes (n * w) ≡ true) × (map (item bytes w) (range_with_len 0 n) ≡ xs)
-packed-parts bytes w n xs e = cond_some (is_packed bytes (n * w)) (map (item bytes w) (range_with_len 0 n)) xs (sym (packed-items bytes w n) ∙ e)
-
 -- bits from a on, w of them, are those of the number's lower part
 lower : (x y a w r : ℕ) → (x + y * 2 ^ (a + (w + r))) / 2 ^ a % 2 ^ w ≡ x / 2 ^ a % 2 ^ w
 lower x y a w r =
@@ -97,6 +93,3 @@ linear_items-at l bytes n i h = get_or-map-range_with_len (linear_item l bytes) 
 -- one item more
 pub linear_items-push : (l : Slope) (bytes : List ℕ) (n : ℕ) → linear_items l bytes (n + 1) ≡ linear_items l bytes n ++ linear_item l bytes n ∷ []
 linear_items-push l bytes n = map-range_with_len_more (linear_item l bytes) 0 n n (omega arith)
-
-pub linear_item-below : (l : Slope) (bytes : List ℕ) (i : ℕ) → linear_item l bytes i < 2 ^ 64
-linear_item-below l bytes i = mod-lt (line l.slope l.intercept i + item bytes l.offset_width i) (lit< tt)

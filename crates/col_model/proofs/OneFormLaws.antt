@@ -19,7 +19,7 @@ bytes_by_recursion [] b = tt
 bytes_by_recursion (c ∷ bytes) b = (b 0, bytes_by_recursion bytes (λ i. b (suc i)))
 
 -- what stands behind a part
-IsBytes-behind : (a rest : List ℕ) → IsBytes (a ++ rest) → IsBytes rest
+pub IsBytes-behind : (a rest : List ℕ) → IsBytes (a ++ rest) → IsBytes rest
 IsBytes-behind [] rest b = b
 IsBytes-behind (c ∷ a) rest b = IsBytes-behind a rest (λ i. b (suc i))
 

@@ -33,10 +33,6 @@ pub parts_by_first-w64 : (a b : List ℕ) → length a < 2 ^ 64 → parts_by_fir
 unfolding parts_by_first
 parts_by_first-w64 a b h = rw (back-append 8 (a ++ b) (to_le_bytes w64 (length a)) refl) (front-append _ a b (from_le_bytes-to_le_bytes_8 (length a) h))
 
-pub parts_by_first-w32 : (a b : List ℕ) → length a < 2 ^ 32 → parts_by_first w32 ((a ++ b) ++ to_le_bytes w32 (length a)) ≡ Some (a, b)
-unfolding parts_by_first
-parts_by_first-w32 a b h = rw (back-append 4 (a ++ b) (to_le_bytes w32 (length a)) refl) (front-append _ a b (from_le_bytes-to_le_bytes_4 (length a) h))
-
 pub parts_by_second-w64 : (a b : List ℕ) → length b < 2 ^ 64 → parts_by_second w64 ((a ++ b) ++ to_le_bytes w64 (length b)) ≡ Some (a, b)
 unfolding parts_by_second
 parts_by_second-w64 a b h = rw (back-append 8 (a ++ b) (to_le_bytes w64 (length b)) refl) (back-append _ a b (from_le_bytes-to_le_bytes_8 (length b) h))

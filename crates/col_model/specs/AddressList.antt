@@ -20,12 +20,16 @@ code_count rs = sum_by range_size rs
 -- the number that code k stands for: the k-th of the ranges, counted from 1
 unfoldable pub coded_number : List (ℕ × ℕ) → ℕ → ℕ
 coded_number [] k = 0
-coded_number (r ∷ rs) k = let later = coded_number rs (k - range_size r) in if nat_le k (range_size r) then r.0 + (k - 1) else later
+coded_number (r ∷ rs) k =
+    let later = coded_number rs (k - range_size r) in
+    if nat_le k (range_size r) then r.0 + (k - 1) else later
 
--- the ranges that a list of pairs spells: how far each start lies above the end before it, and how far its end above its start
+-- the ranges that a list of pairs spells: how far each start lies above the end before it, and
+-- how far its end above its start
 unfoldable pub ranges_from : ℕ → List (ℕ × ℕ) → List (ℕ × ℕ)
 ranges_from before [] = []
-ranges_from before (p ∷ ps) = (before + p.0, before + p.0 + p.1) ∷ ranges_from (before + p.0 + p.1) ps
+ranges_from before (p ∷ ps) =
+    (before + p.0, before + p.0 + p.1) ∷ ranges_from (before + p.0 + p.1) ps
 
 -- between two ranges at least three values are missing
 abbrev pub are_apart : List (ℕ × ℕ) → Bool
@@ -48,13 +52,15 @@ first_start (r ∷ rs) = r.0
 abbrev pub last_end : List (ℕ × ℕ) → ℕ
 last_end rs = fold (λ e r. r.1) 0 rs
 
--- The ranges at the front, and the bytes behind them: at least one, apart, of numbers below 2 ^ 128, with codes below 2 ^ 32.
+-- The ranges at the front, and the bytes behind them: at least one, apart, of numbers below 2 ^
+-- 128, with codes below 2 ^ 32.
 unfoldable pub ranges_at : List ℕ → Option (List (ℕ × ℕ) × List ℕ)
 ranges_at bytes = do
   n ← vint bytes
   ps ← items pair_at n.0 n.1
   let ranges = ranges_from 0 ps.0
-  only_if (nat_le 1 n.0 && are_apart ps.0 && nat_lt (last_end ranges) (2 ^ 128) && nat_lt (code_count ranges) (2 ^ 32)) (ranges, ps.1)
+  only_if (nat_le 1 n.0 && are_apart ps.0
+      && nat_lt (last_end ranges) (2 ^ 128) && nat_lt (code_count ranges) (2 ^ 32)) (ranges, ps.1)
 
 -- what is said of the numbers behind their codes
 pub record AddressFooter : Type 0 where
@@ -68,12 +74,16 @@ pub record AddressFooter : Type 0 where
 abbrev pub are_zeros : List ℕ → Bool
 are_zeros bytes = list_all (λ b. b == 0) bytes
 
--- what bounds and count show by themselves: the count is below 2 ^ 32; one number is the least and the greatest; without numbers both are 0
+-- what bounds and count show by themselves: the count is below 2 ^ 32; one number is the least
+-- and the greatest; without numbers both are 0
 abbrev pub are_bounds : ℕ → ℕ → ℕ → Bool
-are_bounds least greatest count = nat_lt count (2 ^ 32) && (nat_le 2 count || (least == greatest)) && (nat_le 1 count || (greatest == 0))
+are_bounds least greatest count =
+    nat_lt count (2 ^ 32) && (nat_le 2 count || (least == greatest))
+    && (nat_le 1 count || (greatest == 0))
 
--- The footer at the front, and the bytes behind it: eight zero bytes, least and greatest number, count, the width of the greatest code,
--- the ranges from the least number to the greatest. Without numbers it has the one range 0 to 0.
+-- The footer at the front, and the bytes behind it: eight zero bytes, least and greatest number,
+-- count, the width of the greatest code, the ranges from the least number to the greatest.
+-- Without numbers it has the one range 0 to 0.
 unfoldable pub address_footer_at : List ℕ → Option (AddressFooter × List ℕ)
 address_footer_at bytes = do
   flags ← front 8 bytes
@@ -82,22 +92,32 @@ address_footer_at bytes = do
   count ← vint_u128 greatest.1
   w ← byte_at count.1
   ranges ← ranges_at w.1
-  only_if (are_zeros flags.0 && are_bounds least.0 greatest.0 count.0 && (w.0 == width (code_count ranges.0))
+  let said : AddressFooter = record {
+    least = least.0;
+    greatest = greatest.0;
+    count = count.0;
+    code_width = w.0;
+    ranges = ranges.0;
+  }
+  only_if (are_zeros flags.0 && are_bounds least.0 greatest.0 count.0
+      && (w.0 == width (code_count ranges.0))
       && (first_start ranges.0 == least.0) && (last_end ranges.0 == greatest.0))
-      (record { least = least.0; greatest = greatest.0; count = count.0; code_width = w.0; ranges = ranges.0 }, ranges.1)
+      (said, ranges.1)
 
 -- the footer that all the bytes spell
 abbrev pub address_footer : List ℕ → Option AddressFooter
 address_footer bytes = address_footer_at bytes >>= nothing_left
 
--- the numbers that the packed codes stand for, by the footer behind them, whose length follows; the bounds are those of the numbers
+-- the numbers that the packed codes stand for, by the footer behind them, whose length follows;
+-- the bounds are those of the numbers
 unfoldable pub coded_values : List ℕ → Option (List ℕ)
 coded_values bytes = do
   parts ← parts_by_second w64 bytes
   f ← address_footer parts.1
   codes ← packed parts.0 f.code_width f.count
   let numbers = map (coded_number f.ranges) codes
-  only_if (list_all (is_in_range 1 (code_count f.ranges)) codes && (least_of numbers == f.least) && (greatest_of numbers == f.greatest)) numbers
+  only_if (list_all (is_in_range 1 (code_count f.ranges)) codes
+      && (least_of numbers == f.least) && (greatest_of numbers == f.greatest)) numbers
 
 -- the count at the front, below 2 ^ 32, and the bytes behind the byte 1 that follows it
 abbrev pub header_at : List ℕ → Option (ℕ × List ℕ)
@@ -123,6 +143,7 @@ codes_needed [] = 0
 codes_needed (x ∷ []) = 1
 codes_needed (x ∷ y ∷ zs) = 1 + gap_codes x y + codes_needed (y ∷ zs)
 
--- How many numbers are in the list or in a gap of one or two numbers between two neighbours of it; 1 for the empty list.
+-- How many numbers are in the list or in a gap of one or two numbers between two neighbours of
+-- it; 1 for the empty list.
 abbrev pub least_codes : List ℕ → ℕ
 least_codes xs = max 1 (codes_needed (distinct_items nat_cmp xs))

@@ -1,4 +1,5 @@
--- What writers make of a list of numbers: its bytes under each codec, the estimates of their lengths, and the choice. States docs/FORMAT.md, section 12.
+-- What writers make of a list of numbers: its bytes under each codec, the estimates of their
+-- lengths, and the choice. States docs/FORMAT.md, section 12.
 use Rattle.std.specs.Prelude.{ℕ, zero, suc, ◌+◌, ◌-◌, ◌*◌, ◌/◌, ◌^◌, nat_lt, nat_le, Bool, true, List, [], ◌∷◌, ◌++◌, length, map, take, drop, flat_map, sum, if◌then◌else◌, Option, Some, None}
 use Rattle.std.specs.Int.{w64, div_ceil, to_le_bytes}
 use Rattle.std.specs.List.{enumerate_from, list_all}
@@ -41,16 +42,23 @@ deviations l xs = map (deviation l) (enumerate_from 0 xs)
 abbrev pub block_size : ℕ
 block_size = 512
 
--- The line of a list under Linear: trained on the first 512 items, and raised by the least deviation; the width is that of the greatest deviation less the least.
+-- The line of a list under Linear: trained on the first 512 items, and raised by the least
+-- deviation; the width is that of the greatest deviation less the least.
 unfoldable pub linear_line : List ℕ → Slope
 linear_line xs =
     let l = line_of (take block_size xs) in
     let low = least_of (deviations l xs) in
-    record { slope = l.0; intercept = less_wrapped (l.1 + low) half_space; offset_width = width (greatest_of (deviations l xs) - low) }
+    record {
+      slope = l.0;
+      intercept = less_wrapped (l.1 + low) half_space;
+      offset_width = width (greatest_of (deviations l xs) - low);
+    }
 
 -- the bytes of a list under Linear, behind the codec's code
 unfoldable pub linear_body : List ℕ → List ℕ
-linear_body xs = let l = linear_line xs in stats_bytes (stats_of xs) ++ (slope_bytes l ++ packed_offsets l xs)
+linear_body xs =
+    let l = linear_line xs in
+    stats_bytes (stats_of xs) ++ (slope_bytes l ++ packed_offsets l xs)
 
 -- k blocks of a list, the last one maybe shorter
 unfoldable pub cut_blocks : ℕ → List ℕ → List (List ℕ)
@@ -70,7 +78,8 @@ unfoldable pub block_line : List ℕ → Slope
 block_line xs =
     let l = line_of xs in
     let bare : Slope = record { slope = l.0; intercept = l.1; offset_width = 0 } in
-    record { slope = l.0; intercept = l.1; offset_width = width (greatest_of (offsets_from bare xs)) }
+    let w = width (greatest_of (offsets_from bare xs)) in
+    record { slope = l.0; intercept = l.1; offset_width = w }
 
 -- a block's offsets from its line, packed
 abbrev pub packed_block : List ℕ → List ℕ
@@ -82,7 +91,9 @@ lines_bytes bs = flat_map (λ b. slope_bytes (block_line b)) bs
 
 -- blocks, their lines, and the length of the lines
 unfoldable pub blocks_bytes : List (List ℕ) → List ℕ
-blocks_bytes bs = joined_lists (map packed_block bs) ++ (lines_bytes bs ++ to_le_bytes w64 (length (lines_bytes bs)))
+blocks_bytes bs =
+    joined_lists (map packed_block bs)
+    ++ (lines_bytes bs ++ to_le_bytes w64 (length (lines_bytes bs)))
 
 -- for each item, how many divisors it lies above the least
 abbrev pub steps_above : Stats → List ℕ → List ℕ
@@ -90,11 +101,14 @@ steps_above s xs = map (λ x. (x - s.least) / s.divisor) xs
 
 -- the bytes of a list under BlockwiseLinear, behind the codec's code
 unfoldable pub blockwise_body : List ℕ → List ℕ
-blockwise_body xs = let s = stats_of xs in stats_bytes s ++ blocks_bytes (blocks_of (steps_above s xs))
+blockwise_body xs =
+    let s = stats_of xs in stats_bytes s ++ blocks_bytes (blocks_of (steps_above s xs))
 
 -- the bytes of a list under Bitpacked, behind the codec's code
 unfoldable pub bitpacked_body : List ℕ → List ℕ
-bitpacked_body xs = let s = stats_of xs in stats_bytes s ++ packed_bytes (width (steps_of s)) (steps_above s xs)
+bitpacked_body xs =
+    let s = stats_of xs in
+    stats_bytes s ++ packed_bytes (width (steps_of s)) (steps_above s xs)
 
 -- the bytes of slope and intercept
 abbrev pub line_len : Slope → ℕ
@@ -116,7 +130,8 @@ bitpacked_estimate xs = stats_len xs + packed_len (length xs) (width (steps_of (
 unfoldable pub linear_estimate : List ℕ → Option ℕ
 linear_estimate xs =
     let l = linear_line xs in
-    if nat_lt (length xs) block_size then None else Some (stats_len xs + line_len l + 1 + packed_len (length xs) l.offset_width)
+    let size = stats_len xs + line_len l + 1 + packed_len (length xs) l.offset_width in
+    if nat_lt (length xs) block_size then None else Some size
 
 -- what a block adds to the estimate of BlockwiseLinear
 abbrev pub block_estimate : List ℕ → ℕ
@@ -126,9 +141,12 @@ block_estimate b = let l = block_line b in 1 + line_len l + packed_len (length b
 abbrev pub log2 : ℕ → ℕ
 log2 n = binary_digits 64 n - 1
 
--- The estimate of BlockwiseLinear, by the items themselves; a divisor is taken off each item's bits.
+-- The estimate of BlockwiseLinear, by the items themselves; a divisor is taken off each item's
+-- bits.
 unfoldable pub blockwise_estimate : List ℕ → ℕ
-blockwise_estimate xs = 8 + stats_len xs + sum (map block_estimate (blocks_of xs)) - log2 (stats_of xs).divisor * length xs / 8
+blockwise_estimate xs =
+    8 + stats_len xs + sum (map block_estimate (blocks_of xs))
+    - log2 (stats_of xs).divisor * length xs / 8
 
 -- the estimate of a codec, by its code
 abbrev pub estimate : List ℕ → ℕ → Option ℕ
@@ -142,15 +160,19 @@ abbrev pub is_not_below : ℕ → Option ℕ → Bool
 is_not_below e None = true
 is_not_below e (Some f) = nat_le e f
 
--- a codec with its estimate, where no later codec's is below it; else the one chosen of the later ones
+-- a codec with its estimate, where no later codec's is below it; else the one chosen of the later
+-- ones
 abbrev pub chosen_before : List ℕ → ℕ → List ℕ → Option ℕ → Option ℕ → Option ℕ
 chosen_before xs c cs later None = later
-chosen_before xs c cs later (Some e) = if list_all (λ d. is_not_below e (estimate xs d)) cs then Some c else later
+chosen_before xs c cs later (Some e) =
+    if list_all (λ d. is_not_below e (estimate xs d)) cs then Some c else later
 
--- The codec that is written: the first of those offered that has the least estimate; none where none has an estimate.
+-- The codec that is written: the first of those offered that has the least estimate; none where
+-- none has an estimate.
 unfoldable pub chosen_codec : List ℕ → List ℕ → Option ℕ
 chosen_codec xs [] = None
-chosen_codec xs (c ∷ cs) = let later = chosen_codec xs cs in chosen_before xs c cs later (estimate xs c)
+chosen_codec xs (c ∷ cs) =
+    let later = chosen_codec xs cs in chosen_before xs c cs later (estimate xs c)
 
 -- the bytes of a list under a codec, behind the codec's code
 abbrev pub body_by : ℕ → List ℕ → List ℕ

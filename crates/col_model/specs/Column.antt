@@ -4,6 +4,7 @@ use Rattle.std.specs.Int.{w32, w64}
 use Rattle.std.specs.List.{list_all}
 use Rattle.col_common.specs.Reading.{◌>>=◌, only_if, parts_by_first}
 use Rattle.col_model.specs.U64List.{values64}
+use Rattle.col_model.specs.Ascending.{are_below}
 use Rattle.col_model.specs.Images.{is_image_of_bool}
 use Rattle.col_model.specs.AddressList.{values128}
 use Rattle.col_model.specs.Dictionary.{cut, terms}
@@ -56,11 +57,13 @@ number_rows bytes t version n = do
   parts ← parts_by_first w64 bytes
   c ← counts parts.0 version n
   numbers ← stored_numbers t parts.1
-  only_if ((sum c.of_rows == length numbers) && list_all (is_stored t) numbers) (c, cut c.of_rows numbers)
+  only_if ((sum c.of_rows == length numbers) && list_all (is_stored t) numbers)
+      (c, cut c.of_rows numbers)
 
 -- the rows with their cells
 abbrev pub content_of : List (List ℕ) → (ℕ → Cell) → Counts × List (List ℕ) → Content
-content_of found cell p = record { cardinality = p.0.cardinality; terms = found; rows = map (map cell) p.1 }
+content_of found cell p =
+    record { cardinality = p.0.cardinality; terms = found; rows = map (map cell) p.1 }
 
 -- Dictionary, a column of ordinals below the term count, the dictionary's length.
 unfoldable pub term_column : List ℕ → ColumnType → ℕ → ℕ → Option Content
@@ -68,11 +71,13 @@ term_column bytes t version n = do
   parts ← parts_by_first w32 bytes
   found ← terms parts.0
   p ← number_rows parts.1 t version n
-  only_if (list_all (λ row. list_all (λ o. nat_lt o (length found)) row) p.1) (content_of found (term_cell found) p)
+  only_if (list_all (are_below (length found)) p.1)
+      (content_of found (term_cell found) p)
 
 -- What the bytes of a column of this type stand for, in a file of this version and row count.
 unfoldable pub column : List ℕ → ColumnType → ℕ → ℕ → Option Content
 column bytes t version n =
     let by_terms = term_column bytes t version n in
-    let by_numbers = number_rows bytes t version n >>= λ p. Some (content_of [] (number_cell t) p) in
+    let by_numbers =
+    number_rows bytes t version n >>= λ p. Some (content_of [] (number_cell t) p) in
     if has_terms t then by_terms else by_numbers

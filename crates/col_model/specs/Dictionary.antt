@@ -9,8 +9,8 @@ unfoldable pub cut : {A : Type 0} → List ℕ → List A → List (List A)
 cut [] xs = []
 cut (n ∷ ns) xs = take n xs ∷ cut ns (drop n xs)
 
--- The terms that the bytes stand for: their count, the end of each, counted from the first term's byte, and their bytes.
--- They strictly ascend, and fill the bytes.
+-- The terms that the bytes stand for: their count, the end of each, counted from the first term's
+-- byte, and their bytes. They strictly ascend, and fill the bytes.
 unfoldable pub terms : List ℕ → Option (List (List ℕ))
 terms bytes = do
   n ← le_number w32 bytes

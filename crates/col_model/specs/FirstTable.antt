@@ -1,4 +1,5 @@
--- The table and the outcome of a script of the first form, in short: there merging and writing come to this. States docs/RULES.md, Tables and Statuses.
+-- The table and the outcome of a script of the first form, in short: there merging and writing
+-- come to this. States docs/RULES.md, Tables and Statuses.
 use Rattle.std.specs.Prelude.{ℕ, ◌==◌, ◌&&◌, not, nat_lt, false, List, [], ◌∷◌, map, filter_map, length, bytes_eq, if◌then◌else◌, Option, Some, None}
 use Rattle.std.specs.Ordering.{nat_cmp}
 use Rattle.std.specs.Cmp.Lexicographic.{slice_cmp}
@@ -26,11 +27,19 @@ value_of name (tied other start) = None
 
 -- a Full u64 column of the values of this name, in order
 abbrev pub first_column : List Call → List ℕ → Column
-first_column calls name = record { name = name; column_type = types.u64; content = record { cardinality = full; terms = []; rows = map (λ c. c ∷ []) (filter_map (value_of name) calls) } }
+first_column calls name =
+    let rows = map (λ c. c ∷ []) (filter_map (value_of name) calls) in
+    record {
+      name = name;
+      column_type = types.u64;
+      content = record { cardinality = full; terms = []; rows = rows };
+    }
 
 -- a column for each typed name, in order; a segment without documents has none
 abbrev pub segment_columns : Segment → List Column
-segment_columns s = if s.count == 0 then [] else map (first_column s.calls) (distinct_items (slice_cmp nat_cmp) (filter_map typed_name s.calls))
+segment_columns s =
+    let names = distinct_items (slice_cmp nat_cmp) (filter_map typed_name s.calls) in
+    if s.count == 0 then [] else map (first_column s.calls) names
 
 -- The table of the only segment, or of no rows.
 abbrev pub first_table : List Segment → Table

@@ -1,4 +1,5 @@
--- Full columns of u64, read under any codec and written under Bitpacked, and the files and tables of such columns alone. States docs/FORMAT.md, sections 4, 8, 9 and 11.
+-- Full columns of u64, read under any codec and written under Bitpacked, and the files and tables
+-- of such columns alone. States docs/FORMAT.md, sections 4, 8, 9 and 11.
 use Rattle.std.specs.Prelude.{◌≡◌, ℕ, ◌^◌, ◌<◌, ◌==◌, pos, true, List, [], ◌∷◌, map, length, slice_range, bytes_eq, Option, Some}
 use Rattle.std.specs.List.{AllByRecursion}
 use Rattle.std.specs.Int.{w64}
@@ -7,7 +8,7 @@ use Rattle.col_model.specs.U64List.{values64, bitpacked_bytes}
 use Rattle.col_model.specs.ColumnType.{same_type}
 use Rattle.col_model.specs.ColumnType as types
 use Rattle.col_model.specs.Table.{Cell, number, Content, full, Column, Table}
-use Rattle.col_model.specs.Ascending.{is_ascending}
+use Rattle.col_model.specs.Ascending.{is_ascending, AreBelow}
 use Rattle.col_model.specs.Keys.{Key, Entry, is_name, keys}
 use Rattle.col_model.specs.File.{for_each}
 use Rattle.col_model.specs.Spelling.{column_bytes, file_bytes}
@@ -34,7 +35,8 @@ full_columns ps = map (λ p. (p.0, full_column_bytes p.1)) ps
 
 -- the column of a table
 abbrev pub full_column : FullColumn → Column
-full_column p = record { name = p.0.name; column_type = p.0.column_type; content = full_content p.1 }
+full_column p =
+    record { name = p.0.name; column_type = p.0.column_type; content = full_content p.1 }
 
 -- a name with the numbers of its column
 abbrev pub NamedNumbers : Type 0
@@ -57,9 +59,10 @@ pub record AreNumberColumns (n : ℕ) (ps : List NamedNumbers) : Type 0 where
   pub names : AllByRecursion (λ p. is_name p.0 ≡ true) ps
   pub ascending : is_ascending (map (λ p. p.0) ps) ≡ true
   pub lengths : AllByRecursion (λ p. length p.1 ≡ n) ps
-  pub fit : AllByRecursion (λ p. AllByRecursion (λ x. x < 2 ^ 64) p.1) ps
+  pub fit : AllByRecursion (λ p. AreBelow (2 ^ 64) p.1) ps
 
--- The numbers of a Full column of n rows, none for another column: index, numbers under any codec, the index's length.
+-- The numbers of a Full column of n rows, none for another column: index, numbers under any
+-- codec, the index's length.
 unfoldable pub full_numbers : List ℕ → ℕ → Option (List ℕ)
 full_numbers bytes n = do
   parts ← parts_by_first w64 bytes

@@ -6,7 +6,7 @@ use Rattle.std.specs.Bool.{nat_eq}
 use Rattle.col_common.specs.Reading.{◌>>=◌, only_if, parts_by_first}
 use Rattle.col_common.specs.VInt.{vint}
 use Rattle.col_model.specs.U64List.{values64}
-use Rattle.col_model.specs.Ascending.{is_rising, is_never_falling, differences}
+use Rattle.col_model.specs.Ascending.{are_below, is_rising, is_never_falling, differences}
 use Rattle.col_model.specs.Table.{Cardinality, full, optional, multivalued, cardinality_of_code}
 
 -- the cardinality, and for each row its number of values
@@ -26,7 +26,7 @@ pub record RowOffsets : Type 0 where
 
 -- The rows strictly rise and stay below the count.
 abbrev pub are_rows : RowSet → Bool
-are_rows s = is_rising s.rows && list_all (λ r. nat_lt r s.num_rows) s.rows
+are_rows s = is_rising s.rows && are_below s.num_rows s.rows
 
 -- the number beside a row in the list, or 0
 abbrev pub count_beside : List (ℕ × ℕ) → ℕ → ℕ
@@ -38,11 +38,13 @@ spread n rows counts = map (count_beside (zip rows counts)) (range_with_len 0 n)
 
 -- start offsets: from 0 on, each at most 2 ^ 32 - 1
 abbrev pub are_offsets : List ℕ → Bool
-are_offsets starts = starts_with nat_eq starts (0 ∷ []) && list_all (λ s. nat_lt s (2 ^ 32)) starts
+are_offsets starts = starts_with nat_eq starts (0 ∷ []) && are_below (2 ^ 32) starts
 
 -- Start offsets that strictly rise, one more than rows with a value.
 abbrev pub are_starts : RowOffsets → Bool
-are_starts o = are_offsets o.starts && is_rising o.starts && (length o.starts == length o.set.rows + 1)
+are_starts o =
+    are_offsets o.starts && is_rising o.starts
+    && (length o.starts == length o.set.rows + 1)
 
 -- Optional: the row count, and the rows with a value.
 unfoldable pub row_set : List ℕ → Option RowSet
@@ -75,7 +77,8 @@ offset_counts_v1 bytes = do
   starts ← values64 bytes
   only_if (are_offsets starts && is_never_falling starts) (differences starts)
 
--- How many values each row has: none in each of so many rows; one in each, however many there are; or the number for each.
+-- How many values each row has: none in each of so many rows; one in each, however many there
+-- are; or the number for each.
 pub data Shape : Type 0 where
   empty_shape : ℕ → Shape
   full_shape : Shape
@@ -86,7 +89,8 @@ pub data Shape : Type 0 where
 abbrev pub multivalued_in : ℕ → Option (List ℕ → Option Shape)
 multivalued_in zero = None
 multivalued_in (suc zero) = Some (λ bytes. option_map multivalued_shape (offset_counts_v1 bytes))
-multivalued_in (suc (suc zero)) = Some (λ bytes. option_map (λ o. multivalued_shape (offset_counts o)) (row_offsets bytes))
+multivalued_in (suc (suc zero)) =
+    Some (λ bytes. option_map (λ o. multivalued_shape (offset_counts o)) (row_offsets bytes))
 multivalued_in (suc (suc (suc _))) = None
 
 -- by the cardinality; Full has no bytes
@@ -105,10 +109,14 @@ shape (code ∷ bytes) version = do
 
 -- the cardinality and the counts of so many rows, where the shape has them
 abbrev pub counts_over : ℕ → Shape → Option Counts
-counts_over n (empty_shape m) = only_if (m == n) (record { cardinality = if n == 0 then full else optional; of_rows = replicate n 0 })
+counts_over n (empty_shape m) =
+    let c = if n == 0 then full else optional in
+    only_if (m == n) (record { cardinality = c; of_rows = replicate n 0 })
 counts_over n full_shape = Some (record { cardinality = full; of_rows = replicate n 1 })
-counts_over n (optional_shape cs) = only_if (length cs == n) (record { cardinality = optional; of_rows = cs })
-counts_over n (multivalued_shape cs) = only_if (length cs == n) (record { cardinality = multivalued; of_rows = cs })
+counts_over n (optional_shape cs) =
+    only_if (length cs == n) (record { cardinality = optional; of_rows = cs })
+counts_over n (multivalued_shape cs) =
+    only_if (length cs == n) (record { cardinality = multivalued; of_rows = cs })
 
 -- The counts that the bytes stand for, in a file of this version and row count.
 unfoldable pub counts : List ℕ → ℕ → ℕ → Option Counts

@@ -1,4 +1,5 @@
--- Items of lists under Linear and BlockwiseLinear, each read where it stands. The lists are those of docs/FORMAT.md, section 4.
+-- Items of lists under Linear and BlockwiseLinear, each read where it stands. The lists are those
+-- of docs/FORMAT.md, section 4.
 use Rattle.std.specs.Prelude.{ℕ, zero, suc, ◌+◌, ◌-◌, ◌*◌, ◌/◌, ◌%◌, ◌^◌, ◌==◌, ◌&&◌, nat_lt, nat_le, Bool, List, [], ◌∷◌, length, map, take, drop, slice_index_or}
 use Rattle.std.specs.Int.{div_ceil}
 use Rattle.std.specs.List.{range_with_len}
@@ -34,7 +35,8 @@ unfoldable pub are_blocks : ℕ → List Slope → List ℕ → Bool
 are_blocks n [] bytes = length bytes == 0
 are_blocks n (l ∷ ls) bytes =
     let later = are_blocks (n - 512) ls (drop (block_bytes n l) bytes) in
-    nat_le (block_bytes n l) (length bytes) && is_packed (take (block_bytes n l) bytes) (block_len n * l.offset_width) && later
+    nat_le (block_bytes n l) (length bytes)
+    && is_packed (take (block_bytes n l) bytes) (block_len n * l.offset_width) && later
 
 -- a line for a place that no block has
 abbrev pub no_line : Slope
@@ -42,7 +44,9 @@ no_line = record { slope = 0; intercept = 0; offset_width = 0 }
 
 -- item i of n items in blocks with these lines: that of block i / 512 at i % 512
 abbrev pub block_item : ℕ → List Slope → List ℕ → ℕ → ℕ
-block_item n ls bytes i = linear_item (slice_index_or ls (i / 512) no_line) (drop (block_start n ls (i / 512)) bytes) (i % 512)
+block_item n ls bytes i =
+    linear_item (slice_index_or ls (i / 512) no_line)
+    (drop (block_start n ls (i / 512)) bytes) (i % 512)
 
 -- item i of the list: the least, and the divisor for each step
 abbrev pub blockwise_item : Stats → List Slope → List ℕ → ℕ → ℕ

@@ -27,7 +27,8 @@ unfoldable pub key_of : List ℕ → Option Key
 key_of bytes = do
   parts ← back 2 bytes
   t ← type_of_code (slice_index parts.1 1)
-  only_if (is_name parts.0 && (slice_index parts.1 0 == 0)) (record { name = parts.0; column_type = t })
+  only_if (is_name parts.0 && (slice_index parts.1 0 == 0))
+      (record { name = parts.0; column_type = t })
 
 -- A key with the length of its column's bytes, and the bytes behind them.
 unfoldable pub keyed_length : List ℕ → Option ((Key × ℕ) × List ℕ)
@@ -40,7 +41,9 @@ keyed_length bytes = do
 
 -- keys strictly ascend by bytes, and at most one numerical key has a given name
 abbrev pub are_keys : List Key → Bool
-are_keys ks = is_ascending (map key_bytes ks) && is_ascending (map (λ k. k.name) (filter (λ k. is_numerical k.column_type) ks))
+are_keys ks =
+    is_ascending (map key_bytes ks)
+    && is_ascending (map (λ k. k.name) (filter (λ k. is_numerical k.column_type) ks))
 
 -- The key table, of all the bytes: each key with its column's length.
 unfoldable pub key_table : List ℕ → Option (List (Key × ℕ))
@@ -58,7 +61,8 @@ pub record Entry : Type 0 where
 -- columns follow one another from a place on
 abbrev pub entries_from : ℕ → List (Key × ℕ) → List Entry
 entries_from start [] = []
-entries_from start (p ∷ ps) = record { key = p.0; start = start; «end» = start + p.1 } ∷ entries_from (start + p.1) ps
+entries_from start (p ∷ ps) =
+    record { key = p.0; start = start; «end» = start + p.1 } ∷ entries_from (start + p.1) ps
 
 -- how long the columns are together
 abbrev pub total_length : List (Key × ℕ) → ℕ
@@ -84,11 +88,13 @@ file_footer bytes = do
   version ← version_of rows.1
   Some (record { table_length = size.0; row_count = rows.0; version = version })
 
--- The row count, the version and the entries of a file. The columns' bytes end where the key table begins.
+-- The row count, the version and the entries of a file. The columns' bytes end where the key
+-- table begins.
 unfoldable pub keys : List ℕ → Option FileKeys
 keys bytes = do
   parts ← back 20 bytes
   f ← file_footer parts.1
   body ← back f.table_length parts.0
   found ← key_table body.1
-  only_if (total_length found == length body.0) (record { row_count = f.row_count; version = f.version; entries = entries_from 0 found })
+  only_if (total_length found == length body.0)
+      (record { row_count = f.row_count; version = f.version; entries = entries_from 0 found })

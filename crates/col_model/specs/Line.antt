@@ -7,7 +7,8 @@ use Rattle.col_common.specs.VInt.{vint}
 abbrev pub signed_32 : ℕ → ℕ
 signed_32 h = if nat_lt h (2 ^ 31) then h else h + (2 ^ 64 - 2 ^ 32)
 
--- the line's value at x: the intercept plus the upper 32 bits of x * slope modulo 2 ^ 64, read as a signed number, modulo 2 ^ 64
+-- the line's value at x: the intercept plus the upper 32 bits of x * slope modulo 2 ^ 64, read as
+-- a signed number, modulo 2 ^ 64
 unfoldable pub line : ℕ → ℕ → ℕ → ℕ
 line slope intercept x = (intercept + signed_32 (x * slope % 2 ^ 64 / 2 ^ 32)) % 2 ^ 64
 

@@ -40,11 +40,15 @@ whole_column_in slot p = option_and_then whole_column (column_in slot p)
 
 -- the cells of a row of the segment, none where it lacks the column
 abbrev pub cells_in : Slot → List Part → ℕ × ℕ → List Cell
-cells_in slot parts p = unwrap_or (option_map (λ c. row_of c.content p.1) (option_and_then (whole_column_in slot) (slice_get parts p.0))) []
+cells_in slot parts p =
+    let column = option_and_then (whole_column_in slot) (slice_get parts p.0) in
+    unwrap_or (option_map (λ c. row_of c.content p.1) column) []
 
 -- The segment keeps the column: it has it, and a picked row holds a cell of it.
 abbrev pub kept_column : Slot → List (ℕ × ℕ) → ℕ × Part → Option Column
-kept_column slot picked (s, p) = option_and_then (λ c. only_if (list_any (λ q. (q.0 == s) && nat_lt 0 (length (row_of c.content q.1))) picked) c) (whole_column_in slot p)
+kept_column slot picked (s, p) = option_and_then
+    (λ c. only_if (list_any (λ q. (q.0 == s) && nat_lt 0 (length (row_of c.content q.1))) picked) c)
+    (whole_column_in slot p)
 
 -- the columns that segments keep
 abbrev pub kept_columns : Slot → List (ℕ × ℕ) → List Part → List Column
@@ -61,44 +65,62 @@ typed_numbers c = filter_map (typed_number c.column_type) (all_cells c)
 -- the type that all of these columns share, else the numerical one that holds all their numbers
 abbrev pub shared_type : List Column → Option ColumnType
 shared_type [] = None
-shared_type (c ∷ cs) = if list_all (λ d. same_type c.column_type d.column_type) cs then Some c.column_type else numerical_type (joined_lists (map typed_numbers (c ∷ cs)))
+shared_type (c ∷ cs) =
+    if list_all (λ d. same_type c.column_type d.column_type) cs then Some c.column_type
+    else numerical_type (joined_lists (map typed_numbers (c ∷ cs)))
 
 -- the type that is required of a slot, by the first item that names it
 abbrev pub required_type : List Required → Slot → Option ColumnType
-required_type required slot = option_map (λ r. r.column_type) (find (λ r. same_slot (required_slot r) slot) required)
+required_type required slot =
+    option_map (λ r. r.column_type) (find (λ r. same_slot (required_slot r) slot) required)
 
 -- the required type, where every cell of these columns is in it, else the shared one
 abbrev pub joined_type : Option ColumnType → List Column → Result ColumnType Refusal
-joined_type (Some t) kept = refuse_if (not (list_all (λ c. list_all (is_of_type t) (all_cells c)) kept)) cannot_coerce >>= λ _. Ok t
+joined_type (Some t) kept =
+    refuse_if (not (list_all (λ c. list_all (is_of_type t) (all_cells c)) kept)) cannot_coerce
+    >>= λ _. Ok t
 joined_type None kept = or_refuse (shared_type kept) numerical_conflict
 
 -- the one that allows more
 abbrev pub greater_cardinality : Cardinality → Cardinality → Cardinality
 greater_cardinality a b = if nat_lt (cardinality_code a) (cardinality_code b) then b else a
 
--- of a segment in a stack: that of the kept column; a segment that doesn't keep it counts as Full without rows, else as Optional
+-- of a segment in a stack: that of the kept column; a segment that doesn't keep it counts as Full
+-- without rows, else as Optional
 abbrev pub segment_cardinality : Slot → List (ℕ × ℕ) → ℕ × Part → Cardinality
-segment_cardinality slot picked (s, p) = unwrap_or (option_map (λ c. c.content.cardinality) (kept_column slot picked (s, p))) (if p.row_count == 0 then full else optional)
+segment_cardinality slot picked (s, p) = unwrap_or
+    (option_map (λ c. c.content.cardinality) (kept_column slot picked (s, p)))
+    (if p.row_count == 0 then full else optional)
 
 -- the greatest of the segments
 abbrev pub stacked_cardinality : Slot → List (ℕ × ℕ) → List Part → Cardinality
-stacked_cardinality slot picked parts = fold greater_cardinality full (map (segment_cardinality slot picked) (enumerate_from 0 parts))
+stacked_cardinality slot picked parts =
+    fold greater_cardinality full (map (segment_cardinality slot picked) (enumerate_from 0 parts))
 
 -- the terms of some columns, in order, each once
 abbrev pub all_terms : List Column → List (List ℕ)
 all_terms cs = distinct_items (slice_cmp nat_cmp) (joined_lists (map (λ c. c.content.terms) cs))
 
--- Row i has the cells of the row that pick i names. A stack keeps the greatest cardinality and all terms, a shuffle the tightest and the picked texts.
+-- Row i has the cells of the row that pick i names. A stack keeps the greatest cardinality and
+-- all terms, a shuffle the tightest and the picked texts.
 abbrev pub joined_content : Order → Slot → List (ℕ × ℕ) → List Part → List Column → Content
-joined_content (stack own) slot picked parts kept = record { cardinality = stacked_cardinality slot picked parts; terms = all_terms kept; rows = map (cells_in slot parts) picked }
-joined_content (shuffle own addresses) slot picked parts kept = let rows = map (cells_in slot parts) picked in record { cardinality = tightest rows; terms = texts_of (joined_lists rows); rows = rows }
+joined_content (stack own) slot picked parts kept = record {
+  cardinality = stacked_cardinality slot picked parts;
+  terms = all_terms kept;
+  rows = map (cells_in slot parts) picked;
+}
+joined_content (shuffle own addresses) slot picked parts kept =
+    let rows = map (cells_in slot parts) picked in
+    record { cardinality = tightest rows; terms = texts_of (joined_lists rows); rows = rows }
 
 -- some segment's column is outside the grammar
 abbrev pub has_bad_column : Slot → List Part → Bool
-has_bad_column slot parts = list_any (λ p. is_some (column_in slot p) && is_none (whole_column_in slot p)) parts
+has_bad_column slot parts =
+    list_any (λ p. is_some (column_in slot p) && is_none (whole_column_in slot p)) parts
 
 -- The merged column of a slot, none where it is absent, or its first refusal.
-unfoldable pub joined_column : Order → List (ℕ × ℕ) → List Part → List Required → Slot → Result (Option Column) Refusal
+unfoldable pub joined_column : Order → List (ℕ × ℕ) → List Part → List Required → Slot
+    → Result (Option Column) Refusal
 joined_column order picked parts required slot = do
   _ ← refuse_if (has_bad_column slot parts) invalid_data
   let kept = kept_columns slot picked parts
@@ -112,14 +134,21 @@ joined_column order picked parts required slot = do
 
 -- the slots of the required columns and of all segments, in order
 abbrev pub all_slots : List Part → List Required → List Slot
-all_slots parts required = distinct_items slot_cmp (map required_slot required ++ joined_lists (map (λ p. map part_slot p.columns) parts))
+all_slots parts required = distinct_items slot_cmp
+    (map required_slot required ++ joined_lists (map (λ p. map part_slot p.columns) parts))
 
--- Each required item in order: its name has no zero byte, and no earlier item of its name and category has another type.
+-- the items name one slot, and two types
+abbrev pub contradicts : Required → Required → Bool
+contradicts r q =
+    same_slot (required_slot q) (required_slot r) && not (same_type q.column_type r.column_type)
+
+-- Each required item in order: its name has no zero byte, and no earlier item of its name and
+-- category has another type.
 abbrev pub required_refusal : List Required → List Required → Result ⊤ Refusal
 required_refusal earlier [] = Ok tt
 required_refusal earlier (r ∷ rs) = do
   _ ← refuse_if (has_zero r.name) bad_name
-  _ ← refuse_if (list_any (λ q. same_slot (required_slot q) (required_slot r) && not (same_type q.column_type r.column_type)) earlier) required_conflict
+  _ ← refuse_if (list_any (contradicts r) earlier) required_conflict
   required_refusal (earlier ++ r ∷ []) rs
 
 -- how many rows each segment has

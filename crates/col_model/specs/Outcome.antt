@@ -39,7 +39,8 @@ abbrev pub order_over : Option (List (ℕ × ℕ)) → List ℕ → Order
 order_over None counts = stack counts
 order_over (Some rows) counts = shuffle counts rows
 
--- The merged table of the inputs followed by the script's segments, or the first refusal: segments in order, inputs in order, the merge.
+-- The merged table of the inputs followed by the script's segments, or the first refusal:
+-- segments in order, inputs in order, the merge.
 abbrev pub script_table : List (List ℕ) → Script → Result Table Refusal
 script_table inputs s = do
   tables ← each_ok segment_table s.segments
@@ -65,9 +66,11 @@ script_outcome short inputs (Some s) = with_report short s (script_table inputs 
 abbrev pub are_merge_words : List (List ℕ) → ℕ → Bool
 are_merge_words [] inputs = false
 are_merge_words (_ ∷ []) inputs = false
-are_merge_words (merge ∷ out ∷ ins) inputs = bytes_eq merge (codes "merge") && (length ins == inputs) && nat_lt inputs (2 ^ 16)
+are_merge_words (merge ∷ out ∷ ins) inputs =
+    bytes_eq merge (codes "merge") && (length ins == inputs) && nat_lt inputs (2 ^ 16)
 
--- The outcome while `merge` is the only command: 2 for other words, 21 for a longer script, 20 for a bad one, else the first refusal's status, or the table and its report.
+-- The outcome while `merge` is the only command: 2 for other words, 21 for a longer script, 20
+-- for a bad one, else the first refusal's status, or the table and its report.
 unfoldable pub outcome_of_merge : List (List ℕ) → List (List ℕ) → List ℕ → Outcome
 outcome_of_merge words inputs script =
     let read = script_outcome false inputs (script_of script) in
@@ -77,11 +80,14 @@ outcome_of_merge words inputs script =
 
 -- the number of decimal digits without a leading zero, below 2 ^ 64
 abbrev pub number_word : List ℕ → Option ℕ
-number_word s = only_if (all_ascii_digits s && nat_lt 0 (length s) && (nat_le (length s) 1 || not (slice_index s 0 == 48)) && nat_lt (digits_value 10 s) (2 ^ 64)) (digits_value 10 s)
+number_word s = only_if (all_ascii_digits s && nat_lt 0 (length s)
+    && (nat_le (length s) 1 || not (slice_index s 0 == 48)) && nat_lt (digits_value 10 s) (2 ^ 64))
+    (digits_value 10 s)
 
 -- `gen OUT N` without inputs: the number
 abbrev pub gen_number : List (List ℕ) → ℕ → Option ℕ
-gen_number (gen ∷ out ∷ n ∷ []) inputs = if bytes_eq gen (codes "gen") && (inputs == 0) then number_word n else None
+gen_number (gen ∷ out ∷ n ∷ []) inputs =
+    if bytes_eq gen (codes "gen") && (inputs == 0) then number_word n else None
 gen_number _ inputs = None
 
 -- The outcome of `gen` and `merge`: `gen` reads the script of its number, and its report is short.

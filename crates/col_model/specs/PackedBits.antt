@@ -10,8 +10,10 @@ bit_of_bytes bytes b = bit_at (slice_index bytes (b / 8)) (b % 8)
 
 -- Bit j of item i is bit i * w + j of the bytes.
 abbrev pub HasBitsOf : List ℕ → ℕ → ℕ → List ℕ → Type 0
-HasBitsOf bytes w n items = (i j : ℕ) → i < n → j < w → bit_at (slice_index items i) j ≡ bit_of_bytes bytes (i * w + j)
+HasBitsOf bytes w n items = (i j : ℕ) → i < n → j < w
+    → bit_at (slice_index items i) j ≡ bit_of_bytes bytes (i * w + j)
 
 -- A packed list has the bits of its bytes.
 abbrev pub PackedHasBits : Type 0
-PackedHasBits = (bytes : List ℕ) (w n : ℕ) (items : List ℕ) → IsBytes bytes → packed bytes w n ≡ Some items → HasBitsOf bytes w n items
+PackedHasBits = (bytes : List ℕ) (w n : ℕ) (items : List ℕ) → IsBytes bytes
+    → packed bytes w n ≡ Some items → HasBitsOf bytes w n items

@@ -1,4 +1,5 @@
--- Scripts: segments to be made, required columns, an order and lookups. States docs/RULES.md, Scripts and Other lines of scripts.
+-- Scripts: segments to be made, required columns, an order and lookups. States docs/RULES.md,
+-- Scripts and Other lines of scripts.
 use Rattle.std.specs.Prelude.{ℕ, pos, ◌^◌, ◌==◌, ◌&&◌, nat_lt, nat_le, true, false, List, [], ◌∷◌, map, filter, filter_map, find, length, slice_get, codes, bytes_eq, if◌then◌else◌, Option, Some, None}
 use Rattle.std.specs.List.{slice_split}
 use Rattle.std.specs.Str.{is_utf8}
@@ -63,7 +64,8 @@ as_u32 d = do
 
 -- the types, by their codes
 abbrev pub all_types : List ColumnType
-all_types = types.i64 ∷ types.u64 ∷ types.bytes ∷ types.str ∷ types.bool ∷ types.ip ∷ types.datetime ∷ []
+all_types = types.i64 ∷ types.u64 ∷ types.bytes ∷ types.str ∷ types.bool ∷ types.ip
+    ∷ types.datetime ∷ []
 
 -- the type of this name
 abbrev pub type_named : List ℕ → Option ColumnType
@@ -77,7 +79,8 @@ as_type d = as_str d >>= type_named
 abbrev pub hex_bytes : Data → Option (List ℕ)
 hex_bytes d = as_str d >>= λ s. result_ok (decode_of s)
 
--- A value of the type: a whole number, true or false, a text, hexadecimal digits (32 of them for ip).
+-- A value of the type: a whole number, true or false, a text, hexadecimal digits (32 of them for
+-- ip).
 abbrev pub as_cell : ColumnType → Data → Option Cell
 as_cell types.i64 d = as_number d >>= as_i64 >>= λ z. Some (cells.number z)
 as_cell types.datetime d = as_number d >>= as_i64 >>= λ z. Some (cells.number z)
@@ -85,7 +88,8 @@ as_cell types.u64 d = as_number d >>= as_u64 >>= λ n. Some (cells.number (pos n
 as_cell types.bool d = as_bool d >>= λ b. Some (cells.number (pos (if b then 1 else 0)))
 as_cell types.str d = as_str d >>= λ s. Some (cells.text s)
 as_cell types.bytes d = hex_bytes d >>= λ s. Some (cells.text s)
-as_cell types.ip d = hex_bytes d >>= λ s. only_if (length s == 16) (cells.number (pos (number_from_digits 256 s)))
+as_cell types.ip d = hex_bytes d >>= λ s.
+    only_if (length s == 16) (cells.number (pos (number_from_digits 256 s)))
 
 -- ["segment",n]
 abbrev pub segment_line : List Data → Option Line
@@ -94,27 +98,32 @@ segment_line _ = None
 
 -- ["type",name,t]
 abbrev pub type_line : List Data → Option Line
-type_line (name ∷ t ∷ []) = as_str name >>= λ name. as_type t >>= λ t. Some (call (typed name t false))
+type_line (name ∷ t ∷ []) = as_str name >>= λ name. as_type t >>= λ t.
+    Some (call (typed name t false))
 type_line _ = None
 
 -- ["sorted",name,t], of str or bytes
 abbrev pub sorted_line : List Data → Option Line
-sorted_line (name ∷ t ∷ []) = as_str name >>= λ name. as_type t >>= λ t. only_if (has_terms t) (call (typed name t true))
+sorted_line (name ∷ t ∷ []) = as_str name >>= λ name. as_type t >>= λ t.
+    only_if (has_terms t) (call (typed name t true))
 sorted_line _ = None
 
 -- ["tie",name,start]
 abbrev pub tie_line : List Data → Option Line
-tie_line (name ∷ start ∷ []) = as_str name >>= λ name. as_number start >>= as_i64 >>= λ z. Some (call (tied name z))
+tie_line (name ∷ start ∷ []) = as_str name >>= λ name. as_number start >>= as_i64 >>= λ z.
+    Some (call (tied name z))
 tie_line _ = None
 
 -- [t,d,name,v]
 abbrev pub value_line : ColumnType → List Data → Option Line
-value_line t (d ∷ name ∷ v ∷ []) = as_u32 d >>= λ d. as_str name >>= λ name. as_cell t v >>= λ cell. Some (call (recorded d name t cell))
+value_line t (d ∷ name ∷ v ∷ []) = as_u32 d >>= λ d. as_str name >>= λ name.
+    as_cell t v >>= λ cell. Some (call (recorded d name t cell))
 value_line t _ = None
 
 -- ["require",name,t]
 abbrev pub require_line : List Data → Option Line
-require_line (name ∷ t ∷ []) = as_str name >>= λ name. as_type t >>= λ t. Some (require (record { name = name; column_type = t }))
+require_line (name ∷ t ∷ []) = as_str name >>= λ name. as_type t >>= λ t.
+    Some (require (record { name = name; column_type = t }))
 require_line _ = None
 
 -- [s,r]
@@ -148,8 +157,10 @@ Shapes = List (List ℕ × (List Data → Option Line))
 
 -- the shapes of a script's lines
 abbrev pub shapes : Shapes
-shapes = (codes "segment", segment_line) ∷ (codes "type", type_line) ∷ (codes "sorted", sorted_line) ∷ (codes "tie", tie_line)
-    ∷ (codes "require", require_line) ∷ (codes "order", order_line) ∷ (codes "find", find_line) ∷ map (λ t. (type_name t, value_line t)) all_types
+shapes = (codes "segment", segment_line) ∷ (codes "type", type_line)
+    ∷ (codes "sorted", sorted_line) ∷ (codes "tie", tie_line)
+    ∷ (codes "require", require_line) ∷ (codes "order", order_line) ∷ (codes "find", find_line)
+    ∷ map (λ t. (type_name t, value_line t)) all_types
 
 -- the line of an array that begins with the word of one of the shapes
 abbrev pub line_among : Shapes → List Data → Option Line
@@ -161,7 +172,8 @@ line_among known (d ∷ ds) = do
 
 -- the line that a piece spells: a JSON text of one of these shapes
 unfoldable pub line_spelled_by : Shapes → List ℕ → Option Line
-line_spelled_by known piece = only_if (is_utf8 piece) piece >>= read >>= as_list >>= line_among known
+line_spelled_by known piece =
+    only_if (is_utf8 piece) piece >>= read >>= as_list >>= line_among known
 
 -- the line that a piece spells
 abbrev pub line_spelled : List ℕ → Option Line
@@ -171,7 +183,8 @@ line_spelled piece = line_spelled_by shapes piece
 abbrev pub pieces_of : List ℕ → List (List ℕ)
 pieces_of bytes = filter (λ piece. nat_lt 0 (length piece)) (slice_split (λ b. b == 10) bytes)
 
--- the record calls before the first segment line, and the segments, each with the calls up to the next one
+-- the record calls before the first segment line, and the segments, each with the calls up to the
+-- next one
 abbrev pub segments_in : List Line → List Call × List Segment
 segments_in [] = ([], [])
 segments_in (l ∷ ls) = with_line l (segments_in ls)
@@ -207,12 +220,18 @@ find_in (call c) = None
 find_in (require r) = None
 find_in (order rows) = None
 
--- The script of some lines: each record call has a segment line before it, and at most one line is an order.
+-- The script of some lines: each record call has a segment line before it, and at most one line
+-- is an order.
 abbrev pub script_of_lines : List Line → Option Script
 script_of_lines ls =
     let orders = filter_map order_in ls in
     only_if ((length (segments_in ls).0 == 0) && nat_le (length orders) 1)
-    (record { segments = (segments_in ls).1; required = filter_map required_in ls; order = slice_get orders 0; finds = filter_map find_in ls })
+    (record {
+      segments = (segments_in ls).1;
+      required = filter_map required_in ls;
+      order = slice_get orders 0;
+      finds = filter_map find_in ls;
+    })
 
 -- The script that the bytes spell.
 unfoldable pub script_of : List ℕ → Option Script

@@ -24,7 +24,8 @@ abbrev pub is_among : List (List ℕ) → Cell → Bool
 is_among found (number z) = true
 is_among found (text s) = list_any (bytes_eq s) found
 
--- The column has n rows of its cardinality, with cells of its type. Its terms strictly ascend and hold each text, and there are none but for str and bytes. It is within the limits.
+-- The column has n rows of its cardinality, with cells of its type. Its terms strictly ascend and
+-- hold each text, and there are none but for str and bytes. It is within the limits.
 pub record IsSoundColumn (n : ℕ) (c : Column) : Type 0 where
   pub name : IsTrue (is_name c.name)
   pub row_count : length c.content.rows ≡ n
@@ -35,13 +36,16 @@ pub record IsSoundColumn (n : ℕ) (c : Column) : Type 0 where
   pub without : has_terms c.column_type ≡ false → c.content.terms ≡ []
   pub limits : is_too_large c.column_type c.content ≡ false
 
--- Columns ascend by name, then type code; at most one numerical column has a given name; each column is sound; 32 bits count the rows.
+-- Columns ascend by name, then type code; at most one numerical column has a given name; each
+-- column is sound; 32 bits count the rows.
 pub record IsSound (t : Table) : Type 0 where
   pub row_count : t.row_count < 2 ^ 32
   pub ascending : IsTrue (is_ascending (map (λ c. key_bytes (key_of_column c)) t.columns))
-  pub one_numerical : IsTrue (is_ascending (map (λ c. c.name) (filter (λ c. is_numerical c.column_type) t.columns)))
+  pub one_numerical : IsTrue
+      (is_ascending (map (λ c. c.name) (filter (λ c. is_numerical c.column_type) t.columns)))
   pub columns : AllByRecursion (IsSoundColumn t.row_count) t.columns
 
--- Bytes that stand for a table give a sound one. Each number of the list has to be a byte: greater ones could spell a number past its width.
+-- Bytes that stand for a table give a sound one. Each number of the list has to be a byte:
+-- greater ones could spell a number past its width.
 abbrev pub DecodedIsSound : Type 0
 DecodedIsSound = (bytes : List ℕ) (t : Table) → IsBytes bytes → table_of bytes ≡ Some t → IsSound t

@@ -1,4 +1,5 @@
--- How the parts of a file are spelled, whichever bytes its columns have. States docs/FORMAT.md, sections 9 to 11.
+-- How the parts of a file are spelled, whichever bytes its columns have. States docs/FORMAT.md,
+-- sections 9 to 11.
 use Rattle.std.specs.Prelude.{ℕ, List, ◌++◌, map, length, flat_map}
 use Rattle.std.specs.Int.{w32, w64, to_le_bytes}
 use Rattle.col_common.specs.VInt.{vint_bytes}
@@ -20,7 +21,8 @@ key_table_bytes ps = vint_bytes (length ps) ++ flat_map keyed_length_bytes ps
 
 -- the footer of a file, of the current version
 unfoldable pub footer_bytes : ℕ → ℕ → List ℕ
-footer_bytes table_length row_count = to_le_bytes w64 table_length ++ (to_le_bytes w32 row_count ++ version_bytes)
+footer_bytes table_length row_count =
+    to_le_bytes w64 table_length ++ (to_le_bytes w32 row_count ++ version_bytes)
 
 -- each key with the length of its column
 abbrev pub keyed_lengths : List (Key × List ℕ) → List (Key × ℕ)

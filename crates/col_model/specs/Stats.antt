@@ -36,20 +36,30 @@ pub record Stats : Type 0 where
 abbrev pub at_least_one : ℕ → ℕ
 at_least_one n = max 1 n
 
--- The least and the greatest item, the greatest common divisor of the differences from the least, and the count.
--- The divisor is 1 where all differences are 0.
+-- The least and the greatest item, the greatest common divisor of the differences from the least,
+-- and the count. The divisor is 1 where all differences are 0.
 unfoldable pub stats_of : List ℕ → Stats
-stats_of xs = let low = least_of xs in record { least = low; greatest = greatest_of xs; divisor = at_least_one (gcd_of (map (λ x. x - low) xs)); count = length xs }
+stats_of xs =
+    let low = least_of xs in
+    record {
+      least = low;
+      greatest = greatest_of xs;
+      divisor = at_least_one (gcd_of (map (λ x. x - low) xs));
+      count = length xs;
+    }
 
 -- equal in each part
 abbrev pub same_stats : Stats → Stats → Bool
-same_stats a b = (a.least == b.least) && (a.greatest == b.greatest) && (a.divisor == b.divisor) && (a.count == b.count)
+same_stats a b =
+    (a.least == b.least) && (a.greatest == b.greatest) && (a.divisor == b.divisor)
+    && (a.count == b.count)
 
 -- how many divisors the greatest item lies above the least
 abbrev pub steps_of : Stats → ℕ
 steps_of s = (s.greatest - s.least) / s.divisor
 
--- what statistics show by themselves: the greatest item fits 64 bits and the count 32, the divisor isn't 0, and is 1 where all items are one; without items both bounds are 0
+-- what statistics show by themselves: the greatest item fits 64 bits and the count 32, the
+-- divisor isn't 0, and is 1 where all items are one; without items both bounds are 0
 abbrev pub are_possible : ℕ → ℕ → ℕ → ℕ → Bool
 are_possible least divisor steps count =
     nat_le 1 divisor && nat_lt (least + divisor * steps) (2 ^ 64) && nat_lt count (2 ^ 32)
@@ -62,8 +72,15 @@ stats_at bytes = do
   divisor ← vint least.1
   steps ← vint divisor.1
   count ← vint steps.1
-  only_if (are_possible least.0 divisor.0 steps.0 count.0) (record { least = least.0; greatest = least.0 + divisor.0 * steps.0; divisor = divisor.0; count = count.0 }, count.1)
+  let s : Stats = record {
+    least = least.0;
+    greatest = least.0 + divisor.0 * steps.0;
+    divisor = divisor.0;
+    count = count.0;
+  }
+  only_if (are_possible least.0 divisor.0 steps.0 count.0) (s, count.1)
 
 -- the bytes of statistics
 abbrev pub stats_bytes : Stats → List ℕ
-stats_bytes s = vint_bytes s.least ++ (vint_bytes s.divisor ++ (vint_bytes (steps_of s) ++ vint_bytes s.count))
+stats_bytes s =
+    vint_bytes s.least ++ (vint_bytes s.divisor ++ (vint_bytes (steps_of s) ++ vint_bytes s.count))

@@ -7,9 +7,12 @@ use Rattle.col_bits.specs.Packed.{packed, packed_bytes, width, is_width}
 use Rattle.col_model.specs.Stats.{Stats, stats_of, same_stats, steps_of, stats_at, stats_bytes}
 use Rattle.col_model.specs.Line.{line, line_at}
 
--- Codec 0, Bitpacked: for each item, how many divisors it lies above the least, at the width of the greatest such count.
+-- Codec 0, Bitpacked: for each item, how many divisors it lies above the least, at the width of
+-- the greatest such count.
 unfoldable pub bitpacked_values : Stats → List ℕ → Option (List ℕ)
-bitpacked_values s bytes = packed bytes (width (steps_of s)) s.count >>= λ steps. Some (map (λ k. s.least + s.divisor * k) steps)
+bitpacked_values s bytes =
+    packed bytes (width (steps_of s)) s.count
+    >>= λ steps. Some (map (λ k. s.least + s.divisor * k) steps)
 
 -- the width that the first byte names, and the other bytes
 abbrev pub width_at : List ℕ → Option (ℕ × List ℕ)
@@ -43,7 +46,8 @@ linear_values s bytes = do
 abbrev pub block_len : ℕ → ℕ
 block_len n = min n 512
 
--- what the blocks stand for: n items in blocks of 512, each with its line, and each beginning at a byte
+-- what the blocks stand for: n items in blocks of 512, each with its line, and each beginning at
+-- a byte
 unfoldable pub blocks : ℕ → List Slope → List ℕ → Option (List (List ℕ) × List ℕ)
 blocks n [] bytes = Some ([], bytes)
 blocks n (l ∷ ls) bytes = do
@@ -57,8 +61,8 @@ abbrev pub joined_lists : {A : Type 0} → List (List A) → List A
 joined_lists [] = []
 joined_lists (xs ∷ xss) = xs ++ joined_lists xss
 
--- Codec 2, BlockwiseLinear: blocks of 512 items, then a line for each block, then the length of the lines.
--- An item is the least plus the divisor times its block's line and offset.
+-- Codec 2, BlockwiseLinear: blocks of 512 items, then a line for each block, then the length of
+-- the lines. An item is the least plus the divisor times its block's line and offset.
 unfoldable pub blockwise_values : Stats → List ℕ → Option (List ℕ)
 blockwise_values s bytes = do
   parts ← parts_by_second w64 bytes
@@ -73,7 +77,8 @@ values_by (suc zero) s bytes = linear_values s bytes
 values_by (suc (suc zero)) s bytes = blockwise_values s bytes
 values_by (suc (suc (suc _))) s bytes = None
 
--- The list that the bytes stand for: a codec byte, statistics, items. The statistics are those of the list.
+-- The list that the bytes stand for: a codec byte, statistics, items. The statistics are those of
+-- the list.
 unfoldable pub values64 : List ℕ → Option (List ℕ)
 values64 [] = None
 values64 (codec ∷ bytes) = do
@@ -83,4 +88,7 @@ values64 (codec ∷ bytes) = do
 
 -- the one form of a list under Bitpacked
 abbrev pub bitpacked_bytes : List ℕ → List ℕ
-bitpacked_bytes xs = let s = stats_of xs in 0 ∷ (stats_bytes s ++ packed_bytes (width (steps_of s)) (map (λ x. (x - s.least) / s.divisor) xs))
+bitpacked_bytes xs =
+    let s = stats_of xs in
+    let steps = map (λ x. (x - s.least) / s.divisor) xs in
+    0 ∷ (stats_bytes s ++ packed_bytes (width (steps_of s)) steps)

@@ -8,8 +8,9 @@ use Rattle.col_common.specs.Reading.{◌>>=◌, only_if, le_number}
 abbrev pub current_version : ℕ
 current_version = CURRENT_VERSION
 
--- The versions that are read: 2 alone. Where version 1 is read too, this line becomes `is_version v = (v == 1) || (v == 2)`, and nothing else
--- changes: `counts` has the indexes of version 1 already.
+-- The versions that are read: 2 alone. Where version 1 is read too, this line becomes `is_version
+-- v = (v == 1) || (v == 2)`, and nothing else changes: `counts` has the indexes of version 1
+-- already.
 abbrev pub is_version : ℕ → Bool
 is_version v = v == 2
 

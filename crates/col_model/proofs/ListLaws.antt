@@ -1,0 +1,45 @@
+-- Lists: what all items keep, and where items stand.
+use Rattle.std.proofs.Common.{◌≡◌, ℕ, zero, suc, nat_lt, true, false, lt-ltb, List, [], ◌∷◌, ◌++◌, map, filter_map, length, take, drop, slice_get, Some, refl, sym, ◌∙◌, ap, arith}
+use Rattle.std.specs.List.{AllByRecursion}
+use Rattle.std.proofs.lemmas.Bool.{true≢false}
+use Rattle.col_model.specs.Ascending.{differences}
+
+-- a fact of each item and of one more
+pub all_push : {A : Type 0} (P : A → Type 0) (xs : List A) (x : A) → AllByRecursion P xs → P x → AllByRecursion P (xs ++ x ∷ [])
+all_push P [] x all p = (p, tt)
+all_push P (y ∷ xs) x all p = (all.0, all_push P xs x all.1 p)
+
+pub all_pushed : {A : Type 0} (P : A → Type 0) (xs : List A) (x : A) → AllByRecursion P (xs ++ x ∷ []) → AllByRecursion P xs × P x
+all_pushed P [] x all = (tt, all.0)
+all_pushed P (y ∷ xs) x all = let later = all_pushed P xs x all.1 in ((all.0, later.0), later.1)
+
+-- a fact of each item, on a front part and behind it
+pub all_taken : (P : ℕ → Type 0) (n : ℕ) (xs : List ℕ) → AllByRecursion P xs → AllByRecursion P (take n xs)
+all_taken P zero xs all = tt
+all_taken P (suc n) [] all = tt
+all_taken P (suc n) (x ∷ xs) all = (all.0, all_taken P n xs all.1)
+
+pub all_dropped : (P : ℕ → Type 0) (n : ℕ) (xs : List ℕ) → AllByRecursion P xs → AllByRecursion P (drop n xs)
+all_dropped P zero xs all = all
+all_dropped P (suc n) [] all = tt
+all_dropped P (suc n) (x ∷ xs) all = all_dropped P n xs all.1
+
+-- the item behind others
+pub slice_get-behind : {A : Type 0} (before : List A) (x : A) (rest : List A) → slice_get (before ++ x ∷ rest) (length before) ≡ Some x
+slice_get-behind [] x rest = refl
+slice_get-behind (y ∷ before) x rest = slice_get-behind before x rest
+
+-- a list that isn't longer than 0
+pub no-items : {A : Type 0} (xs : List A) → nat_lt 0 (length xs) ≡ false → xs ≡ []
+no-items [] e = refl
+no-items (x ∷ xs) e = absurd (true≢false (sym (lt-ltb 0 (suc (length xs)) (omega arith)) ∙ e))
+
+-- n + 1 numbers have n differences
+pub length-differences : (x : ℕ) (xs : List ℕ) → length (differences (x ∷ xs)) ≡ length xs
+length-differences x [] = refl
+length-differences x (y ∷ zs) = ap suc (length-differences y zs)
+
+-- options that each have an item
+pub filter_map-some : {A : Type 0} (xs : List A) → filter_map (λ x. x) (map Some xs) ≡ xs
+filter_map-some [] = refl
+filter_map-some (x ∷ xs) = ap (λ r. x ∷ r) (filter_map-some xs)

@@ -1,0 +1,35 @@
+-- What the tests of an ordering say, and how numbers compare.
+use Rattle.std.proofs.Common.{◌≡◌, ℕ, ◌<◌, ◌==◌, nat_lt, Bool, true, false, cond, T, refl, arith}
+use Rattle.std.specs.declared.cmp.Ordering.{Ordering}
+use Rattle.std.specs.declared.cmp.Ordering.TheVariants.{Less, Equal, Greater}
+use Rattle.std.specs.Ordering.{nat_cmp, is_lt, is_eq}
+use Rattle.std.proofs.lemmas.Bool.{false≢true, lt-ltb, le-ltb, ne_eqb, ltb-true}
+
+pub less_where : (o : Ordering) → is_lt o ≡ true → o ≡ Less
+less_where Less e = refl
+less_where Equal e = absurd (false≢true e)
+less_where Greater e = absurd (false≢true e)
+
+pub less_of : (o : Ordering) → T (is_lt o) → o ≡ Less
+less_of Less p = refl
+less_of Equal p = absurd p
+less_of Greater p = absurd p
+
+pub equal_of : (o : Ordering) → is_eq o ≡ true → o ≡ Equal
+equal_of Less e = absurd (false≢true e)
+equal_of Equal e = refl
+equal_of Greater e = absurd (false≢true e)
+
+pub nat_cmp-less : (a b : ℕ) → a < b → nat_cmp a b ≡ Less
+nat_cmp-less a b h = rw (lt-ltb a b h) refl
+
+pub nat_cmp-greater : (a b : ℕ) → b < a → nat_cmp a b ≡ Greater
+nat_cmp-greater a b h = rw (le-ltb a b (omega arith), ne_eqb a b (λ e. omega arith)) refl
+
+less-test : (t u : Bool) → is_lt (cond t Less (cond u Equal Greater)) ≡ true → t ≡ true
+less-test true u e = refl
+less-test false true e = absurd (false≢true e)
+less-test false false e = absurd (false≢true e)
+
+pub nat_less : (a b : ℕ) → is_lt (nat_cmp a b) ≡ true → a < b
+nat_less a b e = ltb-true a b (less-test (nat_lt a b) (a == b) e)
