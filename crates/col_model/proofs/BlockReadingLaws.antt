@@ -1,11 +1,9 @@
 -- For a reader that goes from block to block, and one that reads their items.
-use Rattle.std.proofs.Common.{◌≡◌, ℕ, zero, suc, ◌+◌, ◌-◌, ◌*◌, ◌^◌, ◌<◌, ◌≤◌, ◌==◌, ◌&&◌, Bool, true, false, nat_le, List, [], ◌∷◌, length, take, drop, slice_index, slice_index_or, refl, ap, sym, ◌∙◌, arith, lit<, mod-lt, add-one}
+use Rattle.std.proofs.Common.{◌≡◌, ℕ, zero, suc, ◌+◌, ◌-◌, ◌*◌, ◌<◌, ◌≤◌, ◌==◌, ◌&&◌, Bool, true, false, nat_le, List, [], ◌∷◌, length, take, drop, slice_index_or, refl, ap, sym, ◌∙◌, arith, add-one}
 use Rattle.std.proofs.lemmas.Bool.{le-leb, lt-leb}
 use Rattle.std.proofs.lemmas.List.{drop-drop, drop_more, drop_all, length-drop}
-use Rattle.std.proofs.lemmas.List.FromFn.{length-map-range_with_len, get_or-map-range_with_len}
-use Rattle.col_model.specs.Stats.{Stats}
 use Rattle.col_model.specs.U64List.{Slope, block_len}
-use Rattle.col_model.specs.Items.{is_packed, block_bytes, block_start, are_blocks, block_item, blockwise_item, blockwise_items}
+use Rattle.col_model.specs.Items.{is_packed, block_bytes, block_start, are_blocks}
 
 -- the first block begins at the front
 pub block_start-first : (n : ℕ) (ls : List Slope) → block_start n ls 0 ≡ 0

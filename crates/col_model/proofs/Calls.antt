@@ -2,7 +2,7 @@
 use Rattle.std.specs.Prelude.{◌≡◌, ℕ, List, [], ◌∷◌, Some, None, Result, Ok, refl, map, codes, pos, true, false, Bool, ◌++◌, ◌^◌, ◌-◌, length, replicate, flat_map}
 use Rattle.col_model.proofs.OnLiterals.{col_model_on_literals}
 use Rattle.col_model.specs.ColumnType as types
-use Rattle.col_model.specs.Table.{number}
+use Rattle.col_model.specs.Table.{number, full}
 use Rattle.col_model.specs.Recording.{recorded, content_after_all}
 use Rattle.col_model.specs.Refusal.{Refusal, ◌>>=◌}
 use Rattle.col_model.specs.SortOrder.{sort_order}
@@ -10,7 +10,6 @@ use Rattle.col_model.specs.Codes.{exact, next, after_last, code_hit, ranges_befo
 use Rattle.col_model.specs.AddressList.{AddressFooter, code_count, address_footer_at, address_footer, ranges_at, header_at}
 use Rattle.col_common.specs.VInt.{vint_bytes}
 use Rattle.col_model.specs.Index.{counts, offset_counts_v1}
-use Rattle.col_model.specs.Table.{full, multivalued}
 use Rattle.col_model.specs.Version.{version_of, version_bytes}
 use Rattle.col_model.specs.Images.{images64, is_image_of_bool, is_image_of_u32}
 use Rattle.col_model.specs.U64List.{bitpacked_bytes}

@@ -1,9 +1,7 @@
 -- Lines are read back from their bytes, and offsets from a trained line fit its width.
-use Rattle.std.proofs.Common.{◌≡◌, ℕ, zero, suc, ◌+◌, ◌-◌, ◌*◌, ◌/◌, ◌%◌, ◌^◌, ◌<◌, ◌≤◌, inl, inr, true, List, [], ◌∷◌, ◌++◌, map, length, take, slice_index, slice_index_or, Some, refl, ap, ◌∙◌, arith, lit<, append_assoc, lt_of_le_of_lt}
+use Rattle.std.proofs.Common.{◌≡◌, ℕ, zero, suc, ◌+◌, ◌-◌, ◌*◌, ◌/◌, ◌%◌, ◌^◌, ◌<◌, ◌≤◌, inl, inr, true, List, [], ◌∷◌, ◌++◌, map, take, Some, refl, arith, lit<, append_assoc, lt_of_le_of_lt}
 use Rattle.std.specs.List.{AllByRecursion, enumerate_from}
 use Rattle.std.proofs.lemmas.Bool.{cases_eq, cases_lt, lt-ltb, le-ltb, le-leb, eq-eqb, ne_eqb, or_left}
-use Rattle.std.proofs.lemmas.List.FromFn.{length-enumerate_from, get_or-enumerate_from}
-use Rattle.std.proofs.lemmas.List.Elements.{All-from_recursion, All-get_or}
 use Rattle.col_bits.specs.Packed.{width, binary_digits, is_width}
 use Rattle.col_common.proofs.VIntLemmas.{vint-vint_bytes}
 use Rattle.col_model.specs.Stats.{least_of, greatest_of}
@@ -112,12 +110,6 @@ deviations-within xs =
 -- the offsets of a list from its trained line fit the line's width
 pub linear_offsets-fit : (xs : List ℕ) → AllByRecursion (λ v. v < 2 ^ (linear_line xs).offset_width) (offsets_from (linear_line xs) xs)
 linear_offsets-fit xs = mapped_all (λ v. v < 2 ^ (linear_line xs).offset_width) (offset_from (linear_line xs)) (enumerate_from 0 xs) (all_by (λ p h. (linear-offset xs p h).1) (enumerate_from 0 xs) (deviations-within xs))
-
--- a fact of each item at its position, for one of them
-all-enumerated : (P : ℕ × ℕ → Type 0) (xs : List ℕ) (i x : ℕ) → i < length xs → slice_index xs i ≡ x → AllByRecursion P (enumerate_from 0 xs) → P (i, x)
-all-enumerated P xs i x h e all =
-    let place : slice_index_or (enumerate_from 0 xs) i (0, 0) ≡ (i, x) = get_or-enumerate_from 0 xs i (0, 0) h ∙ ap (λ k. (k, slice_index xs i)) (omega arith) ∙ ap (λ v. (i, v)) e in
-    rw place at (All-get_or P (enumerate_from 0 xs) i (0, 0) (rw (length-enumerate_from 0 xs) h) (All-from_recursion P (enumerate_from 0 xs) all))
 
 -- ---- blocks
 

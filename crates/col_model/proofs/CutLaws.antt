@@ -1,7 +1,7 @@
 -- For a writer that cuts a list into blocks, one after another.
-use Rattle.std.proofs.Common.{◌≡◌, ℕ, zero, suc, ◌+◌, ◌-◌, ◌*◌, ◌<◌, ◌≤◌, List, [], ◌∷◌, ◌++◌, length, take, drop, slice_index_or, refl, ap, sym, ◌∙◌, arith, append_assoc, append-nil, add-one}
-use Rattle.std.proofs.lemmas.List.{length-take, length-drop, drop-drop, take-append-le, drop-append-le}
-use Rattle.col_model.specs.U64List.{block_len, joined_lists}
+use Rattle.std.proofs.Common.{◌≡◌, ℕ, zero, suc, ◌+◌, ◌*◌, ◌≤◌, List, [], ◌∷◌, ◌++◌, length, take, drop, refl, ap, sym, ◌∙◌, arith, append_assoc, append-nil, add-one}
+use Rattle.std.proofs.lemmas.List.{length-drop, drop-drop, take-append-le, drop-append-le}
+use Rattle.col_model.specs.U64List.{joined_lists}
 use Rattle.col_model.specs.Codecs.{block_size, cut_blocks}
 
 -- a list behind others
@@ -33,9 +33,3 @@ cut_blocks-append zero xs ys h = refl
 cut_blocks-append (suc k) xs ys h =
     let room : 512 ≤ length xs = omega arith in
     rw (take-append-le block_size xs ys room, drop-append-le block_size xs ys room, cut_blocks-append k (drop block_size xs) ys (rw (length-drop block_size xs) (omega arith))) refl
-
-pub cut_blocks-at : (m k : ℕ) (xs d : List ℕ) → k < m → slice_index_or (cut_blocks m xs) k d ≡ block_at k xs
-unfolding cut_blocks
-cut_blocks-at zero k xs d h = absurd (omega arith)
-cut_blocks-at (suc m) zero xs d h = refl
-cut_blocks-at (suc m) (suc k) xs d h = cut_blocks-at m k (drop block_size xs) d (omega arith) ∙ later-block k xs

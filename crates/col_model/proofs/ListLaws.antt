@@ -1,5 +1,5 @@
 -- Lists: what all items keep, and where items stand.
-use Rattle.std.proofs.Common.{◌≡◌, ℕ, zero, suc, nat_lt, true, false, lt-ltb, List, [], ◌∷◌, ◌++◌, map, filter_map, length, take, drop, slice_get, Some, refl, sym, ◌∙◌, ap, arith}
+use Rattle.std.proofs.Common.{◌≡◌, ℕ, zero, suc, nat_lt, false, lt-ltb, List, [], ◌∷◌, ◌++◌, map, filter_map, length, take, drop, slice_get, Some, refl, sym, ◌∙◌, ap, arith}
 use Rattle.std.specs.List.{AllByRecursion}
 use Rattle.std.proofs.lemmas.Bool.{true≢false}
 use Rattle.col_model.specs.Ascending.{differences}

@@ -12,8 +12,6 @@ use Rattle.col_model.specs.ColumnType as types
 use Rattle.col_model.specs.Column.{column}
 use Rattle.col_model.specs.File.{table_of}
 use Rattle.col_model.specs.Lookup.{docs_between}
-use Rattle.col_model.specs.Sound.{IsSound}
-use Rattle.std.proofs.Common.{lit<}
 
 vint_1000 : vint (0x68 ∷ 0x87 ∷ []) ≡ Some (1000, [])
 unfolding col_model_on_literals

@@ -1,16 +1,10 @@
 -- From what `serde_json` ensures to what a script's lines say.
-use Rattle.std.proofs.Common.{◌≡◌, ℕ, List, [], ◌∷◌, Bool, true, false, Some, None, option_and_then, IsUtf8, refl, ap}
+use Rattle.std.proofs.Common.{◌≡◌, ℕ, List, Bool, true, false, Some, None, option_and_then, IsUtf8, refl}
 use Rattle.std.specs.Str.{is_utf8}
 use Rattle.std.proofs.lemmas.Str.{is_utf8-from_IsUtf8, IsUtf8-from_is_utf8}
 use Rattle.serde_json.specs.Data.{Data}
 use Rattle.serde_json.specs.Read.{read}
-use Rattle.serde_json.specs.View.{items_of}
 use Rattle.col_common.specs.Reading.{only_if}
-use Rattle.col_model.specs.Script.{items_list}
-
-pub items_list-items_of : (ds : List Data) → items_list (items_of ds) ≡ ds
-items_list-items_of [] = refl
-items_list-items_of (d ∷ ds) = ap (λ r. d ∷ r) (items_list-items_of ds)
 
 -- a piece that is a JSON text
 pub read-some : (piece : List ℕ) (d : Data) → IsUtf8 piece → read piece ≡ Some d → option_and_then read (only_if (is_utf8 piece) piece) ≡ Some d

@@ -52,8 +52,8 @@ first_start (r ∷ rs) = r.0
 abbrev pub last_end : List (ℕ × ℕ) → ℕ
 last_end rs = fold (λ e r. r.1) 0 rs
 
--- The ranges at the front, and the bytes behind them: at least one, apart, of numbers below 2 ^
--- 128, with codes below 2 ^ 32.
+-- The ranges at the front, and the bytes behind them: at least one, apart, of numbers below
+-- 2 ^ 128, with codes below 2 ^ 32.
 unfoldable pub ranges_at : List ℕ → Option (List (ℕ × ℕ) × List ℕ)
 ranges_at bytes = do
   n ← vint bytes

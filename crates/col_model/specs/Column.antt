@@ -1,5 +1,5 @@
 -- What the bytes of a column stand for. States docs/FORMAT.md, section 9.
-use Rattle.std.specs.Prelude.{ℕ, ℤ, pos, ◌-ℤ◌, ◌^◌, ◌==◌, ◌&&◌, nat_lt, Bool, true, List, [], map, length, sum, slice_get, unwrap_or, Option, Some, if◌then◌else◌}
+use Rattle.std.specs.Prelude.{ℕ, ℤ, pos, ◌-ℤ◌, ◌^◌, ◌==◌, ◌&&◌, Bool, true, List, [], map, length, sum, slice_get, unwrap_or, Option, Some, if◌then◌else◌}
 use Rattle.std.specs.Int.{w32, w64}
 use Rattle.std.specs.List.{list_all}
 use Rattle.col_common.specs.Reading.{◌>>=◌, only_if, parts_by_first}

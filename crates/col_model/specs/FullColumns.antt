@@ -1,6 +1,6 @@
 -- Full columns of u64, read under any codec and written under Bitpacked, and the files and tables
 -- of such columns alone. States docs/FORMAT.md, sections 4, 8, 9 and 11.
-use Rattle.std.specs.Prelude.{◌≡◌, ℕ, ◌^◌, ◌<◌, ◌==◌, pos, true, List, [], ◌∷◌, map, length, slice_range, bytes_eq, Option, Some}
+use Rattle.std.specs.Prelude.{◌≡◌, ℕ, ◌^◌, ◌==◌, pos, true, List, [], ◌∷◌, map, length, slice_range, bytes_eq, Option, Some}
 use Rattle.std.specs.List.{AllByRecursion}
 use Rattle.std.specs.Int.{w64}
 use Rattle.col_common.specs.Reading.{◌>>=◌, only_if, parts_by_first}

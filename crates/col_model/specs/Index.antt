@@ -1,7 +1,7 @@
 -- How many values each row of a column has. States docs/FORMAT.md, sections 7 and 8.
-use Rattle.std.specs.Prelude.{ℕ, zero, suc, ◌+◌, ◌-◌, ◌^◌, ◌==◌, ◌&&◌, nat_lt, Bool, List, [], ◌∷◌, length, map, replicate, find, zip, unwrap_or, option_map, Option, Some, None, if◌then◌else◌}
+use Rattle.std.specs.Prelude.{ℕ, zero, suc, ◌+◌, ◌^◌, ◌==◌, ◌&&◌, nat_lt, Bool, List, [], ◌∷◌, length, map, replicate, find, zip, unwrap_or, option_map, Option, Some, None, if◌then◌else◌}
 use Rattle.std.specs.Int.{w64}
-use Rattle.std.specs.List.{list_all, range_with_len, starts_with}
+use Rattle.std.specs.List.{range_with_len, starts_with}
 use Rattle.std.specs.Bool.{nat_eq}
 use Rattle.col_common.specs.Reading.{◌>>=◌, only_if, parts_by_first}
 use Rattle.col_common.specs.VInt.{vint}

@@ -1,0 +1,24 @@
+-- What follows where steps refused nothing.
+use Rattle.std.proofs.Common.{◌≡◌, Bool, true, false, Result, Ok, Err, is_ok, T, refl, sym, ap, subst}
+use Rattle.std.specs.Prelude.{⊤}
+use Rattle.col_model.specs.Refusal.{Refusal, ◌>>=◌, refuse_if}
+
+-- a refusal is no answer
+pub err_not_ok : {A : Type 0} (e : Refusal) (y : A) → Err e ≡ Ok y → ⊥
+err_not_ok e y p = subst (λ r. T (is_ok r)) (sym p) tt
+
+pub same_Ok : {A : Type 0} (x y : A) → ◌≡◌ {A = Result A Refusal} (Ok x) (Ok y) → x ≡ y
+same_Ok {A} x y p = ap value p
+  where
+    value : Result A Refusal → A
+    value (Ok z) = z
+    value (Err e) = x
+
+-- what follows a step that refused nothing
+pub refuse_if-ok : {A : Type 0} (t : Bool) (e : Refusal) (f : ⊤ → Result A Refusal) (y : A) → (refuse_if t e >>= f) ≡ Ok y → f tt ≡ Ok y
+refuse_if-ok true e f y p = absurd (err_not_ok e y p)
+refuse_if-ok false e f y p = p
+
+pub bind-ok : {A B : Type 0} (r : Result A Refusal) (f : A → Result B Refusal) (y : B) → (r >>= f) ≡ Ok y → (x : A) × (r ≡ Ok x) × (f x ≡ Ok y)
+bind-ok (Ok x) f y p = (x, refl, p)
+bind-ok (Err e) f y p = absurd (err_not_ok e y p)
