@@ -1,8 +1,9 @@
--- What the tests of an ordering say, and how numbers compare.
-use Rattle.std.proofs.Common.{◌≡◌, ℕ, ◌<◌, ◌==◌, nat_lt, Bool, true, false, cond, T, refl, arith}
+-- What the tests of an ordering say, how numbers compare, and which byte lists are equal.
+use Rattle.std.proofs.Common.{◌≡◌, ℕ, ◌<◌, ◌==◌, nat_lt, Bool, true, false, cond, T, List, bytes_eq, refl, arith}
 use Rattle.std.specs.declared.cmp.Ordering.{Ordering}
 use Rattle.std.specs.declared.cmp.Ordering.TheVariants.{Less, Equal, Greater}
 use Rattle.std.specs.Ordering.{nat_cmp, is_lt, is_eq}
+use Rattle.std.proofs.lemmas.Slice.Eq.{bytes_eq-Decides}
 use Rattle.std.proofs.lemmas.Bool.{false≢true, lt-ltb, le-ltb, ne_eqb, ltb-true}
 
 pub less_where : (o : Ordering) → is_lt o ≡ true → o ≡ Less
@@ -33,3 +34,9 @@ less-test false false e = absurd (false≢true e)
 
 pub nat_less : (a b : ℕ) → is_lt (nat_cmp a b) ≡ true → a < b
 nat_less a b e = ltb-true a b (less-test (nat_lt a b) (a == b) e)
+
+pub bytes_eq-true : (a b : List ℕ) → bytes_eq a b ≡ true → a ≡ b
+bytes_eq-true a b e = (bytes_eq-Decides a b).0 e
+
+pub bytes_eq-same : (a : List ℕ) → bytes_eq a a ≡ true
+bytes_eq-same a = (bytes_eq-Decides a a).1 refl
