@@ -4,7 +4,7 @@ use Rattle.std.specs.List.{AllByRecursion}
 use Rattle.std.specs.Int.{div_ceil}
 use Rattle.std.proofs.lemmas.Bool.{cases_lt}
 use Rattle.std.proofs.lemmas.Nat.{le-div}
-use Rattle.std.proofs.lemmas.List.{length-map, map-append, take-append-drop, length-take-le, take_all}
+use Rattle.std.proofs.lemmas.List.{length-map, map-append, take-append-drop, length-take-le, take_all, drop_all}
 use Rattle.col_common.specs.Outside.{SeenSink}
 use Rattle.col_common.specs.Serializing.{Serializes}
 use Rattle.col_common.specs.declared.error.ColumnarError.{ColumnarError}
@@ -17,17 +17,8 @@ use Rattle.col_model.proofs.U64ListLaws.{Describes, stats_of-describes}
 use Rattle.col_model.proofs.WidthLaws.{width-above}
 use Rattle.col_codecs.specs.Bitpacked.{FitSteps}
 use Rattle.col_codecs.proofs.PossibleLemmas.{small_by_greatest}
+use Rattle.col_codecs.proofs.ListLemmas.{all_taken, all_dropped}
 use Rattle.col_codecs.proofs.PackingLemmas.{packed_bytes-append}
-
-all-take : (P : ℕ → Type 0) (n : ℕ) (xs : List ℕ) → AllByRecursion P xs → AllByRecursion P (take n xs)
-all-take P zero xs all = tt
-all-take P (suc n) [] all = tt
-all-take P (suc n) (x ∷ xs) all = (all.0, all-take P n xs all.1)
-
-all-drop : (P : ℕ → Type 0) (n : ℕ) (xs : List ℕ) → AllByRecursion P xs → AllByRecursion P (drop n xs)
-all-drop P zero xs all = all
-all-drop P (suc n) [] all = tt
-all-drop P (suc n) (x ∷ xs) all = all-drop P n xs all.1
 
 -- the steps fit
 pub steps-fit : (s : Stats) (w : ℕ) (xs : List ℕ) → FitSteps s w xs → AllByRecursion (λ v. v < 2 ^ w) (steps_above s xs)
@@ -35,12 +26,6 @@ steps-fit s w xs fit = mapped_all (λ v. v < 2 ^ w) (λ x. (x - s.least) / s.div
 
 packed-none : (w : ℕ) → packed_bytes w [] ≡ []
 packed-none w = ap (λ n. digits 256 (div_ceil n 8) 0) (zero-mul w)
-
-nothing-behind : (n : ℕ) (xs : List ℕ) → length xs ≤ n → drop n xs ≡ []
-nothing-behind zero [] h = refl
-nothing-behind zero (x ∷ xs) h = absurd (omega arith)
-nothing-behind (suc n) [] h = refl
-nothing-behind (suc n) (x ∷ xs) h = nothing-behind n xs (omega arith)
 
 -- what is left, in its first block and the others
 block-cut : (s : Stats) (w n : ℕ) (left : List ℕ) → FitSteps s w left → n ≡ min 512 (length left) → packed_bytes w (steps_above s left) ≡ packed_bytes w (steps_above s (take n left)) ++ packed_bytes w (steps_above s (drop n left))
@@ -52,13 +37,13 @@ block-cut s w n left fit e =
           sym (append-nil (packed_bytes w (map f left)))
           ∙ ap (λ ys. packed_bytes w (map f ys) ++ []) (sym (take_all n left all))
           ∙ ap (λ ys. packed_bytes w (map f (take n left)) ++ ys) (sym (packed-none w))
-          ∙ ap (λ ys. packed_bytes w (map f (take n left)) ++ packed_bytes w (map f ys)) (sym (nothing-behind n left all))
+          ∙ ap (λ ys. packed_bytes w (map f (take n left)) ++ packed_bytes w (map f ys)) (sym (drop_all n left all))
       | inr h ↦
           let whole : n ≡ 512 = omega (arith, e, h) in
           let long : length (map f (take n left)) % 8 ≡ 0 = ap (λ k. k % 8) (length-map (take n left) f ∙ length-take-le n left (omega (arith, whole, h)) ∙ whole) in
           ap (λ ys. packed_bytes w (map f ys)) (sym (take-append-drop n left))
           ∙ ap (packed_bytes w) (map-append f (take n left) (drop n left))
-          ∙ packed_bytes-append w (map f (take n left)) (map f (drop n left)) (steps-fit s w (take n left) (all-take (λ x. (s.least ≤ x) × ((x - s.least) / s.divisor < 2 ^ w)) n left fit)) long
+          ∙ packed_bytes-append w (map f (take n left)) (map f (drop n left)) (steps-fit s w (take n left) (all_taken (λ x. (s.least ≤ x) × ((x - s.least) / s.divisor < 2 ^ w)) n left fit)) long
     ]
 
 -- the steps of the values before those that are left were added
@@ -84,7 +69,7 @@ IsWritten-more s w xs left rest n a b c h e behind more = record {
       ∙ sym (append_assoc h.bytes (packed_bytes w (steps_above s (take n left))) (packed_bytes w (steps_above s (drop n left))))
       ∙ ap (λ ys. (h.bytes ++ packed_bytes w (steps_above s (take n left))) ++ packed_bytes w (steps_above s ys)) (sym behind);
   written = serializes-then a b c tt (Ok tt) h.bytes (packed_bytes w (steps_above s (take n left))) h.written more;
-  fit = subst (FitSteps s w) (sym behind) (all-drop (λ x. (s.least ≤ x) × ((x - s.least) / s.divisor < 2 ^ w)) n left h.fit);
+  fit = subst (FitSteps s w) (sym behind) (all_dropped (λ x. (s.least ≤ x) × ((x - s.least) / s.divisor < 2 ^ w)) n left h.fit);
 }
 
 -- a block that was refused

@@ -70,10 +70,6 @@ estimated-bound (suc k) xs e =
     let sums : estimated (suc k) xs ≡ block_estimate (take block_size xs) + estimated k (drop block_size xs) = sum_by-cons (λ (n : ℕ). n) (block_estimate (take block_size xs)) (map block_estimate (cut_blocks k (drop block_size xs))) in
     omega (arith, sums, block_estimate-bound (take block_size xs) first, estimated-bound k (drop block_size xs) rest, length-drop block_size xs)
 
--- all values are in whole blocks
-pub estimated-whole : (k : ℕ) (xs : List ℕ) → length xs ≡ k * block_size → estimated k xs ≡ sum (map block_estimate (blocks_of xs))
-estimated-whole k xs e = let n : k ≡ block_count (length xs) = omega arith in ap (λ m. estimated m xs) n
-
 -- the last block is shorter
 pub estimated-last : (k : ℕ) (xs ys : List ℕ) → length xs ≡ k * block_size → length ys ≤ block_size → 0 < length ys → estimated k xs + block_estimate ys ≡ sum (map block_estimate (blocks_of (xs ++ ys)))
 estimated-last k xs ys e h p =

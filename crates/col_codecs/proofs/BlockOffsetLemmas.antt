@@ -2,6 +2,7 @@
 use Rattle.std.proofs.Common.{◌≡◌, ℕ, ◌+◌, ◌<◌, ◌≤◌, max, List, [], ◌∷◌, ◌++◌, length, take, drop, map, get_or, set, refl, sym, ◌∙◌, ap, arith, length-set}
 use Rattle.std.specs.List.{enumerate_from}
 use Rattle.std.proofs.lemmas.List.{take_more, take_more_set, take_all, drop_more, drop-set-lt, length-take-le}
+use Rattle.std.proofs.lemmas.List.Sums.{fold_push}
 use Rattle.col_bits.specs.Packed.{width}
 use Rattle.col_model.specs.Stats.{greatest_of}
 use Rattle.col_model.specs.Training.{line_of, less_wrapped}
@@ -10,7 +11,7 @@ use Rattle.col_model.specs.U64List.{Slope}
 use Rattle.col_model.specs.Codecs.{offset_from, offsets_from, block_line}
 use Rattle.col_codecs.specs.declared.line.Line.{Line}
 use Rattle.col_codecs.specs.Slope.{slope_of}
-use Rattle.col_codecs.proofs.StatsLemmas.{fold-max-push}
+use Rattle.col_codecs.proofs.ListLemmas.{head-same, tail-same}
 use Rattle.col_codecs.proofs.OffsetLemmas.{by_position-append}
 
 pub offsets-push : (l : Slope) (xs : List ℕ) (x i : ℕ) → i ≡ length xs → offsets_from l (xs ++ x ∷ []) ≡ offsets_from l xs ++ offset_from l (i, x) ∷ []
@@ -24,15 +25,6 @@ pub record AreOffsets (l : Slope) (before now : List ℕ) (i greatest : ℕ) : T
   pub rest : drop i now ≡ drop i before
   pub long : length now ≡ length before
   pub top : greatest ≡ greatest_of (take i now)
-
-pub AreOffsets-none : (l : Slope) (before : List ℕ) → AreOffsets l before before 0 0
-AreOffsets-none l before = record { done = refl; rest = refl; long = refl; top = refl }
-
-head-same : (x y : ℕ) (xs ys : List ℕ) → x ∷ xs ≡ y ∷ ys → x ≡ y
-head-same x y xs ys e = cc
-
-tail-same : (x y : ℕ) (xs ys : List ℕ) → x ∷ xs ≡ y ∷ ys → xs ≡ ys
-tail-same x y xs ys e = cc
 
 -- one value more
 pub AreOffsets-push : (l : Slope) (before now : List ℕ) (i greatest offset : ℕ) → AreOffsets l before now i greatest → i < length now → offset ≡ offset_from l (i, get_or now i 0) → AreOffsets l before (set now i offset) (i + 1) (max greatest offset)
@@ -52,14 +44,8 @@ AreOffsets-push l before now i greatest offset h room e =
           drop-set-lt (i + 1) now i offset (omega arith)
           ∙ tail-same (get_or now i 0) (get_or before i 0) (drop (i + 1) now) (drop (i + 1) before) parts;
       long = length-set now i offset ∙ h.long;
-      top = ap (λ g. max g offset) h.top ∙ sym (fold-max-push 0 (take i now) offset) ∙ ap greatest_of (sym put);
+      top = ap (λ g. max g offset) h.top ∙ sym (fold_push max 0 (take i now) offset) ∙ ap greatest_of (sym put);
     }
-
-pub AreOffsets-end : (l : Slope) (before now : List ℕ) (i greatest : ℕ) → AreOffsets l before now i greatest → length before ≤ i → (now ≡ offsets_from l before) × (greatest ≡ greatest_of now)
-AreOffsets-end l before now i greatest h e =
-    let all : take i now ≡ now = take_all i now (omega (arith, h.long)) in
-    let whole : take i before ≡ before = take_all i before e in
-    (sym all ∙ h.done ∙ ap (offsets_from l) whole, h.top ∙ ap greatest_of all)
 
 -- a trained line with the width of the greatest offset
 pub block_line-held : (l : Line) (vals now : List ℕ) (greatest w : ℕ) → ◌≡◌ {A = ℕ × ℕ} (l.slope, l.intercept) (line_of vals) → now ≡ offsets_from (slope_of l) vals → greatest ≡ greatest_of now → w ≡ width greatest → let held : Slope = record { slope = l.slope; intercept = l.intercept; offset_width = w } in held ≡ block_line vals

@@ -31,12 +31,6 @@ PlacedSoFar-push n slopes bs bytes k b h room e w = record {
   ];
 }
 
-pub ArePlaced-all : (n : ℕ) (slopes : List Slope) (bs : List Block) (bytes : List ℕ) (k : ℕ) → PlacedSoFar n slopes bs bytes k → length bs ≤ k → map block_slope bs ≡ slopes → ArePlaced n bs bytes
-ArePlaced-all n slopes bs bytes k h all e = record {
-  starts = λ i p. h.starts i (omega arith) ∙ ap (λ ls. block_start n ls i) (sym e);
-  within = λ i p. h.within i (omega arith);
-}
-
 -- the last block ends with the bytes
 pub placing-end : (n : ℕ) (slopes : List Slope) (bytes : List ℕ) (k start : ℕ) → IsAtBlock n slopes bytes k start → length slopes ≤ k → (start == length bytes) ≡ are_blocks n slopes bytes
 placing-end n slopes bytes k start at all = ends start (length bytes) at.within ∙ sym (at_block-end n slopes bytes k start at all)

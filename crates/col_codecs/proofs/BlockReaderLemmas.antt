@@ -20,7 +20,7 @@ use Rattle.col_codecs.specs.declared.blockwise_linear.block.Block.{Block}
 use Rattle.col_codecs.specs.Header.{list_by}
 use Rattle.col_codecs.specs.Blocks.{block_slope, block_of, no_block, step_in, step_of, steps_in, item_of, items_in, lines_of, ArePlaced, IsReader}
 use Rattle.col_codecs.proofs.LinearReaderLemmas.{filled_from}
-use Rattle.col_codecs.proofs.BoundsLemmas.{same_stats-equal}
+use Rattle.col_model.proofs.OneFormLaws.{same_stats-equal}
 use Rattle.col_codecs.proofs.BlockStatsLemmas.{item_of-wrapped}
 use Rattle.col_codecs.proofs.BlockStepsLemmas.{block-found}
 

@@ -87,13 +87,6 @@ lines_of-stuck n bytes e = rw e refl
 abbrev pub AreRead : ℕ → List ℕ → ℕ → List Block → List ℕ → Type 0
 AreRead n bytes k bs rest = lines_of n bytes ≡ (lines_of (n - k) rest >>= with_lines (map block_slope bs))
 
-pub AreRead-none : (n : ℕ) (bytes : List ℕ) → AreRead n bytes 0 [] bytes
-AreRead-none n bytes = let all : n - 0 ≡ n = omega arith in rw all (same (lines_of n bytes))
-  where
-    same : (o : Option (List Slope)) → o ≡ (o >>= with_lines [])
-    same None = refl
-    same (Some ls) = refl
-
 -- one line more
 pub AreRead-push : (n : ℕ) (bytes : List ℕ) (k : ℕ) (bs : List Block) (rest more : List ℕ) (b : Block) → AreRead n bytes k bs rest → k < n → slope_at rest ≡ Some (block_slope b, more) → AreRead n bytes (k + 1) (bs ++ b ∷ []) more
 AreRead-push n bytes k bs rest more b h p e =

@@ -16,7 +16,7 @@ use Rattle.col_model.proofs.ItemLaws.{length-linear_items, linear_items-at, line
 use Rattle.col_codecs.specs.declared.blockwise_linear.block.Block.{Block}
 use Rattle.col_codecs.specs.ColumnStats.{IsPossible}
 use Rattle.col_codecs.specs.Blocks.{block_slope, step_in, steps_in_block, item_of, is_whole, own_step}
-use Rattle.col_codecs.proofs.BoundsLemmas.{same_stats-equal}
+use Rattle.col_model.proofs.OneFormLaws.{same_stats-equal}
 use Rattle.col_codecs.proofs.StepsLemmas.{steps_stats, same_stats-stepped}
 
 and-false : (b : Bool) → (b && false) ≡ false

@@ -14,16 +14,7 @@ use Rattle.col_model.proofs.StatsLaws.{least_of-all}
 use Rattle.col_model.proofs.CodecLaws.{block_offsets-fit}
 use Rattle.col_codecs.specs.Blocks.{IsBlock}
 use Rattle.col_codecs.proofs.BlockEstimateLemmas.{block_line-width, count-is}
-
-all_taken : (P : ℕ → Type 0) (n : ℕ) (xs : List ℕ) → AllByRecursion P xs → AllByRecursion P (take n xs)
-all_taken P zero xs all = tt
-all_taken P (suc n) [] all = tt
-all_taken P (suc n) (x ∷ xs) all = (all.0, all_taken P n xs all.1)
-
-all_dropped : (P : ℕ → Type 0) (n : ℕ) (xs : List ℕ) → AllByRecursion P xs → AllByRecursion P (drop n xs)
-all_dropped P zero xs all = all
-all_dropped P (suc n) [] all = tt
-all_dropped P (suc n) (x ∷ xs) all = all_dropped P n xs all.1
+use Rattle.col_codecs.proofs.ListLemmas.{all_taken, all_dropped}
 
 -- the packed blocks so far, and their lines
 abbrev pub packed_so_far : List ℕ → ℕ → List ℕ
@@ -70,11 +61,6 @@ trained-width steps offsets l h = rw h.slope (block_line-width steps)
 
 pub trained-small : (steps offsets : List ℕ) (l : Slope) → IsTrained steps offsets l → AllByRecursion (λ v. v < 2 ^ l.offset_width) offsets
 trained-small steps offsets l h = rw (h.slope, h.offsets_are) (block_offsets-fit steps)
-
-pub trained-packed : (steps offsets : List ℕ) (l : Slope) → IsTrained steps offsets l → packed_bytes l.offset_width offsets ≡ packed_block steps
-trained-packed steps offsets l h =
-    ap (λ (m : Slope). packed_bytes m.offset_width offsets) h.slope
-    ∙ ap (λ os. packed_bytes (block_line steps).offset_width os) h.offsets_are
 
 -- ---- the values
 

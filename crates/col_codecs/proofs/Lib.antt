@@ -14,6 +14,7 @@ pub mod BoundsLemmas
 pub mod EstimateLemmas
 pub mod HeaderLemmas
 pub mod LineLemmas
+pub mod ListLemmas
 pub mod LinearLemmas
 pub mod LinearReaderLemmas
 pub mod OffsetLemmas

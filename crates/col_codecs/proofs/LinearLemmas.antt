@@ -2,6 +2,7 @@
 use Rattle.std.proofs.Common.{◌≡◌, ℕ, suc, ◌+◌, ◌-◌, ◌%◌, ◌^◌, ◌<◌, ◌≤◌, min, max, List, [], ◌∷◌, ◌++◌, map, fold, length, take, set, refl, sym, ap, ◌∙◌, subst, arith}
 use Rattle.std.specs.List.{enumerate_from}
 use Rattle.std.proofs.lemmas.List.{take_all, take_more_set, length-set, length_push, take-append-le}
+use Rattle.std.proofs.lemmas.List.Sums.{fold_push}
 use Rattle.col_model.specs.Stats.{least_of, greatest_of}
 use Rattle.col_model.specs.Training.{line_of, less_wrapped}
 use Rattle.col_model.specs.U64List.{Slope as LineAndWidth}
@@ -15,17 +16,9 @@ use Rattle.col_codecs.specs.declared.linear.estimator.LinearCodecEstimator.{Line
 
 -- ---- lists that grow
 
-fold-min-push : (a : ℕ) (xs : List ℕ) (x : ℕ) → fold min a (xs ++ x ∷ []) ≡ min (fold min a xs) x
-fold-min-push a [] x = refl
-fold-min-push a (y ∷ xs) x = fold-min-push (min a y) xs x
-
-fold-max-push : (a : ℕ) (xs : List ℕ) (x : ℕ) → fold max a (xs ++ x ∷ []) ≡ max (fold max a xs) x
-fold-max-push a [] x = refl
-fold-max-push a (y ∷ xs) x = fold-max-push (max a y) xs x
-
 least_of-push : (xs : List ℕ) (x : ℕ) → 0 < length xs → least_of (xs ++ x ∷ []) ≡ min (least_of xs) x
 least_of-push [] x p = absurd (omega arith)
-least_of-push (y ∷ xs) x p = fold-min-push y xs x
+least_of-push (y ∷ xs) x p = fold_push min y xs x
 
 deviations-push : (l : ℕ × ℕ) (xs : List ℕ) (x : ℕ) → deviations l (xs ++ x ∷ []) ≡ deviations l xs ++ deviation l (length xs, x) ∷ []
 deviations-push l xs x =
@@ -57,7 +50,7 @@ trained-more e f xs x d enough t is s low high =
     record {
       line = ap (λ k. line_seen k.line) s ∙ t.line ∙ sym same;
       lowest = low ∙ ap (λ m. min m d) t.lowest ∙ sym (ap least_of grown ∙ least_of-push ds d some);
-      highest = high ∙ ap (λ m. max m d) t.highest ∙ sym (ap greatest_of grown ∙ fold-max-push 0 ds d);
+      highest = high ∙ ap (λ m. max m d) t.highest ∙ sym (ap greatest_of grown ∙ fold_push max 0 ds d);
     }
 
 -- a value behind the first ones

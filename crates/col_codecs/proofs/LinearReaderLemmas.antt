@@ -16,6 +16,7 @@ use Rattle.col_model.proofs.ReadingLaws.{drop-front}
 use Rattle.col_model.proofs.ItemLaws.{linear_values-some, linear_values-none, length-linear_items, linear_items-at, linear_items-push}
 use Rattle.col_codecs.specs.ColumnStats.{Collected, collected_of}
 use Rattle.col_codecs.specs.Header.{list_by}
+use Rattle.col_codecs.proofs.ListLemmas.{range-part}
 use Rattle.col_codecs.proofs.StatsLemmas.{collected-count}
 
 -- ---- what stands behind a line
@@ -98,18 +99,6 @@ pub list_by-tested : (s : Stats) (bytes rest read : List ℕ) (l : LineAndWidth)
 list_by-tested s bytes rest read l b test e same is t = list_by-line s bytes rest l e ∙ ap (λ a. only_if a (linear_items l rest s.count)) (ap (is_list s l) (sym same) ∙ sym is ∙ t)
 
 -- ---- items
-
--- a part of what a function gives of the first numbers
-pub range-part : (f : ℕ → ℕ) (n start m : ℕ) → start + m ≤ n → map f (range_with_len start m) ≡ take m (drop start (map f (range_with_len 0 n)))
-range-part f n start m h =
-    let whole = map f (range_with_len 0 n) in
-    let long : length (map f (range_with_len start m)) ≡ m = length-map-range_with_len f start m in
-    let part : length (take m (drop start whole)) ≡ m = omega (arith, length-take m (drop start whole), length-drop start whole, length-map-range_with_len f 0 n, h) in
-    same_lists (map f (range_with_len start m)) (take m (drop start whole)) (long ∙ sym part)
-    (λ k d w.
-    let within : k < m = omega (arith, w, long) in
-    get_or-map-range_with_len f start m k (start + k) d within refl
-    ∙ sym (get_or-take m (drop start whole) k d within ∙ get_or-drop start whole k d ∙ get_or-map-range_with_len f 0 n (start + k) (start + k) d (omega (arith, within, h)) (omega arith)))
 
 -- a part of the items
 pub linear_items-part : (l : LineAndWidth) (bytes : List ℕ) (n start m : ℕ) → start + m ≤ n → map (linear_item l bytes) (range_with_len start m) ≡ take m (drop start (linear_items l bytes n))

@@ -13,7 +13,9 @@ ghost use Rattle.col_codecs.specs.Bitpacked.{bitpacked_items, FitSteps};
 use crate::codec::{ColumnCodec, ColumnCodecEstimator};
 use crate::column_stats::ColumnStats;
 use crate::header::take_stats;
-use crate::packing::{BLOCK_SIZE, is_packed, pack_block, take_block, take_steps};
+use crate::packing::{
+    BLOCK_SIZE, BYTE_BITS, MAX_BLOCK_NUM_BYTES, is_packed, pack_block, take_block, take_steps,
+};
 use crate::stats_collector::StatsCollector;
 use bytes::Bytes;
 use col_bits::{BitUnpacker, compute_num_bits};
@@ -21,12 +23,6 @@ use col_common::{ColumnarError, Iterable, Sink, serialize_bytes};
 use col_values::ColumnValues;
 use std::alloc::Global;
 use std::marker::Model;
-
-// The bits of a byte.
-const BYTE_BITS: u64 = 8;
-
-// The bytes of a value.
-const WORD_BYTES: usize = 8;
 
 /// A list that is read in place.
 #[derive(Drop)]
@@ -221,7 +217,7 @@ impl ColumnCodecEstimator for BitpackedCodecEstimator {
     fn estimate(&self, stats: &ColumnStats) -> Option<u64> {
         let num_bits = compute_num_bits(stats.steps());
         let bits = u64::from(stats.num_rows) * u64::from(num_bits);
-        Some(stats.num_bytes() + bits.div_ceil(BYTE_BITS))
+        Some(stats.num_bytes() + bits.div_ceil(BYTE_BITS as u64))
     }
 
     fn serialize<I: Iterable<u64>, K: Sink>(
@@ -253,7 +249,7 @@ fn serialize_steps<I: Iterable<u64>, K: Sink>(
         result (packed_bytes num_bits (steps_above (stats_seen stats.now) (I.items vals.now))) }
 {
     let mut block = [0; BLOCK_SIZE];
-    let mut packed = Vec::with_capacity(alloc, BLOCK_SIZE * WORD_BYTES)?;
+    let mut packed = Vec::with_capacity(alloc, MAX_BLOCK_NUM_BYTES)?;
     serialize_blocks(stats, num_bits, vals, &mut block, &mut packed, sink)
 }
 

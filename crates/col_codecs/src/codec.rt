@@ -13,8 +13,8 @@ use col_common::{ColumnarError, Iterable, Sink};
 use col_values::ColumnValues;
 use std::alloc::Global;
 
-/// Gathers what a codec has to know of a list, in a first pass, tells how long the list's bytes would be,
-/// and writes them in a second pass.
+/// Gathers what a codec has to know of a list, in a first pass, tells how long the list's bytes
+/// would be, and writes them in a second pass.
 ///
 /// Each value is collected, then `finalize` is called once, and then `estimate` and `serialize` may be.
 pub trait ColumnCodecEstimator {
@@ -43,7 +43,8 @@ pub trait ColumnCodecEstimator {
 
     /// How many bytes the list would take behind the codec's code; none where the codec doesn't apply.
     fn estimate(&self, stats: &ColumnStats) -> Option<u64>
-        requires { (xs : List ℕ) × Finalized self.now xs × (length xs < 2 ^ 32) × (stats_seen stats.now ≡ stats_of xs) }
+        requires { (xs : List ℕ) × Finalized self.now xs × (length xs < 2 ^ 32)
+            × (stats_seen stats.now ≡ stats_of xs) }
         ensures { (xs : List ℕ) → Finalized self.now xs → stats_seen stats.now ≡ stats_of xs →
             result ≡ estimate xs (code self.now) };
 

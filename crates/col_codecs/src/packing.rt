@@ -14,8 +14,17 @@ use std::alloc::AllocError;
 /// How many values a block has; the last one may have fewer.
 pub const BLOCK_SIZE: usize = 512;
 
-// The bits of a byte.
-const BYTE_BITS: usize = 8;
+/// The same as a count of rows.
+pub const BLOCK_LEN: u32 = BLOCK_SIZE as u32;
+
+// The bytes of a value.
+const WORD_BYTES: usize = 8;
+
+/// The most bytes of a packed block.
+pub const MAX_BLOCK_NUM_BYTES: usize = BLOCK_SIZE * WORD_BYTES;
+
+/// The bits of a byte.
+pub const BYTE_BITS: usize = 8;
 
 /// Whether there are just the bytes that so many bits take, and the spare bits are 0.
 pub fn is_packed(bytes: &[u8], num_bits: usize) -> bool

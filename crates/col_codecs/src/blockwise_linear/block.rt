@@ -6,22 +6,16 @@ ghost use Rattle.col_common.specs.Decoding.{Decodes};
 ghost use Rattle.col_model.specs.Items.{are_blocks};
 ghost use Rattle.col_codecs.specs.Blocks.{block_slope, lines_of, ArePlaced};
 
-use super::BLOCK_LEN;
+use super::LINES_LEN_NUM_BYTES;
 use crate::line::Line;
-use crate::packing::is_packed;
+use crate::packing::{BLOCK_LEN, BYTE_BITS, is_packed};
 use crate::slope::Slope;
 use col_bits::BitUnpacker;
 use col_common::ColumnarError;
 use std::alloc::Global;
 
-// The bytes of the lines' length.
-const LINES_LEN_NUM_BYTES: usize = 8;
-
 // The fewest bytes of a line: slope, intercept and width.
 const MIN_LINE_NUM_BYTES: usize = 3;
-
-// The bits of a byte.
-const BYTE_BITS: usize = 8;
 
 /// A block: its line, the width of the offsets from it, and where these begin in the data.
 #[derive(Clone, Copy)]

@@ -5,19 +5,14 @@ ghost use Rattle.col_model.specs.Stats.{stats_of};
 ghost use Rattle.col_model.specs.Codecs.{block_size, block_estimate, blockwise_body, log2};
 ghost use Rattle.col_codecs.specs.ColumnStats.{stats_seen};
 
+use super::LINES_LEN_NUM_BYTES;
 use super::offsets::train_offsets;
 use super::writer::serialize_blocks;
 use crate::codec::ColumnCodecEstimator;
 use crate::column_stats::ColumnStats;
-use crate::packing::BLOCK_SIZE;
+use crate::packing::{BLOCK_SIZE, BYTE_BITS};
 use col_common::{ColumnarError, Iterable, Sink};
 use std::alloc::{AllocError, Global};
-
-// The bytes of the lines' length.
-const LINES_LEN_NUM_BYTES: u64 = 8;
-
-// The bits of a byte.
-const BYTE_BITS: u64 = 8;
 
 // The binary logarithm of 2^64, less 1.
 const MAX_LOG: u32 = 63;
@@ -38,7 +33,7 @@ fn estimate_block(vals: &mut [u64]) -> u64
 {
     let count = vals.len() as u64;
     let slope = train_offsets(vals);
-    1 + slope.line.num_bytes() + (count * u64::from(slope.offset_width)).div_ceil(BYTE_BITS)
+    1 + slope.line.num_bytes() + (count * u64::from(slope.offset_width)).div_ceil(BYTE_BITS as u64)
 }
 
 // The binary logarithm, rounded down.
@@ -110,8 +105,8 @@ impl ColumnCodecEstimator for BlockwiseLinearEstimator {
     }
 
     fn estimate(&self, stats: &ColumnStats) -> Option<u64> {
-        let num_bytes = LINES_LEN_NUM_BYTES + stats.num_bytes() + self.num_bytes;
-        let spared = u64::from(log2(stats.gcd)) * u64::from(stats.num_rows) / BYTE_BITS;
+        let num_bytes = LINES_LEN_NUM_BYTES as u64 + stats.num_bytes() + self.num_bytes;
+        let spared = u64::from(log2(stats.gcd)) * u64::from(stats.num_rows) / BYTE_BITS as u64;
         Some(num_bytes.saturating_sub(spared))
     }
 

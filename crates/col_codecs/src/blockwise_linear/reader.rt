@@ -7,10 +7,10 @@ ghost use Rattle.col_codecs.specs.Header.{list_by};
 ghost use Rattle.col_model.specs.Codecs.{block_size, block_count};
 ghost use Rattle.col_codecs.specs.Blocks.{item_of, items_in, step_in, step_of, AreWithin, IsReader};
 
-use super::BLOCK_LEN;
 use super::block::{Block, place_blocks, read_blocks, split_lines};
 use super::statistics::are_stats_of;
 use crate::column_stats::ColumnStats;
+use crate::packing::BLOCK_LEN;
 use bytes::Bytes;
 use col_common::ColumnarError;
 use col_values::ColumnValues;

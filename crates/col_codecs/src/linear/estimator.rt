@@ -11,7 +11,7 @@ use super::offsets::serialize_offsets;
 use crate::codec::ColumnCodecEstimator;
 use crate::column_stats::ColumnStats;
 use crate::line::Line;
-use crate::packing::BLOCK_SIZE;
+use crate::packing::{BLOCK_LEN, BLOCK_SIZE, BYTE_BITS};
 use crate::slope::Slope;
 use col_bits::compute_num_bits;
 use col_common::{ColumnarError, Iterable, Sink};
@@ -19,12 +19,6 @@ use std::alloc::{AllocError, Global};
 
 // Half of the numbers below 2^64, without one.
 const HALF_SPACE: u64 = u64::MAX / 2;
-
-// How many values the line is trained on.
-const TRAINED: u32 = BLOCK_SIZE as u32;
-
-// The bits of a byte.
-const BYTE_BITS: u64 = 8;
 
 /// Holds the first 512 values, then the line that is trained on them, and the least and the
 /// greatest deviation of all values from it.
@@ -65,7 +59,7 @@ impl LinearCodecEstimator {
         ensures { (xs : List ℕ) → IsCollected self.old xs
             → IsCollected self.new (xs ++ value ∷ []) }
     {
-        if self.row_id >= TRAINED {
+        if self.row_id >= BLOCK_LEN {
             let deviation = deviation_from(self.slope.line, self.row_id, value);
             self.min_deviation = self.min_deviation.min(deviation);
             self.max_deviation = self.max_deviation.max(deviation);
@@ -74,7 +68,7 @@ impl LinearCodecEstimator {
         }
         self.block[self.row_id as usize] = value;
         self.row_id += 1;
-        if self.row_id == TRAINED {
+        if self.row_id == BLOCK_LEN {
             self.train();
         }
     }
@@ -100,7 +94,7 @@ impl LinearCodecEstimator {
         requires { (xs : List ℕ) × IsCollected self.old xs × (length xs < 2 ^ 32) }
         ensures { (xs : List ℕ) → IsCollected self.old xs → IsFinalized self.new xs }
     {
-        if self.row_id < TRAINED {
+        if self.row_id < BLOCK_LEN {
             return;
         }
         self.slope.line.intercept = self
@@ -132,12 +126,12 @@ impl ColumnCodecEstimator for LinearCodecEstimator {
     }
 
     fn estimate(&self, stats: &ColumnStats) -> Option<u64> {
-        if self.row_id < TRAINED {
+        if self.row_id < BLOCK_LEN {
             return None;
         }
         let slope = self.slope;
         let packed_bits = u64::from(self.row_id) * u64::from(slope.offset_width);
-        Some(stats.num_bytes() + slope.line.num_bytes() + 1 + packed_bits.div_ceil(BYTE_BITS))
+        Some(stats.num_bytes() + slope.line.num_bytes() + 1 + packed_bits.div_ceil(BYTE_BITS as u64))
     }
 
     fn serialize<I: Iterable<u64>, K: Sink>(
@@ -147,7 +141,7 @@ impl ColumnCodecEstimator for LinearCodecEstimator {
         vals: &I,
         sink: &mut K,
     ) -> Result<(), ColumnarError> {
-        if self.row_id < TRAINED {
+        if self.row_id < BLOCK_LEN {
             return Err(ColumnarError::NoCodec);
         }
         serialize_behind_codec(alloc, stats, self.slope, vals, sink)

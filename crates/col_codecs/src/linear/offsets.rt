@@ -6,13 +6,10 @@ ghost use Rattle.col_bits.specs.Packed.{packed_bytes};
 ghost use Rattle.col_model.specs.Codecs.{block_size, offset_from, offsets_from, packed_offsets};
 ghost use Rattle.col_codecs.specs.Slope.{slope_seen};
 
-use crate::packing::{BLOCK_SIZE, pack_block, take_block};
+use crate::packing::{BLOCK_SIZE, MAX_BLOCK_NUM_BYTES, pack_block, take_block};
 use crate::slope::Slope;
 use col_common::{ColumnarError, Iterable, Sink, serialize_bytes};
 use std::alloc::Global;
-
-// The bytes of a value.
-const WORD_BYTES: usize = 8;
 
 // Turns values from a position on into their offsets from a line.
 fn take_offsets(slope: Slope, start: u32, vals: &mut [u64])
@@ -40,7 +37,7 @@ pub fn serialize_offsets<I: Iterable<u64>, K: Sink>(
         (packed_offsets (slope_seen slope) (I.items vals.now)) }
 {
     let mut block = [0; BLOCK_SIZE];
-    let mut packed = Vec::with_capacity(alloc, BLOCK_SIZE * WORD_BYTES)?;
+    let mut packed = Vec::with_capacity(alloc, MAX_BLOCK_NUM_BYTES)?;
     serialize_blocks(slope, vals, &mut block, &mut packed, sink)
 }
 

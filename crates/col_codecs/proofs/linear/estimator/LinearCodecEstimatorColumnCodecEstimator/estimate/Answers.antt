@@ -19,8 +19,8 @@ few_bits c =
 few_bytes : (c : After-div_ceil) → c.num_bytes.result + c.num_bytes-2.result + 1 + c.div_ceil.result < 2 ^ 40
 few_bytes c = omega (arith, few_bits (goal.at.returns c).After-from-2, c.num_bytes.ensures, c.num_bytes-2.ensures, c.div_ceil.ensures, stats_bytes-bound (stats_seen c.args.stats.now), vint_bytes-bound c.args.self.now.slope.line.slope, vint_bytes-bound c.args.self.now.slope.line.intercept)
 
-pub returns-then-self-lt-TRAINED : goal.returns-then-self-lt-TRAINED
-returns-then-self-lt-TRAINED c = λ xs h e. sym (linear_estimate-few xs (omega (arith, h.count)))
+pub returns-then-self-lt-BLOCK_LEN : goal.returns-then-self-lt-BLOCK_LEN
+returns-then-self-lt-BLOCK_LEN c = λ xs h e. sym (linear_estimate-few xs (omega (arith, h.count)))
 
 pub overflow_mul-packed_bits : goal.overflow_mul-packed_bits
 overflow_mul-packed_bits c = omega (arith, few_bits (goal.at.overflow_mul-packed_bits c).After-from-2)
