@@ -12,7 +12,7 @@ use Rattle.col_model.specs.Codecs.{offset_from, offsets_from, block_line}
 use Rattle.col_codecs.specs.declared.line.Line.{Line}
 use Rattle.col_codecs.specs.Slope.{slope_of}
 use Rattle.col_codecs.proofs.ListLemmas.{head-same, tail-same}
-use Rattle.col_codecs.proofs.OffsetLemmas.{by_position-append}
+use Rattle.col_codecs.proofs.TurningLemmas.{by_position-append}
 
 pub offsets-push : (l : Slope) (xs : List ℕ) (x i : ℕ) → i ≡ length xs → offsets_from l (xs ++ x ∷ []) ≡ offsets_from l xs ++ offset_from l (i, x) ∷ []
 offsets-push l xs x i e =

@@ -10,7 +10,7 @@ use Rattle.col_bits.specs.Packed.{packed_bytes}
 use Rattle.col_model.specs.U64List.{Slope, joined_lists}
 use Rattle.col_model.specs.Codecs.{block_size, cut_blocks, packed_block, lines_bytes, blocks_bytes, slope_bytes, offsets_from, block_line, block_count, steps_above}
 use Rattle.col_model.proofs.CutLaws.{joined_lists-push, block_at, cut_blocks-more}
-use Rattle.col_model.proofs.StatsLaws.{least_of-all}
+use Rattle.col_model.proofs.StatsLaws.{least_of-all, all_by}
 use Rattle.col_model.proofs.CodecLaws.{block_offsets-fit}
 use Rattle.col_codecs.specs.Blocks.{IsBlock}
 use Rattle.col_codecs.proofs.BlockEstimateLemmas.{block_line-width, count-is}
@@ -80,8 +80,7 @@ IsBlock-taken s xs part blocks k n e b h m p =
     record {
       some = omega (arith, count-is s xs e, b, h, m, long, length-drop (512 * k) xs);
       small = omega (arith, m, long);
-      above = rw (p, least-is s xs e) (all_taken (λ x. least_of xs ≤ x) n rest (all_dropped (λ x. least_of xs ≤ x) (512 * k) xs (least_of-all xs)));
-      positive = divisor-above s xs e;
+      above = all_by (λ x h. (h, divisor-above s xs e)) part (rw (p, least-is s xs e) (all_taken (λ x. least_of xs ≤ x) n rest (all_dropped (λ x. least_of xs ≤ x) (512 * k) xs (least_of-all xs))));
     }
 
 -- what is left behind them

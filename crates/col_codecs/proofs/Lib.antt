@@ -17,10 +17,10 @@ pub mod LineLemmas
 pub mod ListLemmas
 pub mod LinearLemmas
 pub mod LinearReaderLemmas
-pub mod OffsetLemmas
 pub mod PackingLemmas
 pub mod PossibleLemmas
 pub mod SpareLemmas
 pub mod StatsLemmas
 pub mod StepsLemmas
+pub mod TurningLemmas
 pub mod WidthLemmas

@@ -9,7 +9,7 @@ use Rattle.col_model.specs.U64List.{Slope as LineAndWidth}
 use Rattle.col_model.specs.Codecs.{block_size, half_space, deviation, deviations, linear_line}
 use Rattle.col_bits.specs.Packed.{width}
 use Rattle.col_model.proofs.StatsLaws.{least_of-all, fold-max}
-use Rattle.col_codecs.proofs.OffsetLemmas.{by_position-append}
+use Rattle.col_codecs.proofs.TurningLemmas.{by_position-append}
 use Rattle.col_codecs.specs.Line.{line_seen}
 use Rattle.col_codecs.specs.Linear.{first_line, IsTrained, IsCollected, IsFinalized}
 use Rattle.col_codecs.specs.declared.linear.estimator.LinearCodecEstimator.{LinearCodecEstimator}

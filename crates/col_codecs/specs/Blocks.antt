@@ -8,14 +8,14 @@ use Rattle.col_model.specs.Codecs.{block_size, block_count}
 use Rattle.col_model.specs.Items.{linear_item, linear_items, block_start}
 use Rattle.col_codecs.specs.declared.line.Line.{Line}
 use Rattle.col_codecs.specs.declared.blockwise_linear.block.Block.{Block}
+use Rattle.col_codecs.specs.ColumnStats.{IsAbove}
 use Rattle.col_codecs.specs.Line.{with_width}
 
 -- the values of a block of a list with these statistics, none of which is below the least
 pub record IsBlock (s : Stats) (values : List ℕ) : Type 0 where
   pub some : 0 < length values
   pub small : length values ≤ block_size
-  pub above : AllByRecursion (λ x. s.least ≤ x) values
-  pub positive : 0 < s.divisor
+  pub above : AllByRecursion (IsAbove s) values
 
 -- so many lines with their widths, and nothing else
 abbrev pub lines_of : ℕ → List ℕ → Option (List Slope)

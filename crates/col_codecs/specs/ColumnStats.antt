@@ -17,6 +17,10 @@ pub record IsPossible (s : Stats) : Type 0 where
   pub flat : s.greatest ≤ s.least → s.divisor ≡ 1
   pub empty : s.count ≡ 0 → s.greatest ≡ 0
 
+-- a value that isn't below the least, where the divisor isn't 0
+abbrev pub IsAbove : Stats → ℕ → Type 0
+IsAbove s x = (s.least ≤ x) × (0 < s.divisor)
+
 -- what a collector holds: the bounds and the count of values, and the greatest common divisor of
 -- their differences from the least, 0 where all of them are 0
 pub record Collected : Type 0 where

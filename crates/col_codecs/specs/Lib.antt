@@ -6,3 +6,4 @@ pub mod Linear
 pub mod Blockwise
 pub mod Blocks
 pub mod Header
+pub mod Turning

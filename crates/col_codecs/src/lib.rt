@@ -12,6 +12,7 @@ mod packing;
 mod positions;
 mod slope;
 mod stats_collector;
+mod turning;
 
 pub use bitpacked::{BitpackedCodec, BitpackedCodecEstimator, BitpackedReader};
 pub use blockwise_linear::{BlockwiseLinearCodec, BlockwiseLinearEstimator, BlockwiseLinearReader};

@@ -2,7 +2,7 @@
 ghost use Rattle.std.specs.Prelude.{◌≡◌, ◌<◌, ◌≤◌, ◌^◌, ◌++◌, length, take, drop, min, OnOk};
 ghost use Rattle.col_model.specs.Codecs.{steps_above};
 ghost use Rattle.col_model.specs.Items.{is_packed};
-ghost use Rattle.col_codecs.specs.ColumnStats.{stats_seen};
+ghost use Rattle.col_codecs.specs.ColumnStats.{stats_seen, IsAbove};
 ghost use Rattle.std.specs.List.{AllByRecursion};
 ghost use Rattle.col_bits.specs.Packed.{packed_bytes};
 
@@ -39,8 +39,7 @@ pub fn is_packed(bytes: &[u8], num_bits: usize) -> bool
 
 /// Turns values into how many divisors each lies above the least.
 pub fn take_steps(stats: &ColumnStats, vals: &mut [u64])
-    requires positive { 0 < stats.now.gcd }
-    requires above { AllByRecursion (λ x. stats.now.min_value ≤ x) vals.old }
+    requires { AllByRecursion (IsAbove (stats_seen stats.now)) vals.old }
     ensures { vals.new ≡ steps_above (stats_seen stats.now) vals.old }
 {
     let ColumnStats { gcd, min_value, .. } = *stats;

@@ -7,12 +7,12 @@ ghost use Rattle.col_codecs.specs.ColumnStats.{stats_seen};
 ghost use Rattle.col_codecs.specs.Line.{line_seen};
 ghost use Rattle.col_codecs.specs.Slope.{slope_seen};
 
-use super::offsets::serialize_offsets;
 use crate::codec::ColumnCodecEstimator;
 use crate::column_stats::ColumnStats;
 use crate::line::Line;
 use crate::packing::{BLOCK_LEN, BLOCK_SIZE, BYTE_BITS};
 use crate::slope::Slope;
+use crate::turning::serialize_turned;
 use col_bits::compute_num_bits;
 use col_common::{ColumnarError, Iterable, Sink};
 use std::alloc::{AllocError, Global};
@@ -165,7 +165,7 @@ fn serialize_behind_codec<I: Iterable<u64>, K: Sink>(
     let _greatest = stats.max_value;
     stats.serialize(sink)?;
     slope.serialize(sink)?;
-    serialize_offsets(alloc, slope, vals, sink)
+    serialize_turned(alloc, &slope, slope.offset_width, vals, sink)
 }
 
 // How far a value at its position lies above a line, moved up by half of the space.

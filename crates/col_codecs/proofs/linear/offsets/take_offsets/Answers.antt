@@ -2,7 +2,7 @@ use Rattle.std.proofs.Common.{slice_index, ap}
 use Rattle.col_model.specs.Codecs.{offset_from}
 use Rattle.col_model.specs.Training.{less_wrapped}
 use Rattle.col_codecs.specs.Slope.{slope_seen}
-use Rattle.col_codecs.proofs.OffsetLemmas.{replaced-more}
+use Rattle.col_codecs.proofs.TurningLemmas.{replaced-more}
 use Rattle.col_codecs.proofs.linear.offsets.take_offsets.Goals as goal
 
 pub loop-at-preserved : goal.loop-at-preserved
