@@ -10,7 +10,7 @@ use Rattle.col_model.specs.Line.{line}
 use Rattle.col_model.specs.U64List.{Slope}
 use Rattle.col_model.specs.Codecs.{offset_from, offsets_from, block_line}
 use Rattle.col_codecs.specs.declared.line.Line.{Line}
-use Rattle.col_codecs.specs.Slope.{slope_of}
+use Rattle.col_codecs.specs.LinearParams.{bare_params}
 use Rattle.col_codecs.proofs.ListLemmas.{head-same, tail-same}
 use Rattle.col_codecs.proofs.TurningLemmas.{by_position-append}
 
@@ -48,15 +48,15 @@ AreOffsets-push l before now i greatest offset h room e =
     }
 
 -- a trained line with the width of the greatest offset
-pub block_line-held : (l : Line) (vals now : List ℕ) (greatest w : ℕ) → ◌≡◌ {A = ℕ × ℕ} (l.slope, l.intercept) (line_of vals) → now ≡ offsets_from (slope_of l) vals → greatest ≡ greatest_of now → w ≡ width greatest → let held : Slope = record { slope = l.slope; intercept = l.intercept; offset_width = w } in held ≡ block_line vals
+pub block_line-held : (l : Line) (vals now : List ℕ) (greatest w : ℕ) → ◌≡◌ {A = ℕ × ℕ} (l.slope, l.intercept) (line_of vals) → now ≡ offsets_from (bare_params l) vals → greatest ≡ greatest_of now → w ≡ width greatest → let held : Slope = record { slope = l.slope; intercept = l.intercept; offset_width = w } in held ≡ block_line vals
 unfolding block_line
 block_line-held l vals now greatest w e o g p =
     let bare : Slope = record { slope = (line_of vals).0; intercept = (line_of vals).1; offset_width = 0 } in
-    let same : slope_of l ≡ bare = λ i. record { slope = (e i).0; intercept = (e i).1; offset_width = 0 } in
+    let same : bare_params l ≡ bare = λ i. record { slope = (e i).0; intercept = (e i).1; offset_width = 0 } in
     let wide : w ≡ width (greatest_of (offsets_from bare vals)) = p ∙ ap width (g ∙ ap greatest_of (o ∙ ap (λ s. offsets_from s vals) same)) in
     λ i. record { slope = (e i).0; intercept = (e i).1; offset_width = wide i }
 
 -- the offsets don't depend on the width
-pub offsets-held : (l : Line) (vals : List ℕ) → ◌≡◌ {A = ℕ × ℕ} (l.slope, l.intercept) (line_of vals) → offsets_from (slope_of l) vals ≡ offsets_from (block_line vals) vals
+pub offsets-held : (l : Line) (vals : List ℕ) → ◌≡◌ {A = ℕ × ℕ} (l.slope, l.intercept) (line_of vals) → offsets_from (bare_params l) vals ≡ offsets_from (block_line vals) vals
 unfolding block_line
 offsets-held l vals e = λ i. map (λ (p : ℕ × ℕ). less_wrapped p.1 (line (e i).0 (e i).1 p.0)) (enumerate_from 0 vals)

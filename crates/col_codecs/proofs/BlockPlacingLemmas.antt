@@ -8,7 +8,7 @@ use Rattle.col_model.specs.U64List.{Slope, block_len}
 use Rattle.col_model.specs.Items.{is_packed, block_bytes, block_start, are_blocks, no_line}
 use Rattle.col_model.proofs.BlockReadingLaws.{IsAtBlock, at_block-more, at_block-short, at_block-spare, at_block-end}
 use Rattle.col_codecs.specs.declared.blockwise_linear.block.Block.{Block}
-use Rattle.col_codecs.specs.Blocks.{block_slope, block_of, no_block, ArePlaced}
+use Rattle.col_codecs.specs.Blocks.{block_params, block_of, no_block, ArePlaced}
 
 -- the first k blocks are placed
 pub record PlacedSoFar (n : ℕ) (slopes : List Slope) (bs : List Block) (bytes : List ℕ) (k : ℕ) : Type 0 where
@@ -42,12 +42,12 @@ placing-end n slopes bytes k start at all = ends start (length bytes) at.within 
     ]
 
 -- A block at its turn: its line is the next, and it has so many bytes.
-module _ (n : ℕ) (slopes : List Slope) (bs : List Block) (bytes : List ℕ) (k start left len w num_bytes : ℕ) (b : Block) (at : IsAtBlock n slopes bytes k start) (same : map block_slope bs ≡ slopes) (room : k < length bs) (is : b ≡ get_or bs k b) (behind : left ≡ n - 512 * k) (short : len ≡ min left 512) (wide : w ≡ b.bit_unpacker) (total : num_bytes ≡ div_ceil (len * w) 8) where
+module _ (n : ℕ) (slopes : List Slope) (bs : List Block) (bytes : List ℕ) (k start left len w num_bytes : ℕ) (b : Block) (at : IsAtBlock n slopes bytes k start) (same : map block_params bs ≡ slopes) (room : k < length bs) (is : b ≡ get_or bs k b) (behind : left ≡ n - 512 * k) (short : len ≡ min left 512) (wide : w ≡ b.bit_unpacker) (total : num_bytes ≡ div_ceil (len * w) 8) where
   there : k < length slopes
-  there = omega (arith, ap length same, length-map bs block_slope)
+  there = omega (arith, ap length same, length-map bs block_params)
 
-  line-is : get_or slopes k no_line ≡ block_slope b
-  line-is = ap (λ ls. get_or ls k no_line) (sym same) ∙ get_or-map block_slope bs k b no_line room ∙ ap block_slope (sym is)
+  line-is : get_or slopes k no_line ≡ block_params b
+  line-is = ap (λ ls. get_or ls k no_line) (sym same) ∙ get_or-map block_params bs k b no_line room ∙ ap block_params (sym is)
 
   len-is : len ≡ block_len (n - 512 * k)
   len-is = omega (arith, short, behind)
@@ -77,10 +77,10 @@ module _ (n : ℕ) (slopes : List Slope) (bs : List Block) (bytes : List ℕ) (k
   placing-next test h e t = rw bytes-are (at_block-more n slopes bytes k start no_line at there (rw (← bytes-are) h) (tested test e ∙ t))
 
   -- its line stays
-  pub placing-slopes : let placed : Block = record { line = b.line; bit_unpacker = b.bit_unpacker; start = start } in map block_slope (set bs k placed) ≡ slopes
+  pub placing-slopes : let placed : Block = record { line = b.line; bit_unpacker = b.bit_unpacker; start = start } in map block_params (set bs k placed) ≡ slopes
   placing-slopes =
       let placed : Block = record { line = b.line; bit_unpacker = b.bit_unpacker; start = start } in
-      map-set_same block_slope bs k placed b (ap block_slope is) ∙ same
+      map-set_same block_params bs k placed b (ap block_params is) ∙ same
 
   pub placing-placed : PlacedSoFar n slopes bs bytes k → let placed : Block = record { line = b.line; bit_unpacker = b.bit_unpacker; start = start } in PlacedSoFar n slopes (set bs k placed) bytes (k + 1)
   placing-placed h =

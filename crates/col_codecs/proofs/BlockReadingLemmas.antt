@@ -11,7 +11,7 @@ use Rattle.col_model.specs.Line.{line_at}
 use Rattle.col_model.specs.U64List.{Slope, slope_at, width_at}
 use Rattle.col_codecs.specs.declared.blockwise_linear.block.Block.{Block}
 use Rattle.col_codecs.proofs.LinearReaderLemmas.{with_byte, with_line, with_intercept, with_slope, of_width}
-use Rattle.col_codecs.specs.Blocks.{block_slope, lines_of}
+use Rattle.col_codecs.specs.Blocks.{block_params, lines_of}
 
 -- ---- a line takes three bytes at least
 
@@ -85,34 +85,34 @@ lines_of-stuck n bytes e = rw e refl
 
 -- What k lines that were read come to with the others, of n in all.
 abbrev pub AreRead : ℕ → List ℕ → ℕ → List Block → List ℕ → Type 0
-AreRead n bytes k bs rest = lines_of n bytes ≡ (lines_of (n - k) rest >>= with_lines (map block_slope bs))
+AreRead n bytes k bs rest = lines_of n bytes ≡ (lines_of (n - k) rest >>= with_lines (map block_params bs))
 
 -- one line more
-pub AreRead-push : (n : ℕ) (bytes : List ℕ) (k : ℕ) (bs : List Block) (rest more : List ℕ) (b : Block) → AreRead n bytes k bs rest → k < n → slope_at rest ≡ Some (block_slope b, more) → AreRead n bytes (k + 1) (bs ++ b ∷ []) more
+pub AreRead-push : (n : ℕ) (bytes : List ℕ) (k : ℕ) (bs : List Block) (rest more : List ℕ) (b : Block) → AreRead n bytes k bs rest → k < n → slope_at rest ≡ Some (block_params b, more) → AreRead n bytes (k + 1) (bs ++ b ∷ []) more
 AreRead-push n bytes k bs rest more b h p e =
     let left : n - k ≡ suc (n - (k + 1)) = omega arith in
-    h ∙ ap (λ m. lines_of m rest >>= with_lines (map block_slope bs)) left
-    ∙ ap (λ o. o >>= with_lines (map block_slope bs)) (lines_of-next (n - (k + 1)) rest more (block_slope b) e)
+    h ∙ ap (λ m. lines_of m rest >>= with_lines (map block_params bs)) left
+    ∙ ap (λ o. o >>= with_lines (map block_params bs)) (lines_of-next (n - (k + 1)) rest more (block_params b) e)
     ∙ joined (lines_of (n - (k + 1)) more)
   where
-    joined : (o : Option (List Slope)) → ((o >>= λ ls. Some (block_slope b ∷ ls)) >>= with_lines (map block_slope bs)) ≡ (o >>= with_lines (map block_slope (bs ++ b ∷ [])))
+    joined : (o : Option (List Slope)) → ((o >>= λ ls. Some (block_params b ∷ ls)) >>= with_lines (map block_params bs)) ≡ (o >>= with_lines (map block_params (bs ++ b ∷ [])))
     joined None = refl
-    joined (Some ls) = ap Some (sym (ap (λ m. m ++ ls) (map-append block_slope bs (b ∷ [])) ∙ append_assoc (map block_slope bs) (block_slope b ∷ []) ls))
+    joined (Some ls) = ap Some (sym (ap (λ m. m ++ ls) (map-append block_params bs (b ∷ [])) ∙ append_assoc (map block_params bs) (block_params b ∷ []) ls))
 
 -- no line is there
 pub AreRead-stuck : (n : ℕ) (bytes : List ℕ) (k : ℕ) (bs : List Block) (rest : List ℕ) → AreRead n bytes k bs rest → k < n → slope_at rest ≡ None → lines_of n bytes ≡ None
 AreRead-stuck n bytes k bs rest h p e =
     let left : n - k ≡ suc (n - (k + 1)) = omega arith in
-    h ∙ ap (λ m. lines_of m rest >>= with_lines (map block_slope bs)) left ∙ ap (λ o. o >>= with_lines (map block_slope bs)) (lines_of-stuck (n - (k + 1)) rest e)
+    h ∙ ap (λ m. lines_of m rest >>= with_lines (map block_params bs)) left ∙ ap (λ o. o >>= with_lines (map block_params bs)) (lines_of-stuck (n - (k + 1)) rest e)
 
-AreRead-all : (n : ℕ) (bytes : List ℕ) (k : ℕ) (bs : List Block) (rest : List ℕ) → AreRead n bytes k bs rest → n ≤ k → lines_of n bytes ≡ (only_if (length rest == 0) [] >>= with_lines (map block_slope bs))
+AreRead-all : (n : ℕ) (bytes : List ℕ) (k : ℕ) (bs : List Block) (rest : List ℕ) → AreRead n bytes k bs rest → n ≤ k → lines_of n bytes ≡ (only_if (length rest == 0) [] >>= with_lines (map block_params bs))
 unfolding items
-AreRead-all n bytes k bs rest h p = let none : n - k ≡ 0 = omega arith in h ∙ ap (λ m. lines_of m rest >>= with_lines (map block_slope bs)) none
+AreRead-all n bytes k bs rest h p = let none : n - k ≡ 0 = omega arith in h ∙ ap (λ m. lines_of m rest >>= with_lines (map block_params bs)) none
 
 -- all lines are read, and nothing is left
-pub AreRead-end : (n : ℕ) (bytes : List ℕ) (k : ℕ) (bs : List Block) (rest : List ℕ) (b test : Bool) → AreRead n bytes k bs rest → n ≤ k → test ≡ (length rest == 0) → test ≡ b → lines_of n bytes ≡ only_if b (map block_slope bs)
-AreRead-end n bytes k bs rest b test h p e t = AreRead-all n bytes k bs rest h p ∙ ap (λ c. only_if c [] >>= with_lines (map block_slope bs)) (sym e ∙ t) ∙ by_test b
+pub AreRead-end : (n : ℕ) (bytes : List ℕ) (k : ℕ) (bs : List Block) (rest : List ℕ) (b test : Bool) → AreRead n bytes k bs rest → n ≤ k → test ≡ (length rest == 0) → test ≡ b → lines_of n bytes ≡ only_if b (map block_params bs)
+AreRead-end n bytes k bs rest b test h p e t = AreRead-all n bytes k bs rest h p ∙ ap (λ c. only_if c [] >>= with_lines (map block_params bs)) (sym e ∙ t) ∙ by_test b
   where
-    by_test : (c : Bool) → (only_if c [] >>= with_lines (map block_slope bs)) ≡ only_if c (map block_slope bs)
-    by_test true = ap Some (append-nil (map block_slope bs))
+    by_test : (c : Bool) → (only_if c [] >>= with_lines (map block_params bs)) ≡ only_if c (map block_params bs)
+    by_test true = ap Some (append-nil (map block_params bs))
     by_test false = refl

@@ -22,12 +22,12 @@ abbrev pub lines_of : ℕ → List ℕ → Option (List Slope)
 lines_of count bytes = items slope_at count bytes >>= nothing_left
 
 -- a block's line with the width of the offsets from it
-abbrev pub block_slope : Block → Slope
-block_slope b = with_width b.line b.bit_unpacker
+abbrev pub block_params : Block → Slope
+block_params b = with_width b.line b.bit_unpacker
 
 -- the step at a place of a block
 abbrev pub step_in : Block → List ℕ → ℕ → ℕ
-step_in b bytes place = linear_item (block_slope b) (drop b.start bytes) place
+step_in b bytes place = linear_item (block_params b) (drop b.start bytes) place
 
 -- a block for a place that has none
 abbrev pub no_block : Block
@@ -57,7 +57,7 @@ items_in s bs bytes = map (item_of s) (steps_in bs bytes s.count)
 
 -- the steps of the first items of a block
 abbrev pub steps_in_block : Block → List ℕ → ℕ → List ℕ
-steps_in_block b bytes n = linear_items (block_slope b) (drop b.start bytes) n
+steps_in_block b bytes n = linear_items (block_params b) (drop b.start bytes) n
 
 -- the item of a step lies a whole count of divisors above the least, up to the greatest
 unfoldable pub is_whole : Stats → ℕ → Bool
@@ -76,7 +76,7 @@ AreWithin bs bytes = (k : ℕ) → k < length bs → (block_of bs k).start ≤ l
 -- each block begins behind those before it, and within the bytes
 pub record ArePlaced (n : ℕ) (bs : List Block) (bytes : List ℕ) : Type 0 where
   pub starts : (k : ℕ) → k < length bs →
-      (block_of bs k).start ≡ block_start n (map block_slope bs) k
+      (block_of bs k).start ≡ block_start n (map block_params bs) k
   pub within : AreWithin bs bytes
 
 -- there is a block for each 512 items, each begins within the bytes, and the statistics are the

@@ -1,6 +1,6 @@
 pub mod ColumnStats
 pub mod Bitpacked
-pub mod Slope
+pub mod LinearParams
 pub mod Line
 pub mod Linear
 pub mod Blockwise

@@ -212,7 +212,7 @@ impl ColumnCodec for BitpackedCodec {
 }
 
 /// Estimates and writes lists under Bitpacked, for which the statistics are enough.
-#[derive(Clone, Copy, Debug)]
+#[derive(Drop)]
 pub struct BitpackedCodecEstimator;
 
 impl ColumnCodecEstimator for BitpackedCodecEstimator {

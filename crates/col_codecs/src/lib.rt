@@ -8,9 +8,9 @@ mod column_stats;
 mod header;
 mod line;
 mod linear;
+mod linear_params;
 mod packing;
 mod positions;
-mod slope;
 mod stats_collector;
 mod turning;
 

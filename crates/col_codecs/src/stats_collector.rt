@@ -35,7 +35,7 @@ fn finer_gcd(increment_gcd: u64, difference: u64) -> u64
 }
 
 /// Collects values, and holds the divisor of their differences, 0 where all of them are 0.
-#[derive(Clone, Copy, Debug)]
+#[derive(Clone, Copy)]
 pub struct StatsCollector {
     min_value: u64,
     max_value: u64,

@@ -4,12 +4,12 @@ ghost use Rattle.std.specs.Int.{w64};
 ghost use Rattle.col_common.specs.Reading.{back, parts_by_second};
 ghost use Rattle.col_common.specs.Decoding.{Decodes};
 ghost use Rattle.col_model.specs.Items.{are_blocks};
-ghost use Rattle.col_codecs.specs.Blocks.{block_slope, lines_of, ArePlaced};
+ghost use Rattle.col_codecs.specs.Blocks.{block_params, lines_of, ArePlaced};
 
 use super::LINES_LEN_NUM_BYTES;
 use crate::line::Line;
 use crate::packing::{BLOCK_LEN, BYTE_BITS, is_packed};
-use crate::slope::Slope;
+use crate::linear_params::LinearParams;
 use col_bits::BitUnpacker;
 use col_common::ColumnarError;
 use std::alloc::Global;
@@ -64,7 +64,7 @@ fn split_back(bytes: &[u8], count: usize) -> Option<(&[u8], &[u8])>
 
 /// So many lines and nothing else, each of a block that isn't placed yet.
 pub fn read_blocks(alloc: Global, count: u32, lines: &[u8]) -> Result<Vec<Block>, ColumnarError>
-    ensures { Decodes (λ bs. map block_slope bs.items) result (lines_of count lines.now) }
+    ensures { Decodes (λ bs. map block_params bs.items) result (lines_of count lines.now) }
 {
     if lines.len() / MIN_LINE_NUM_BYTES < count as usize {
         return Err(ColumnarError::InvalidData);
@@ -72,12 +72,12 @@ pub fn read_blocks(alloc: Global, count: u32, lines: &[u8]) -> Result<Vec<Block>
     let mut blocks = Vec::with_capacity(alloc, count as usize)?;
     let mut lines = lines;
     for _block_id in 0..count {
-        let Some((slope, rest)) = Slope::read(lines) else {
+        let Some((params, rest)) = LinearParams::read(lines) else {
             return Err(ColumnarError::InvalidData);
         };
         blocks.push(Block {
-            line: slope.line,
-            bit_unpacker: BitUnpacker::new(slope.offset_width),
+            line: params.line,
+            bit_unpacker: BitUnpacker::new(params.offset_width),
             start: 0,
         })?;
         lines = rest;
@@ -90,8 +90,8 @@ pub fn read_blocks(alloc: Global, count: u32, lines: &[u8]) -> Result<Vec<Block>
 
 /// Places blocks one behind another, and says whether the data is just these, so many values.
 pub fn place_blocks(num_vals: u32, blocks: &mut [Block], data: &[u8]) -> bool
-    ensures slopes { map block_slope blocks.new ≡ map block_slope blocks.old }
-    ensures packed { result ≡ are_blocks num_vals (map block_slope blocks.old) «data».now }
+    ensures params { map block_params blocks.new ≡ map block_params blocks.old }
+    ensures packed { result ≡ are_blocks num_vals (map block_params blocks.old) «data».now }
     ensures placed { result ≡ true → ArePlaced num_vals blocks.new «data».now }
 {
     let mut left = num_vals;

@@ -90,9 +90,9 @@ fn serialize_block<K: Sink>(
         ++ slope_bytes (block_line (steps_above (stats_seen stats.now) vals.old))) }
 {
     take_steps(stats, vals);
-    let slope = train_offsets(vals);
-    slope.serialize(lines)?;
+    let params = train_offsets(vals);
+    params.serialize(lines)?;
     packed.clear();
-    pack_block(vals, slope.offset_width, packed)?;
+    pack_block(vals, params.offset_width, packed)?;
     serialize_bytes(sink, packed)
 }

@@ -2,7 +2,7 @@ use Rattle.std.proofs.Common.{append_assoc, ◌∷◌, []}
 use Rattle.col_common.specs.VInt.{vint_bytes}
 use Rattle.col_common.proofs.SerializingLemmas.{serializes-as, serializes-then}
 use Rattle.col_model.specs.Codecs.{slope_bytes}
-use Rattle.col_codecs.proofs.slope.Slope.serialize.Goals as goal
+use Rattle.col_codecs.proofs.linear_params.LinearParams.serialize.Goals as goal
 
 pub returns : goal.returns
 unfolding slope_bytes

@@ -15,8 +15,8 @@ const MAX_SMALL_WIDTH: u8 = 56;
 const WORD_WIDTH: u8 = 64;
 
 /// A line, and the width of the offsets from it.
-#[derive(Clone, Copy, Debug)]
-pub struct Slope {
+#[derive(Clone, Copy)]
+pub struct LinearParams {
     pub line: Line,
     pub offset_width: u8,
 }
@@ -28,13 +28,13 @@ fn is_width(width: u8) -> bool
     width <= MAX_SMALL_WIDTH || width == WORD_WIDTH
 }
 
-impl Slope {
-    ghost use Rattle.col_codecs.specs.Slope.{slope_seen};
+impl LinearParams {
+    ghost use Rattle.col_codecs.specs.LinearParams.{params_seen};
 
     /// The line and the width byte at the front, and the bytes behind them.
     #[tactic(auto, unfolding(col_model::specs::U64List::slope_at))]
-    pub fn read(bytes: &[u8]) -> Option<(Slope, &[u8])>
-        ensures value { option_map (λ r. (slope_seen r.0, r.1.now)) result ≡ slope_at bytes.now }
+    pub fn read(bytes: &[u8]) -> Option<(LinearParams, &[u8])>
+        ensures value { option_map (λ r. (params_seen r.0, r.1.now)) result ≡ slope_at bytes.now }
         ensures width { IfSome result (λ r. IsTrue (is_width r.0.offset_width)) }
     {
         let (line, bytes) = Line::read(bytes)?;
@@ -45,14 +45,14 @@ impl Slope {
         if !is_width(offset_width) {
             return None;
         }
-        Some((Slope { line, offset_width }, bytes))
+        Some((LinearParams { line, offset_width }, bytes))
     }
 
     /// Adds the line and the width byte.
     #[tactic(auto, unfolding(col_model::specs::Codecs::slope_bytes))]
     pub fn serialize<K: Sink>(&self, sink: &mut K) -> Result<(), ColumnarError>
         ensures { Serializes (K.seen sink.old) (K.seen sink.new) result
-            (slope_bytes (slope_seen self.now)) }
+            (slope_bytes (params_seen self.now)) }
     {
         self.line.serialize(sink)?;
         serialize_bytes(sink, &[self.offset_width])
