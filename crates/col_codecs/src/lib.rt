@@ -22,6 +22,3 @@ pub use line::Line;
 pub use linear::{LinearCodec, LinearCodecEstimator, LinearReader};
 pub use positions::Positions;
 pub use stats_collector::{StatsCollector, compute_gcd};
-
-#[cfg(test)]
-mod tests;
