@@ -6,6 +6,7 @@ use Rattle.std.proofs.lemmas.List.{take_all, drop_all, drop-drop, take-map, drop
 use Rattle.std.proofs.lemmas.Grind.{flat_map-append}
 use Rattle.std.proofs.lemmas.Bool.{cases_lt}
 use Rattle.col_model.specs.Stats.{Stats, least_of, stats_of}
+use Rattle.col_model.proofs.ListLaws.{all_taken, all_dropped}
 use Rattle.col_bits.specs.Packed.{packed_bytes}
 use Rattle.col_model.specs.U64List.{Slope, joined_lists}
 use Rattle.col_model.specs.Codecs.{block_size, cut_blocks, packed_block, lines_bytes, blocks_bytes, slope_bytes, offsets_from, block_line, block_count, steps_above}
@@ -14,7 +15,6 @@ use Rattle.col_model.proofs.StatsLaws.{least_of-all, all_by}
 use Rattle.col_model.proofs.CodecLaws.{block_offsets-fit}
 use Rattle.col_codecs.specs.Blocks.{IsBlock}
 use Rattle.col_codecs.proofs.BlockEstimateLemmas.{block_line-width, count-is}
-use Rattle.col_codecs.proofs.ListLemmas.{all_taken, all_dropped}
 
 -- the packed blocks so far, and their lines
 abbrev pub packed_so_far : List ℕ → ℕ → List ℕ

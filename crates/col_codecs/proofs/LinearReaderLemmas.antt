@@ -13,6 +13,7 @@ use Rattle.col_model.specs.Line.{line_at}
 use Rattle.col_model.specs.U64List.{Slope as LineAndWidth, width_at, slope_at}
 use Rattle.col_model.specs.Items.{is_packed, linear_item, linear_items}
 use Rattle.col_model.proofs.ReadingLaws.{drop-front}
+use Rattle.col_model.proofs.OneFormLaws.{IsBytes-behind}
 use Rattle.col_model.proofs.ItemLaws.{linear_values-some, linear_values-none, length-linear_items, linear_items-at, linear_items-push}
 use Rattle.col_codecs.specs.ColumnStats.{Collected, collected_of}
 use Rattle.col_codecs.specs.Header.{list_by}
@@ -36,10 +37,6 @@ with_slope slope = vint slope.1 >>= with_intercept slope.0
 
 abbrev pub of_width : ℕ × List ℕ → Option (ℕ × List ℕ)
 of_width w = only_if (is_width w.0) w
-
-IsBytes-behind : (a rest : List ℕ) → IsBytes (a ++ rest) → IsBytes rest
-IsBytes-behind [] rest b = b
-IsBytes-behind (c ∷ a) rest b = IsBytes-behind a rest (λ i. b (suc i))
 
 after-byte : (bytes : List ℕ) (w : ℕ × List ℕ) → byte_at bytes ≡ Some w → bytes ≡ w.0 ∷ w.1
 after-byte [] w e = absurd (cc)

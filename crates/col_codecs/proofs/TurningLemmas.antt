@@ -10,7 +10,7 @@ use Rattle.col_common.specs.Serializing.{Serializes}
 use Rattle.col_common.specs.declared.error.ColumnarError.{ColumnarError}
 use Rattle.col_common.proofs.SerializingLemmas.{serializes-then, serializes-stopped, serializes-nothing}
 use Rattle.col_bits.specs.Packed.{digits, packed_bytes}
-use Rattle.col_codecs.proofs.ListLemmas.{all_taken, all_dropped}
+use Rattle.col_model.proofs.ListLaws.{all_taken, all_dropped}
 use Rattle.col_codecs.specs.Turning.{by_position, packed_by_position, ArePackable}
 use Rattle.col_codecs.proofs.PackingLemmas.{packed_bytes-append}
 
