@@ -7,27 +7,27 @@ use Rattle.col_bits.specs.Packed.{width}
 use Rattle.col_model.specs.Stats.{greatest_of}
 use Rattle.col_model.specs.Training.{line_of, less_wrapped}
 use Rattle.col_model.specs.Line.{line}
-use Rattle.col_model.specs.U64List.{Slope}
+use Rattle.col_model.specs.U64List.{LinearParams}
 use Rattle.col_model.specs.Codecs.{offset_from, offsets_from, block_line}
 use Rattle.col_codecs.specs.declared.line.Line.{Line}
 use Rattle.col_codecs.specs.LinearParams.{bare_params}
 use Rattle.col_codecs.proofs.ListLemmas.{head-same, tail-same}
 use Rattle.col_codecs.proofs.TurningLemmas.{by_position-append}
 
-pub offsets-push : (l : Slope) (xs : List ℕ) (x i : ℕ) → i ≡ length xs → offsets_from l (xs ++ x ∷ []) ≡ offsets_from l xs ++ offset_from l (i, x) ∷ []
+pub offsets-push : (l : LinearParams) (xs : List ℕ) (x i : ℕ) → i ≡ length xs → offsets_from l (xs ++ x ∷ []) ≡ offsets_from l xs ++ offset_from l (i, x) ∷ []
 offsets-push l xs x i e =
     let place : 0 + length xs ≡ i = omega (arith, e) in
     by_position-append (offset_from l) 0 xs (x ∷ []) ∙ ap (λ n. offsets_from l xs ++ offset_from l (n, x) ∷ []) place
 
 -- the first i values are offsets by now, of which the greatest is known
-pub record AreOffsets (l : Slope) (before now : List ℕ) (i greatest : ℕ) : Type 0 where
+pub record AreOffsets (l : LinearParams) (before now : List ℕ) (i greatest : ℕ) : Type 0 where
   pub done : take i now ≡ offsets_from l (take i before)
   pub rest : drop i now ≡ drop i before
   pub long : length now ≡ length before
   pub top : greatest ≡ greatest_of (take i now)
 
 -- one value more
-pub AreOffsets-push : (l : Slope) (before now : List ℕ) (i greatest offset : ℕ) → AreOffsets l before now i greatest → i < length now → offset ≡ offset_from l (i, get_or now i 0) → AreOffsets l before (set now i offset) (i + 1) (max greatest offset)
+pub AreOffsets-push : (l : LinearParams) (before now : List ℕ) (i greatest offset : ℕ) → AreOffsets l before now i greatest → i < length now → offset ≡ offset_from l (i, get_or now i 0) → AreOffsets l before (set now i offset) (i + 1) (max greatest offset)
 AreOffsets-push l before now i greatest offset h room e =
     let there : i < length before = omega (arith, h.long, room) in
     let parts : get_or now i 0 ∷ drop (i + 1) now ≡ get_or before i 0 ∷ drop (i + 1) before = sym (drop_more now i 0 room) ∙ h.rest ∙ drop_more before i 0 there in
@@ -48,10 +48,10 @@ AreOffsets-push l before now i greatest offset h room e =
     }
 
 -- a trained line with the width of the greatest offset
-pub block_line-held : (l : Line) (vals now : List ℕ) (greatest w : ℕ) → ◌≡◌ {A = ℕ × ℕ} (l.slope, l.intercept) (line_of vals) → now ≡ offsets_from (bare_params l) vals → greatest ≡ greatest_of now → w ≡ width greatest → let held : Slope = record { slope = l.slope; intercept = l.intercept; offset_width = w } in held ≡ block_line vals
+pub block_line-held : (l : Line) (vals now : List ℕ) (greatest w : ℕ) → ◌≡◌ {A = ℕ × ℕ} (l.slope, l.intercept) (line_of vals) → now ≡ offsets_from (bare_params l) vals → greatest ≡ greatest_of now → w ≡ width greatest → let held : LinearParams = record { slope = l.slope; intercept = l.intercept; offset_width = w } in held ≡ block_line vals
 unfolding block_line
 block_line-held l vals now greatest w e o g p =
-    let bare : Slope = record { slope = (line_of vals).0; intercept = (line_of vals).1; offset_width = 0 } in
+    let bare : LinearParams = record { slope = (line_of vals).0; intercept = (line_of vals).1; offset_width = 0 } in
     let same : bare_params l ≡ bare = λ i. record { slope = (e i).0; intercept = (e i).1; offset_width = 0 } in
     let wide : w ≡ width (greatest_of (offsets_from bare vals)) = p ∙ ap width (g ∙ ap greatest_of (o ∙ ap (λ s. offsets_from s vals) same)) in
     λ i. record { slope = (e i).0; intercept = (e i).1; offset_width = wide i }

@@ -10,7 +10,7 @@ use Rattle.col_common.specs.Decoding.{Refuses}
 use Rattle.col_common.specs.declared.error.ColumnarError.{ColumnarError}
 use Rattle.col_common.specs.declared.error.ColumnarError.TheVariants.{OutOfMemory, InvalidData}
 use Rattle.col_model.specs.Stats.{Stats, stats_of, same_stats}
-use Rattle.col_model.specs.U64List.{Slope, slope_at}
+use Rattle.col_model.specs.U64List.{LinearParams, params_at}
 use Rattle.col_model.specs.Items.{linear_item, are_blocks, no_line, blockwise_item, blockwise_items}
 use Rattle.col_model.specs.Codecs.{block_count}
 use Rattle.col_model.proofs.ReadingLaws.{take-front}
@@ -67,7 +67,7 @@ refuses-list OutOfMemory lines list f r = tt
 refuses-list InvalidData lines list f r = f r
 refuses-list _ lines list f r = absurd r
 
-list_by-lines : (s : Stats) (bytes body footer : List ℕ) (n : ℕ) (ls : List Slope) → n ≡ div_ceil s.count 512 → parts_by_second w64 bytes ≡ Some (body, footer) → lines_of n footer ≡ Some ls → list_by 2 s bytes ≡ only_if (are_blocks s.count ls body && same_stats (stats_of (blockwise_items s ls body)) s) (blockwise_items s ls body)
+list_by-lines : (s : Stats) (bytes body footer : List ℕ) (n : ℕ) (ls : List LinearParams) → n ≡ div_ceil s.count 512 → parts_by_second w64 bytes ≡ Some (body, footer) → lines_of n footer ≡ Some ls → list_by 2 s bytes ≡ only_if (are_blocks s.count ls body && same_stats (stats_of (blockwise_items s ls body)) s) (blockwise_items s ls body)
 unfolding list_by
 list_by-lines s bytes body footer n ls count e q = rw (blockwise_values-some s bytes body footer ls e (ap (λ m. lines_of m footer) (sym count) ∙ q)) (both (are_blocks s.count ls body) (blockwise_items s ls body))
   where
@@ -76,10 +76,10 @@ list_by-lines s bytes body footer n ls count e q = rw (blockwise_values-some s b
     both false xs = refl
 
 -- so many lines
-pub length-lines_of : (n : ℕ) (footer : List ℕ) (ls : List Slope) → lines_of n footer ≡ Some ls → length ls ≡ n
+pub length-lines_of : (n : ℕ) (footer : List ℕ) (ls : List LinearParams) → lines_of n footer ≡ Some ls → length ls ≡ n
 length-lines_of n footer ls e =
-    option_and_then_some nothing_left (items slope_at n footer) ls e (λ r f g.
-    ap length (sym (cond_some (length r.1 == 0) r.0 ls g).1) ∙ length-items slope_at n footer r.0 r.1 f)
+    option_and_then_some nothing_left (items params_at n footer) ls e (λ r f g.
+    ap length (sym (cond_some (length r.1 == 0) r.0 ls g).1) ∙ length-items params_at n footer r.0 r.1 f)
 
 -- ---- parts
 

@@ -8,8 +8,8 @@ use Rattle.std.proofs.lemmas.Bool.{cases_lt}
 use Rattle.col_model.specs.Stats.{Stats, least_of, stats_of}
 use Rattle.col_model.proofs.ListLaws.{all_taken, all_dropped}
 use Rattle.col_bits.specs.Packed.{packed_bytes}
-use Rattle.col_model.specs.U64List.{Slope, joined_lists}
-use Rattle.col_model.specs.Codecs.{block_size, cut_blocks, packed_block, lines_bytes, blocks_bytes, slope_bytes, offsets_from, block_line, block_count, steps_above}
+use Rattle.col_model.specs.U64List.{LinearParams, joined_lists}
+use Rattle.col_model.specs.Codecs.{block_size, cut_blocks, packed_block, lines_bytes, blocks_bytes, params_bytes, offsets_from, block_line, block_count, steps_above}
 use Rattle.col_model.proofs.CutLaws.{joined_lists-push, block_at, cut_blocks-more}
 use Rattle.col_model.proofs.StatsLaws.{least_of-all, all_by}
 use Rattle.col_model.proofs.CodecLaws.{block_offsets-fit}
@@ -29,9 +29,9 @@ packed_so_far-more ks k =
     ∙ ap joined_lists (map-append packed_block (cut_blocks k ks) (block_at k ks ∷ []))
     ∙ joined_lists-push (map packed_block (cut_blocks k ks)) (packed_block (block_at k ks))
 
-pub lines_so_far-more : (ks : List ℕ) (k : ℕ) → lines_so_far ks (k + 1) ≡ lines_so_far ks k ++ slope_bytes (block_line (block_at k ks))
+pub lines_so_far-more : (ks : List ℕ) (k : ℕ) → lines_so_far ks (k + 1) ≡ lines_so_far ks k ++ params_bytes (block_line (block_at k ks))
 lines_so_far-more ks k =
-    let spelled : List ℕ → List ℕ = λ b. slope_bytes (block_line b) in
+    let spelled : List ℕ → List ℕ = λ b. params_bytes (block_line b) in
     ap (flat_map spelled) (cut_blocks-more k ks)
     ∙ flat_map-append spelled (cut_blocks k ks) (block_at k ks ∷ [])
     ∙ ap (λ r. lines_so_far ks k ++ r) (append-nil (spelled (block_at k ks)))
@@ -52,14 +52,14 @@ steps_above-block s xs part k n e p =
     ]
 
 -- a block of steps with its line and its offsets
-pub record IsTrained (steps offsets : List ℕ) (l : Slope) : Type 0 where
+pub record IsTrained (steps offsets : List ℕ) (l : LinearParams) : Type 0 where
   pub slope : l ≡ block_line steps
   pub offsets_are : offsets ≡ offsets_from (block_line steps) steps
 
-pub trained-width : (steps offsets : List ℕ) (l : Slope) → IsTrained steps offsets l → l.offset_width ≤ 64
+pub trained-width : (steps offsets : List ℕ) (l : LinearParams) → IsTrained steps offsets l → l.offset_width ≤ 64
 trained-width steps offsets l h = rw h.slope (block_line-width steps)
 
-pub trained-small : (steps offsets : List ℕ) (l : Slope) → IsTrained steps offsets l → AllByRecursion (λ v. v < 2 ^ l.offset_width) offsets
+pub trained-small : (steps offsets : List ℕ) (l : LinearParams) → IsTrained steps offsets l → AllByRecursion (λ v. v < 2 ^ l.offset_width) offsets
 trained-small steps offsets l h = rw (h.slope, h.offsets_are) (block_offsets-fit steps)
 
 -- ---- the values

@@ -5,7 +5,7 @@ use Rattle.std.proofs.lemmas.List.{take_all, take_more_set, length-set, length_p
 use Rattle.std.proofs.lemmas.List.Sums.{fold_push}
 use Rattle.col_model.specs.Stats.{least_of, greatest_of}
 use Rattle.col_model.specs.Training.{line_of, less_wrapped}
-use Rattle.col_model.specs.U64List.{Slope as LineAndWidth}
+use Rattle.col_model.specs.U64List.{LinearParams as LineAndWidth}
 use Rattle.col_model.specs.Codecs.{block_size, half_space, deviation, deviations, linear_line}
 use Rattle.col_bits.specs.Packed.{width}
 use Rattle.col_model.proofs.StatsLaws.{least_of-all, fold-max}

@@ -3,7 +3,7 @@ use Rattle.std.specs.Prelude.{◌≡◌, ◌<◌, ◌≤◌, ℕ, ◌+◌, ◌-�
 use Rattle.std.specs.List.{AllByRecursion, range_with_len}
 use Rattle.col_model.specs.Stats.{Stats, stats_of}
 use Rattle.col_common.specs.Reading.{◌>>=◌, nothing_left, items}
-use Rattle.col_model.specs.U64List.{Slope, slope_at}
+use Rattle.col_model.specs.U64List.{LinearParams, params_at}
 use Rattle.col_model.specs.Codecs.{block_size, block_count}
 use Rattle.col_model.specs.Items.{linear_item, linear_items, block_start}
 use Rattle.col_codecs.specs.declared.line.Line.{Line}
@@ -18,11 +18,11 @@ pub record IsBlock (s : Stats) (values : List ℕ) : Type 0 where
   pub above : AllByRecursion (IsAbove s) values
 
 -- so many lines with their widths, and nothing else
-abbrev pub lines_of : ℕ → List ℕ → Option (List Slope)
-lines_of count bytes = items slope_at count bytes >>= nothing_left
+abbrev pub lines_of : ℕ → List ℕ → Option (List LinearParams)
+lines_of count bytes = items params_at count bytes >>= nothing_left
 
 -- a block's line with the width of the offsets from it
-abbrev pub block_params : Block → Slope
+abbrev pub block_params : Block → LinearParams
 block_params b = with_width b.line b.bit_unpacker
 
 -- the step at a place of a block

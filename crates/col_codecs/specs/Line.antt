@@ -2,7 +2,7 @@
 use Rattle.std.specs.Prelude.{ℕ, List, map}
 use Rattle.col_model.specs.Line.{line}
 use Rattle.col_model.specs.Training.{less_wrapped}
-use Rattle.col_model.specs.U64List.{Slope as LineAndWidth}
+use Rattle.col_model.specs.U64List.{LinearParams as LineAndWidth}
 use Rattle.col_codecs.specs.declared.line.Line.{Line}
 
 -- slope and intercept

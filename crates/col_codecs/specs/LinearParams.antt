@@ -1,5 +1,5 @@
 -- A line with the width of the offsets from it.
-use Rattle.col_model.specs.U64List.{Slope as LineAndWidth}
+use Rattle.col_model.specs.U64List.{LinearParams as LineAndWidth}
 use Rattle.col_codecs.specs.declared.line.Line.{Line}
 use Rattle.col_codecs.specs.declared.linear_params.LinearParams.{LinearParams}
 

@@ -2,8 +2,8 @@
 ghost use Rattle.std.specs.Prelude.{◌≡◌, option_map, IfSome, IsTrue};
 ghost use Rattle.col_common.specs.Serializing.{Serializes};
 ghost use Rattle.col_bits.specs.Packed.{is_width};
-ghost use Rattle.col_model.specs.U64List.{slope_at};
-ghost use Rattle.col_model.specs.Codecs.{slope_bytes};
+ghost use Rattle.col_model.specs.U64List.{params_at};
+ghost use Rattle.col_model.specs.Codecs.{params_bytes};
 
 use crate::line::Line;
 use col_common::{ColumnarError, Sink, serialize_bytes};
@@ -32,9 +32,9 @@ impl LinearParams {
     ghost use Rattle.col_codecs.specs.LinearParams.{params_seen};
 
     /// The line and the width byte at the front, and the bytes behind them.
-    #[tactic(auto, unfolding(col_model::specs::U64List::slope_at))]
+    #[tactic(auto, unfolding(col_model::specs::U64List::params_at))]
     pub fn read(bytes: &[u8]) -> Option<(LinearParams, &[u8])>
-        ensures value { option_map (λ r. (params_seen r.0, r.1.now)) result ≡ slope_at bytes.now }
+        ensures value { option_map (λ r. (params_seen r.0, r.1.now)) result ≡ params_at bytes.now }
         ensures width { IfSome result (λ r. IsTrue (is_width r.0.offset_width)) }
     {
         let (line, bytes) = Line::read(bytes)?;
@@ -49,10 +49,10 @@ impl LinearParams {
     }
 
     /// Adds the line and the width byte.
-    #[tactic(auto, unfolding(col_model::specs::Codecs::slope_bytes))]
+    #[tactic(auto, unfolding(col_model::specs::Codecs::params_bytes))]
     pub fn serialize<K: Sink>(&self, sink: &mut K) -> Result<(), ColumnarError>
         ensures { Serializes (K.seen sink.old) (K.seen sink.new) result
-            (slope_bytes (params_seen self.now)) }
+            (params_bytes (params_seen self.now)) }
     {
         self.line.serialize(sink)?;
         serialize_bytes(sink, &[self.offset_width])

@@ -8,8 +8,8 @@ ghost use Rattle.col_codecs.specs.Blocks.{block_params, lines_of, ArePlaced};
 
 use super::LINES_LEN_NUM_BYTES;
 use crate::line::Line;
-use crate::packing::{BLOCK_LEN, BYTE_BITS, is_packed};
 use crate::linear_params::LinearParams;
+use crate::packing::{BLOCK_LEN, BYTE_BITS, is_packed};
 use col_bits::BitUnpacker;
 use col_common::ColumnarError;
 use std::alloc::Global;

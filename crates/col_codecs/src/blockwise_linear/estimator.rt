@@ -33,7 +33,8 @@ fn estimate_block(vals: &mut [u64]) -> u64
 {
     let count = vals.len() as u64;
     let params = train_offsets(vals);
-    1 + params.line.num_bytes() + (count * u64::from(params.offset_width)).div_ceil(BYTE_BITS as u64)
+    1 + params.line.num_bytes()
+        + (count * u64::from(params.offset_width)).div_ceil(BYTE_BITS as u64)
 }
 
 // The binary logarithm, rounded down.

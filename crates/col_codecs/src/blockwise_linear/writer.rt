@@ -9,7 +9,7 @@ ghost use Rattle.col_model.specs.Codecs.{
   blocks_bytes,
   lines_bytes,
   packed_block,
-  slope_bytes,
+  params_bytes,
   block_line,
   steps_above,
 };
@@ -87,7 +87,7 @@ fn serialize_block<K: Sink>(
     ensures packed { Serializes (K.seen sink.old) (K.seen sink.new) result
         (packed_block (steps_above (stats_seen stats.now) vals.old)) }
     ensures line { OnOk result (lines.new ≡ lines.old
-        ++ slope_bytes (block_line (steps_above (stats_seen stats.now) vals.old))) }
+        ++ params_bytes (block_line (steps_above (stats_seen stats.now) vals.old))) }
 {
     take_steps(stats, vals);
     let params = train_offsets(vals);

@@ -10,8 +10,8 @@ ghost use Rattle.col_codecs.specs.LinearParams.{params_seen};
 use crate::codec::ColumnCodecEstimator;
 use crate::column_stats::ColumnStats;
 use crate::line::Line;
-use crate::packing::{BLOCK_LEN, BLOCK_SIZE, BYTE_BITS};
 use crate::linear_params::LinearParams;
+use crate::packing::{BLOCK_LEN, BLOCK_SIZE, BYTE_BITS};
 use crate::turning::serialize_turned;
 use col_bits::compute_num_bits;
 use col_common::{ColumnarError, Iterable, Sink};
@@ -131,7 +131,12 @@ impl ColumnCodecEstimator for LinearCodecEstimator {
         }
         let params = self.linear_params;
         let packed_bits = u64::from(self.row_id) * u64::from(params.offset_width);
-        Some(stats.num_bytes() + params.line.num_bytes() + 1 + packed_bits.div_ceil(BYTE_BITS as u64))
+        Some(
+            stats.num_bytes()
+                + params.line.num_bytes()
+                + 1
+                + packed_bits.div_ceil(BYTE_BITS as u64),
+        )
     }
 
     fn serialize<I: Iterable<u64>, K: Sink>(
@@ -160,7 +165,8 @@ fn serialize_behind_codec<I: Iterable<u64>, K: Sink>(
     requires count { length (I.items vals.now) < 2 ^ 32 }
     requires stats { stats_seen stats.now ≡ stats_of (I.items vals.now) }
     requires line { params_seen params ≡ linear_line (I.items vals.now) }
-    ensures { Serializes (K.seen sink.old) (K.seen sink.new) result (linear_body (I.items vals.now)) }
+    ensures { Serializes (K.seen sink.old) (K.seen sink.new) result
+        (linear_body (I.items vals.now)) }
 {
     let _greatest = stats.max_value;
     stats.serialize(sink)?;

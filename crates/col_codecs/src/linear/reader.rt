@@ -4,7 +4,7 @@ ghost use Rattle.std.specs.List.{range_with_len};
 ghost use Rattle.col_common.specs.Decoding.{Decodes};
 ghost use Rattle.col_bits.specs.Packed.{is_width};
 ghost use Rattle.col_model.specs.Stats.{stats_of, same_stats};
-ghost use Rattle.col_model.specs.U64List.{slope_at};
+ghost use Rattle.col_model.specs.U64List.{params_at};
 ghost use Rattle.col_model.specs.Items.{is_packed, linear_item, linear_items};
 ghost use Rattle.col_codecs.specs.ColumnStats.{stats_seen, collected_of};
 ghost use Rattle.col_codecs.specs.Header.{list_by};
@@ -13,8 +13,8 @@ ghost use Rattle.col_codecs.specs.LinearParams.{params_seen};
 
 use crate::column_stats::ColumnStats;
 use crate::line::Line;
-use crate::packing::is_packed;
 use crate::linear_params::LinearParams;
+use crate::packing::is_packed;
 use crate::stats_collector::StatsCollector;
 use bytes::Bytes;
 use col_bits::BitUnpacker;
@@ -123,7 +123,7 @@ impl ColumnValues<u64> for LinearReader {
 
 // The line and the width byte at the front, and the bytes behind them.
 fn take_params(bytes: Bytes) -> Option<(LinearParams, Bytes)>
-    ensures value { option_map (λ r. (params_seen r.0, r.1)) result ≡ slope_at bytes }
+    ensures value { option_map (λ r. (params_seen r.0, r.1)) result ≡ params_at bytes }
     ensures width { IfSome result (λ r. IsTrue (is_width r.0.offset_width)) }
 {
     let (params, start) = read_params(bytes.as_slice())?;
@@ -135,7 +135,7 @@ fn take_params(bytes: Bytes) -> Option<(LinearParams, Bytes)>
 // The line and the width byte at the front, and the place behind them.
 fn read_params(bytes: &[u8]) -> Option<(LinearParams, usize)>
     ensures value { option_map (λ r. (params_seen r.0, drop r.1 bytes.now)) result
-        ≡ slope_at bytes.now }
+        ≡ params_at bytes.now }
     ensures within { IfSome result (λ r. r.1 ≤ length bytes.now) }
     ensures width { IfSome result (λ r. IsTrue (is_width r.0.offset_width)) }
 {

@@ -119,10 +119,7 @@ const REFUSED: [(&str, &[u8]); 20] = [
     ("divisor 0", &[0, 0x8a, 0x80, 0x81, 0x82, 2]),
     ("a divisor without steps", &[0, 0x8a, 0x8a, 0x80, 0x82]),
     ("more than the steps", &[0, 0x8a, 0x81, 0x82, 0x82, 12]),
-    (
-        "2^32 rows",
-        &[0, 0x80, 0x81, 0x80, 0, 0, 0, 0, 0x90],
-    ),
+    ("2^32 rows", &[0, 0x80, 0x81, 0x80, 0, 0, 0, 0, 0x90]),
     ("no line", &[1, 0x8a, 0x83, 0x81, 0x82]),
     ("no width", &[1, 0x8a, 0x83, 0x81, 0x82, 0x80, 0x8a]),
     (
@@ -255,6 +252,10 @@ fn bytes_stand_for_one_list_or_none(rt: HostRuntime) {
         assert_eq!(rt; last_of(alloc, bytes).ok(), Some((count, last)), "{what}");
     }
     for (what, bytes) in REFUSED {
-        assert_eq!(rt; last_of(alloc, bytes).err(), Some(ColumnarError::InvalidData), "{what}");
+        assert_eq!(rt;
+            last_of(alloc, bytes).err(),
+            Some(ColumnarError::InvalidData),
+            "{what}"
+        );
     }
 }

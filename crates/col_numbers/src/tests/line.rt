@@ -61,7 +61,10 @@ fn a_column_trains_a_line(rt: HostRuntime) -> Result<(), Fail> {
     assert_eq!(rt; positions.next(&mut at), Some((0, 100)));
     assert_eq!(rt; positions.next(&mut at), Some((1, 101)));
     let line = Line::train(&column);
-    assert_eq!(rt; (line.slope, line.intercept), (RISING.slope, RISING.intercept));
+    assert_eq!(rt;
+        (line.slope, line.intercept),
+        (RISING.slope, RISING.intercept)
+    );
     Ok(())
 }
 
@@ -74,7 +77,10 @@ fn a_line_takes_two_numbers(rt: HostRuntime) -> Result<(), Fail> {
     assert_eq!(rt; RISING.num_bytes(), 6);
     let mut rest = sink.bytes();
     let line = Line::deserialize(&mut rest).ok().ok_or("no line")?;
-    assert_eq!(rt; (line.slope, line.intercept), (RISING.slope, RISING.intercept));
+    assert_eq!(rt;
+        (line.slope, line.intercept),
+        (RISING.slope, RISING.intercept)
+    );
     assert!(rt; Line::deserialize(&mut rest).is_err(), "nothing is left");
     Ok(())
 }

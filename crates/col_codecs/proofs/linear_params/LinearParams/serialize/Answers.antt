@@ -1,11 +1,11 @@
 use Rattle.std.proofs.Common.{append_assoc, ◌∷◌, []}
 use Rattle.col_common.specs.VInt.{vint_bytes}
 use Rattle.col_common.proofs.SerializingLemmas.{serializes-as, serializes-then}
-use Rattle.col_model.specs.Codecs.{slope_bytes}
+use Rattle.col_model.specs.Codecs.{params_bytes}
 use Rattle.col_codecs.proofs.linear_params.LinearParams.serialize.Goals as goal
 
 pub returns : goal.returns
-unfolding slope_bytes
+unfolding params_bytes
 returns g c =
     let l = c.args.self.now.line in
     serializes-as _ _ _ _ _
