@@ -15,9 +15,6 @@ pub use estimator::BlockwiseLinearEstimator;
 pub use reader::BlockwiseLinearReader;
 use std::alloc::Global;
 
-// The bytes of the lines' length.
-const LINES_LEN_NUM_BYTES: usize = 8;
-
 /// Offsets from a line for each block of 512 values.
 pub struct BlockwiseLinearCodec;
 

@@ -8,7 +8,7 @@ ghost use Rattle.col_bits.specs.Packed.{packed_bytes};
 
 use crate::column_stats::ColumnStats;
 use col_bits::BitPacker;
-use col_common::{Iterable, Walk};
+use col_common::{Iterable, U64_NUM_BYTES, Walk};
 use std::alloc::AllocError;
 
 /// How many values a block has; the last one may have fewer.
@@ -17,11 +17,8 @@ pub const BLOCK_SIZE: usize = 512;
 /// The same as a count of rows.
 pub const BLOCK_LEN: u32 = BLOCK_SIZE as u32;
 
-// The bytes of a value.
-const WORD_BYTES: usize = 8;
-
 /// The most bytes of a packed block.
-pub const MAX_BLOCK_NUM_BYTES: usize = BLOCK_SIZE * WORD_BYTES;
+pub const MAX_BLOCK_NUM_BYTES: usize = BLOCK_SIZE * U64_NUM_BYTES;
 
 /// The bits of a byte.
 pub const BYTE_BITS: usize = 8;

@@ -1,12 +1,9 @@
 //! Blocks of a list: their lines, and where their packed offsets begin.
-ghost use Rattle.std.specs.Prelude.{◌≡◌, ◌≤◌, true, map, length, option_map};
-ghost use Rattle.std.specs.Int.{w64};
-ghost use Rattle.col_common.specs.Reading.{back, parts_by_second};
+ghost use Rattle.std.specs.Prelude.{◌≡◌, ◌≤◌, true, map, length};
 ghost use Rattle.col_common.specs.Decoding.{Decodes};
 ghost use Rattle.col_model.specs.Items.{are_blocks};
 ghost use Rattle.col_codecs.specs.Blocks.{block_params, lines_of, ArePlaced};
 
-use super::LINES_LEN_NUM_BYTES;
 use crate::line::Line;
 use crate::linear_params::LinearParams;
 use crate::packing::{BLOCK_LEN, BYTE_BITS, is_packed};
@@ -38,28 +35,6 @@ impl Block {
             .eval(at)
             .wrapping_add(self.bit_unpacker.get(at, &data[self.start..]))
     }
-}
-
-/// The packed blocks and their lines, behind which the length of the lines stands.
-#[tactic(auto, unfolding(col_common::specs::Reading::parts_by_second))]
-pub fn split_lines(bytes: &[u8]) -> Option<(&[u8], &[u8])>
-    ensures { option_map (λ r. (r.0.now, r.1.now)) result ≡ parts_by_second w64 bytes.now }
-{
-    let (parts, len) = split_back(bytes, LINES_LEN_NUM_BYTES)?;
-    let len = u64::from_le_bytes([
-        len[0], len[1], len[2], len[3], len[4], len[5], len[6], len[7],
-    ]);
-    split_back(parts, len as usize)
-}
-
-// The others, and the last bytes, so many.
-fn split_back(bytes: &[u8], count: usize) -> Option<(&[u8], &[u8])>
-    ensures { option_map (λ r. (r.0.now, r.1.now)) result ≡ back count bytes.now }
-{
-    if count > bytes.len() {
-        return None;
-    }
-    Some(bytes.split_at(bytes.len() - count))
 }
 
 /// So many lines and nothing else, each of a block that isn't placed yet.

@@ -5,13 +5,12 @@ ghost use Rattle.col_model.specs.Stats.{stats_of};
 ghost use Rattle.col_model.specs.Codecs.{block_size, block_estimate, blockwise_body, log2};
 ghost use Rattle.col_codecs.specs.ColumnStats.{stats_seen};
 
-use super::LINES_LEN_NUM_BYTES;
 use super::offsets::train_offsets;
 use super::writer::serialize_blocks;
 use crate::codec::ColumnCodecEstimator;
 use crate::column_stats::ColumnStats;
 use crate::packing::{BLOCK_SIZE, BYTE_BITS};
-use col_common::{ColumnarError, Iterable, Sink};
+use col_common::{ColumnarError, Iterable, Sink, U64_NUM_BYTES};
 use std::alloc::{AllocError, Global};
 
 // The binary logarithm of 2^64, less 1.
@@ -106,7 +105,7 @@ impl ColumnCodecEstimator for BlockwiseLinearEstimator {
     }
 
     fn estimate(&self, stats: &ColumnStats) -> Option<u64> {
-        let num_bytes = LINES_LEN_NUM_BYTES as u64 + stats.num_bytes() + self.num_bytes;
+        let num_bytes = U64_NUM_BYTES as u64 + stats.num_bytes() + self.num_bytes;
         let spared = u64::from(log2(stats.gcd)) * u64::from(stats.num_rows) / BYTE_BITS as u64;
         Some(num_bytes.saturating_sub(spared))
     }
