@@ -1,14 +1,12 @@
 -- The steps of a list, packed, and how many bytes they take.
-use Rattle.std.proofs.Common.{◌≡◌, ℕ, zero, suc, ◌+◌, ◌-◌, ◌*◌, ◌/◌, ◌%◌, ◌^◌, ◌<◌, ◌≤◌, inl, inr, List, [], ◌∷◌, ◌++◌, length, take, drop, map, min, Ok, Err, refl, sym, ◌∙◌, ap, arith, subst, zero-mul, append_assoc, append-nil, lt_of_le_of_lt, div-le_self, le_trans, div-mul-le_self}
+use Rattle.std.proofs.Common.{◌≡◌, ℕ, ◌+◌, ◌-◌, ◌*◌, ◌/◌, ◌^◌, ◌<◌, ◌≤◌, List, ◌++◌, length, refl, ◌∙◌, ap, arith, lt_of_le_of_lt, div-le_self, le_trans, div-mul-le_self}
 use Rattle.std.specs.List.{AllByRecursion}
 use Rattle.std.specs.Int.{div_ceil}
-use Rattle.std.proofs.lemmas.Bool.{cases_lt}
 use Rattle.std.proofs.lemmas.Nat.{le-div}
-use Rattle.std.proofs.lemmas.List.{length-map, map-append, take-append-drop, length-take-le, take_all, drop_all}
-use Rattle.col_bits.specs.Packed.{digits, packed_bytes, width}
+use Rattle.col_bits.specs.Packed.{packed_bytes, width}
 use Rattle.col_model.specs.Stats.{Stats, stats_of, steps_of, stats_bytes, greatest_of}
 use Rattle.col_model.specs.Codecs.{steps_above, bitpacked_body, bitpacked_estimate}
-use Rattle.col_model.proofs.StatsLaws.{all_by, mapped_all, all_both}
+use Rattle.col_model.proofs.StatsLaws.{all_by, mapped_all}
 use Rattle.col_model.proofs.U64ListLaws.{Describes, stats_of-describes}
 use Rattle.col_model.proofs.WidthLaws.{width-above}
 use Rattle.col_codecs.specs.ColumnStats.{IsAbove}

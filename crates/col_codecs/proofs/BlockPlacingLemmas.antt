@@ -8,7 +8,7 @@ use Rattle.col_model.specs.U64List.{LinearParams, block_len}
 use Rattle.col_model.specs.Items.{is_packed, block_bytes, block_start, are_blocks, no_line}
 use Rattle.col_model.proofs.BlockReadingLaws.{IsAtBlock, at_block-more, at_block-short, at_block-spare, at_block-end}
 use Rattle.col_codecs.specs.declared.blockwise_linear.block.Block.{Block}
-use Rattle.col_codecs.specs.Blocks.{block_params, block_of, no_block, ArePlaced}
+use Rattle.col_codecs.specs.Blocks.{block_params, block_of, no_block}
 
 -- the first k blocks are placed
 pub record PlacedSoFar (n : ℕ) (slopes : List LinearParams) (bs : List Block) (bytes : List ℕ) (k : ℕ) : Type 0 where

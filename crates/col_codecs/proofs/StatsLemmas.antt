@@ -1,13 +1,10 @@
 -- Statistics of a list that grows by one number.
-use Rattle.std.proofs.Common.{◌≡◌, ℕ, ◌+◌, ◌-◌, ◌%◌, ◌<◌, min, max, List, [], ◌∷◌, ◌++◌, length, map, fold, refl, sym, ◌∙◌, ap, arith, length-append, append_assoc, subst, Result}
+use Rattle.std.proofs.Common.{◌≡◌, ℕ, ◌+◌, ◌-◌, ◌%◌, ◌<◌, min, max, List, [], ◌∷◌, ◌++◌, length, map, refl, sym, ◌∙◌, ap, arith, length-append, append_assoc}
 use Rattle.std.specs.Int.{abs_diff}
 use Rattle.std.proofs.lemmas.List.Sums.{fold_push}
 use Rattle.std.proofs.lemmas.Nat.Gcd.{dvd_refl, IsGcd-swap, IsGcd-from_mod, same_from_IsGcd}
 use native.Mathlib.Nat.{one-dvd}
-use Rattle.col_common.specs.Outside.{SeenSink}
-use Rattle.col_common.specs.Serializing.{Serializes}
 use Rattle.col_common.specs.VInt.{vint_bytes}
-use Rattle.col_common.specs.declared.error.ColumnarError.{ColumnarError}
 use Rattle.col_model.specs.Stats.{gcd, gcd_of, least_of, greatest_of, at_least_one, stats_of, stats_bytes, steps_of}
 use Rattle.col_model.proofs.StatsLaws.{IsGcd-gcd}
 use Rattle.col_model.proofs.CollectLaws.{gcd_of-push}

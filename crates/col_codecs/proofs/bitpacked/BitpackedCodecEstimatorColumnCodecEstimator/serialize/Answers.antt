@@ -1,8 +1,6 @@
-use Rattle.std.proofs.Common.{◌≡◌, ◌++◌, ◌∙◌, sym, ap, arith, subst}
+use Rattle.std.proofs.Common.{◌∙◌, ap, arith}
 use Rattle.col_common.proofs.SerializingLemmas.{serializes-as, serializes-then}
-use Rattle.col_bits.specs.Packed.{packed_bytes, width}
-use Rattle.col_model.specs.Stats.{steps_of, stats_bytes}
-use Rattle.col_model.specs.Codecs.{steps_above}
+use Rattle.col_bits.specs.Packed.{width}
 use Rattle.col_codecs.specs.ColumnStats.{stats_seen}
 use Rattle.col_codecs.proofs.BitpackedWritingLemmas.{steps-packable, body-bytes}
 use Rattle.col_codecs.proofs.PossibleLemmas.{IsPossible-stats_of}

@@ -1,4 +1,4 @@
-use Rattle.std.proofs.Common.{◌≡◌, ◌+◌, ◌*◌, ◌++◌, ◌∙◌, ap, sym, arith, drop, take, length, min, refl, length-append}
+use Rattle.std.proofs.Common.{◌≡◌, ◌*◌, ◌++◌, ◌∙◌, ap, sym, arith, drop, take, length, min, refl, length-append}
 use Rattle.std.proofs.lemmas.List.{length-take, length-drop}
 use Rattle.std.proofs.lemmas.Result.{err_from_is_err_and}
 use Rattle.col_common.proofs.SerializingLemmas.{serializes-as, serializes-nothing, serializes-stopped, serializes-then}
