@@ -48,7 +48,7 @@ fn lines_have_the_values_that_they_are_trained_on(rt: HostRuntime) {
         assert_eq!(rt; line.intercept, trained.intercept, "intercept of {what}");
     }
     let falling = Line::train_block(&[13, 12, 12, 11, 11, 11]);
-    for (x, value) in [(0, 13), (1, 12), (2, 12), (3, 11), (4, 11), (5, 11)] {
+    for (x, value) in [(0, 13u64), (1, 12), (2, 12), (3, 11), (4, 11), (5, 11)] {
         assert!(rt; value.wrapping_sub(falling.eval(x)) <= 1, "at {x}");
     }
 }
