@@ -6,9 +6,8 @@ use Rattle.std.proofs.lemmas.List.FromFn.{length-map-range_with_len, get_or-map-
 use Rattle.std.proofs.lemmas.List.Elements.{All-get_or, All-from_recursion}
 use native.Mathlib.Nat.{mod-one}
 use Rattle.col_common.specs.Reading.{◌>>=◌, only_if}
-use Rattle.col_bits.specs.Packed.{number_of, item, items, width}
+use Rattle.col_bits.specs.Packed.{number_of, item, items, width, is_packed}
 use Rattle.col_model.specs.Stats.{Stats, stats_of, steps_of, same_stats, greatest_of}
-use Rattle.col_model.specs.Items.{is_packed}
 use Rattle.col_model.specs.U64List.{bitpacked_values}
 use Rattle.col_model.proofs.StatsLaws.{map-map, fold-max}
 use Rattle.col_model.proofs.ItemLaws.{packed-items, only_if-then}

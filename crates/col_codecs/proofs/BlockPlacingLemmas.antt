@@ -5,7 +5,8 @@ use Rattle.std.proofs.Math.Seq.{map-set_same}
 use Rattle.std.proofs.lemmas.Bool.{cases_eq, eq-eqb, ne_eqb}
 use Rattle.std.proofs.lemmas.List.{get_or-map, length-map, get_or-set_same, get_or-set_other}
 use Rattle.col_model.specs.U64List.{LinearParams, block_len}
-use Rattle.col_model.specs.Items.{is_packed, block_bytes, block_start, are_blocks, no_line}
+use Rattle.col_bits.specs.Packed.{is_packed}
+use Rattle.col_model.specs.Items.{block_bytes, block_start, are_blocks, no_line}
 use Rattle.col_model.proofs.BlockReadingLaws.{IsAtBlock, at_block-more, at_block-short, at_block-spare, at_block-end}
 use Rattle.col_codecs.specs.declared.blockwise_linear.block.Block.{Block}
 use Rattle.col_codecs.specs.Blocks.{block_params, block_of, no_block}

@@ -19,7 +19,6 @@ pub mod LinearLemmas
 pub mod LinearReaderLemmas
 pub mod PackingLemmas
 pub mod PossibleLemmas
-pub mod SpareLemmas
 pub mod StatsLemmas
 pub mod StepsLemmas
 pub mod TurningLemmas

@@ -7,11 +7,11 @@ use Rattle.std.proofs.lemmas.Option.{option_and_then_some, cond_some, same_Some,
 use Rattle.col_common.specs.Reading.{◌>>=◌, only_if, IsBytes, byte_at}
 use Rattle.col_common.specs.VInt.{vint, vint_bytes}
 use Rattle.col_common.proofs.VIntLemmas.{vint_bytes-vint}
-use Rattle.col_bits.specs.Packed.{is_width}
+use Rattle.col_bits.specs.Packed.{is_width, is_packed}
 use Rattle.col_model.specs.Stats.{Stats, stats_of, same_stats}
 use Rattle.col_model.specs.Line.{line_at}
 use Rattle.col_model.specs.U64List.{LinearParams as LineAndWidth, width_at, params_at}
-use Rattle.col_model.specs.Items.{is_packed, linear_item, linear_items}
+use Rattle.col_model.specs.Items.{linear_item, linear_items}
 use Rattle.col_model.proofs.ReadingLaws.{drop-front}
 use Rattle.col_model.proofs.OneFormLaws.{IsBytes-behind}
 use Rattle.col_model.proofs.ItemLaws.{linear_values-some, linear_values-none, length-linear_items, linear_items-at, linear_items-push}

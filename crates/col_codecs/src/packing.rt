@@ -1,7 +1,6 @@
 //! Blocks of values on their way into packed lists.
 ghost use Rattle.std.specs.Prelude.{◌≡◌, ◌<◌, ◌≤◌, ◌^◌, ◌++◌, length, take, drop, min, OnOk};
 ghost use Rattle.col_model.specs.Codecs.{steps_above};
-ghost use Rattle.col_model.specs.Items.{is_packed};
 ghost use Rattle.col_codecs.specs.ColumnStats.{stats_seen, IsAbove};
 ghost use Rattle.std.specs.List.{AllByRecursion};
 ghost use Rattle.col_bits.specs.Packed.{packed_bytes};
@@ -19,20 +18,6 @@ pub const BLOCK_LEN: u32 = BLOCK_SIZE as u32;
 
 /// The most bytes of a packed block.
 pub const MAX_BLOCK_NUM_BYTES: usize = BLOCK_SIZE * U64_NUM_BYTES;
-
-/// The bits of a byte.
-pub const BYTE_BITS: usize = 8;
-
-/// Whether there are just the bytes that so many bits take, and the spare bits are 0.
-pub fn is_packed(bytes: &[u8], num_bits: usize) -> bool
-    ensures { result ≡ is_packed bytes.now num_bits }
-{
-    if bytes.len() != num_bits.div_ceil(BYTE_BITS) {
-        return false;
-    }
-    let used = num_bits % BYTE_BITS;
-    used == 0 || bytes[bytes.len() - 1] >> used == 0
-}
 
 /// Turns values into how many divisors each lies above the least.
 pub fn take_steps(stats: &ColumnStats, vals: &mut [u64])

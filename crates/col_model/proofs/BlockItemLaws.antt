@@ -7,10 +7,10 @@ use Rattle.std.proofs.lemmas.Option.{option_and_then_some, cond_some, same_Some}
 use Rattle.std.proofs.lemmas.List.{get_or_append_left, get_or-append_right, drop-drop}
 use Rattle.std.proofs.lemmas.List.FromFn.{fill_by_all}
 use Rattle.col_common.specs.Reading.{only_if, ◌>>=◌, nothing_left, items, parts_by_second}
-use Rattle.col_bits.specs.Packed.{item}
+use Rattle.col_bits.specs.Packed.{item, is_packed}
 use Rattle.col_model.specs.Stats.{Stats}
 use Rattle.col_model.specs.U64List.{LinearParams, params_at, above_line, block_len, blocks, joined_lists, blockwise_values}
-use Rattle.col_model.specs.Items.{is_packed, linear_item, linear_items, block_bytes, block_start, are_blocks, block_item, blockwise_items}
+use Rattle.col_model.specs.Items.{linear_item, linear_items, block_bytes, block_start, are_blocks, block_item, blockwise_items}
 use Rattle.col_model.proofs.StatsLaws.{map-map}
 use Rattle.col_model.proofs.ItemLaws.{only_if-then, packed-front, above_line-items, length-linear_items, linear_items-at}
 

@@ -3,7 +3,8 @@ use Rattle.std.proofs.Common.{◌≡◌, ℕ, zero, suc, ◌+◌, ◌-◌, ◌*�
 use Rattle.std.proofs.lemmas.Bool.{le-leb, lt-leb}
 use Rattle.std.proofs.lemmas.List.{drop-drop, drop_more, drop_all, length-drop}
 use Rattle.col_model.specs.U64List.{LinearParams, block_len}
-use Rattle.col_model.specs.Items.{is_packed, block_bytes, block_start, are_blocks}
+use Rattle.col_bits.specs.Packed.{is_packed}
+use Rattle.col_model.specs.Items.{block_bytes, block_start, are_blocks}
 
 -- the first block begins at the front
 pub block_start-first : (n : ℕ) (ls : List LinearParams) → block_start n ls 0 ≡ 0

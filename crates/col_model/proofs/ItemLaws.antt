@@ -6,12 +6,12 @@ use Rattle.std.proofs.lemmas.List.FromFn.{fill_by_all, length-map-range_with_len
 use Rattle.std.proofs.lemmas.Nat.{pow-add, pow_pos, row_fits}
 use native.Mathlib.Nat.{add-mul-mod_self_right, add-mul-div_right}
 use Rattle.col_common.specs.Reading.{only_if, ◌>>=◌}
-use Rattle.col_bits.specs.Packed.{number_of, digits, item, packed}
+use Rattle.col_bits.specs.Packed.{number_of, digits, item, packed, is_packed}
 use Rattle.col_bits.proofs.PackedLemmas.{digits-at, length-digits, pow-pow, number_of-append}
 use Rattle.col_model.specs.Stats.{Stats}
 use Rattle.col_model.specs.Line.{line}
 use Rattle.col_model.specs.U64List.{LinearParams, params_at, above_line, linear_values}
-use Rattle.col_model.specs.Items.{is_packed, linear_item, linear_items}
+use Rattle.col_model.specs.Items.{linear_item, linear_items}
 
 -- the digits of the bytes' number are its items
 pub digits-items : (bytes : List ℕ) (w n : ℕ) → digits (2 ^ w) n (number_of 256 bytes) ≡ map (item bytes w) (range_with_len 0 n)

@@ -1,16 +1,12 @@
 -- Items of lists under Linear and BlockwiseLinear, each read where it stands. The lists are those
 -- of docs/FORMAT.md, section 4.
-use Rattle.std.specs.Prelude.{ℕ, zero, suc, ◌+◌, ◌-◌, ◌*◌, ◌/◌, ◌%◌, ◌^◌, ◌==◌, ◌&&◌, nat_lt, nat_le, Bool, List, [], ◌∷◌, length, map, take, drop, slice_index_or}
+use Rattle.std.specs.Prelude.{ℕ, zero, suc, ◌+◌, ◌-◌, ◌*◌, ◌/◌, ◌%◌, ◌^◌, ◌==◌, ◌&&◌, nat_le, Bool, List, [], ◌∷◌, length, map, take, drop, slice_index_or}
 use Rattle.std.specs.Int.{div_ceil}
 use Rattle.std.specs.List.{range_with_len}
-use Rattle.col_bits.specs.Packed.{number_of, item}
+use Rattle.col_bits.specs.Packed.{item, is_packed}
 use Rattle.col_model.specs.Stats.{Stats}
 use Rattle.col_model.specs.Line.{line}
 use Rattle.col_model.specs.U64List.{LinearParams, block_len}
-
--- there are just the bytes that so many bits take, and the spare bits are 0
-abbrev pub is_packed : List ℕ → ℕ → Bool
-is_packed bytes bits = (length bytes == div_ceil bits 8) && nat_lt (number_of 256 bytes) (2 ^ bits)
 
 -- item i of a list above a line, whose packed offsets are at the front of the bytes
 abbrev pub linear_item : LinearParams → List ℕ → ℕ → ℕ

@@ -6,9 +6,9 @@ ghost use Rattle.col_codecs.specs.Blocks.{block_params, lines_of, ArePlaced};
 
 use crate::line::Line;
 use crate::linear_params::LinearParams;
-use crate::packing::{BLOCK_LEN, BYTE_BITS, is_packed};
-use col_bits::BitUnpacker;
-use col_common::ColumnarError;
+use crate::packing::BLOCK_LEN;
+use col_bits::{BitUnpacker, is_packed};
+use col_common::{BYTE_BITS, ColumnarError};
 use std::alloc::Global;
 
 // The fewest bytes of a line: slope, intercept and width.
@@ -75,7 +75,7 @@ pub fn place_blocks(num_vals: u32, blocks: &mut [Block], data: &[u8]) -> bool
         let len = left.min(BLOCK_LEN);
         let mut block = blocks[at];
         let num_bits = len as usize * block.bit_unpacker.bit_width() as usize;
-        let num_bytes = num_bits.div_ceil(BYTE_BITS);
+        let num_bytes = num_bits.div_ceil(BYTE_BITS as usize);
         if num_bytes > data.len() - start {
             return false;
         }
