@@ -1,15 +1,13 @@
 -- Items of a list under Bitpacked, by arithmetic.
-use Rattle.std.proofs.Common.{◌≡◌, ℕ, zero, suc, ◌+◌, ◌*◌, ◌/◌, ◌^◌, ◌<◌, ◌≤◌, Bool, true, false, List, [], ◌∷◌, ◌++◌, length, map, take, drop, slice_index, slice_get, Option, Some, None, refl, sym, ◌∙◌, ap, arith, length-take, length-drop}
+use Rattle.std.proofs.Common.{◌≡◌, ℕ, zero, suc, ◌+◌, ◌*◌, ◌/◌, ◌^◌, ◌<◌, ◌≤◌, Bool, true, false, List, [], ◌∷◌, ◌++◌, length, map, take, drop, slice_index, slice_get, Option, Some, None, sym, ◌∙◌, ap, arith}
 use Rattle.std.specs.List.{range_with_len, AllByRecursion}
-use Rattle.std.proofs.lemmas.List.{same_lists, get_or-take, get_or-drop}
 use Rattle.std.proofs.lemmas.Option.{slice_get-get_or}
 use Rattle.std.proofs.lemmas.List.FromFn.{length-map-range_with_len, get_or-map-range_with_len, map-range_with_len_more}
 use Rattle.std.proofs.lemmas.List.Elements.{All-get_or, All-from_recursion}
 use native.Mathlib.Nat.{mod-one}
 use Rattle.col_common.specs.Reading.{◌>>=◌, only_if}
-use Rattle.col_bits.specs.Packed.{number_of, item, items, width}
+use Rattle.col_bits.specs.Packed.{number_of, item, items, width, is_packed}
 use Rattle.col_model.specs.Stats.{Stats, stats_of, steps_of, same_stats, greatest_of}
-use Rattle.col_model.specs.Items.{is_packed}
 use Rattle.col_model.specs.U64List.{bitpacked_values}
 use Rattle.col_model.proofs.StatsLaws.{map-map, fold-max}
 use Rattle.col_model.proofs.ItemLaws.{packed-items, only_if-then}
@@ -17,6 +15,8 @@ use Rattle.col_model.proofs.OneFormLaws.{same_stats-equal}
 use Rattle.col_codecs.specs.Header.{list_by}
 use Rattle.col_codecs.specs.ColumnStats.{Collected, collected_of, IsPossible}
 use Rattle.col_codecs.specs.Bitpacked.{bitpacked_item, bitpacked_items, IsReader}
+use Rattle.col_codecs.proofs.BoundsLemmas.{stats_of-greatest}
+use Rattle.col_codecs.proofs.ListLemmas.{range-part}
 use Rattle.col_codecs.proofs.StatsLemmas.{collected-count}
 use Rattle.col_codecs.proofs.StepsLemmas.{steps_stats, same_stats-stepped, same_stats-level}
 
@@ -99,15 +99,11 @@ item-within s bytes i h =
     let bound : slice_index xs i ≤ greatest_of xs = All-get_or (λ x. x ≤ greatest_of xs) xs i 0 (rw (length-bitpacked_items s bytes) h) (All-from_recursion (λ x. x ≤ greatest_of xs) xs (fold-max 0 xs).1) in
     omega (arith, bound, bitpacked_items-at s bytes i h)
 
-greatest-is : (xs : List ℕ) → (stats_of xs).greatest ≡ greatest_of xs
-unfolding stats_of
-greatest-is xs = refl
-
 -- a reader of items with these statistics
 pub IsReader-same : (s : Stats) (bytes : List ℕ) (w : ℕ) → w ≡ width (steps_of s) → s.greatest < 2 ^ 64 → same_stats (stats_of (bitpacked_items s bytes)) s ≡ true → IsReader s w bytes
 IsReader-same s bytes w e fits same =
     let exact = same_stats-equal (stats_of (bitpacked_items s bytes)) s same in
-    let top : greatest_of (bitpacked_items s bytes) ≡ s.greatest = sym (greatest-is (bitpacked_items s bytes)) ∙ ap (λ t. t.greatest) exact in
+    let top : greatest_of (bitpacked_items s bytes) ≡ s.greatest = sym (stats_of-greatest (bitpacked_items s bytes)) ∙ ap (λ t. t.greatest) exact in
     record {
       width_is = e;
       fits = λ i h. omega (arith, item-within s bytes i h, top, fits);
@@ -115,19 +111,6 @@ IsReader-same s bytes w e fits same =
     }
 
 -- ---- for a reader
-
--- a part of a list by place
-pub range-part : (f : ℕ → ℕ) (n start m : ℕ) → start + m ≤ n → map f (range_with_len start m) ≡ take m (drop start (map f (range_with_len 0 n)))
-range-part f n start m h =
-    let part = map f (range_with_len start m) in
-    let whole = map f (range_with_len 0 n) in
-    let long : length part ≡ m = length-map-range_with_len f start m in
-    let cut : length (take m (drop start whole)) ≡ m = omega (arith, length-take m (drop start whole), length-drop start whole, length-map-range_with_len f 0 n, h) in
-    same_lists part (take m (drop start whole)) (long ∙ sym cut)
-    (λ k d w.
-    let within : k < m = omega (arith, w, long) in
-    get_or-map-range_with_len f start m k (start + k) d within refl
-    ∙ sym (get_or-take m (drop start whole) k d within ∙ get_or-drop start whole k d ∙ get_or-map-range_with_len f 0 n (start + k) (start + k) d (omega (arith, within, h)) (omega arith)))
 
 -- the value of a step that was read
 pub reads-at : (s : Stats) (bytes read list : List ℕ) (w i step : ℕ) → bitpacked_items s bytes ≡ list → IsReader s w bytes → read ≡ bytes → step ≡ item read w i → i < length list → (s.least + s.divisor * step < 2 ^ 64) × (slice_get list i ≡ Some (s.least + s.divisor * step))

@@ -9,7 +9,7 @@ use lib.Count.{count_leading_zeros}
 use Rattle.col_bits.proofs.WidthLemmas.{binary_digits-is}
 use Rattle.col_model.specs.Stats.{Stats, stats_of, stats_bytes, greatest_of}
 use Rattle.col_model.specs.Training.{line_of}
-use Rattle.col_model.specs.U64List.{Slope}
+use Rattle.col_model.specs.U64List.{LinearParams}
 use Rattle.col_model.specs.Codecs.{block_size, block_estimate, block_line, cut_blocks, blocks_of, block_count, line_len, offsets_from, log2, blockwise_estimate, blockwise_body, blocks_bytes, steps_above}
 use Rattle.col_model.proofs.ReadingLaws.{drop-front}
 use Rattle.col_model.proofs.CutLaws.{block_at, cut_blocks-more, cut_blocks-append}
@@ -28,10 +28,10 @@ log2-zeros n positive fits =
 
 pub block_line-width : (b : List ℕ) → (block_line b).offset_width ≤ 64
 unfolding block_line
-block_line-width b = let l = line_of b in let bare : Slope = record { slope = l.0; intercept = l.1; offset_width = 0 } in width-bound (greatest_of (offsets_from bare b))
+block_line-width b = let l = line_of b in let bare : LinearParams = record { slope = l.0; intercept = l.1; offset_width = 0 } in width-bound (greatest_of (offsets_from bare b))
 
 -- an estimate by its parts
-pub block_estimate-parts : (b : List ℕ) (l : Slope) (n w d : ℕ) → l ≡ block_line b → n ≡ line_len l → w ≡ l.offset_width → d ≡ div_ceil (length b * w) 8 → 1 + n + d ≡ block_estimate b
+pub block_estimate-parts : (b : List ℕ) (l : LinearParams) (n w d : ℕ) → l ≡ block_line b → n ≡ line_len l → w ≡ l.offset_width → d ≡ div_ceil (length b * w) 8 → 1 + n + d ≡ block_estimate b
 block_estimate-parts b l n w d e p q r = rw (← e) (rw (p, r, q) refl)
 
 -- a block of 512 values takes at most nine bytes a value
@@ -69,10 +69,6 @@ estimated-bound (suc k) xs e =
     let rest : length (drop block_size xs) ≡ k * block_size = omega (arith, length-drop block_size xs) in
     let sums : estimated (suc k) xs ≡ block_estimate (take block_size xs) + estimated k (drop block_size xs) = sum_by-cons (λ (n : ℕ). n) (block_estimate (take block_size xs)) (map block_estimate (cut_blocks k (drop block_size xs))) in
     omega (arith, sums, block_estimate-bound (take block_size xs) first, estimated-bound k (drop block_size xs) rest, length-drop block_size xs)
-
--- all values are in whole blocks
-pub estimated-whole : (k : ℕ) (xs : List ℕ) → length xs ≡ k * block_size → estimated k xs ≡ sum (map block_estimate (blocks_of xs))
-estimated-whole k xs e = let n : k ≡ block_count (length xs) = omega arith in ap (λ m. estimated m xs) n
 
 -- the last block is shorter
 pub estimated-last : (k : ℕ) (xs ys : List ℕ) → length xs ≡ k * block_size → length ys ≤ block_size → 0 < length ys → estimated k xs + block_estimate ys ≡ sum (map block_estimate (blocks_of (xs ++ ys)))

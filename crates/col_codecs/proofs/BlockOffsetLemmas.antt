@@ -1,41 +1,33 @@
 -- A block's values become their offsets from a line, one by one.
-use Rattle.std.proofs.Common.{◌≡◌, ℕ, ◌+◌, ◌<◌, ◌≤◌, max, List, [], ◌∷◌, ◌++◌, length, take, drop, map, get_or, set, refl, sym, ◌∙◌, ap, arith, length-set}
+use Rattle.std.proofs.Common.{◌≡◌, ℕ, ◌+◌, ◌<◌, max, List, [], ◌∷◌, ◌++◌, length, take, drop, map, get_or, set, sym, ◌∙◌, ap, arith, length-set}
 use Rattle.std.specs.List.{enumerate_from}
-use Rattle.std.proofs.lemmas.List.{take_more, take_more_set, take_all, drop_more, drop-set-lt, length-take-le}
+use Rattle.std.proofs.lemmas.List.{take_more, take_more_set, drop_more, drop-set-lt, length-take-le}
+use Rattle.std.proofs.lemmas.List.Sums.{fold_push}
 use Rattle.col_bits.specs.Packed.{width}
 use Rattle.col_model.specs.Stats.{greatest_of}
 use Rattle.col_model.specs.Training.{line_of, less_wrapped}
 use Rattle.col_model.specs.Line.{line}
-use Rattle.col_model.specs.U64List.{Slope}
+use Rattle.col_model.specs.U64List.{LinearParams}
 use Rattle.col_model.specs.Codecs.{offset_from, offsets_from, block_line}
 use Rattle.col_codecs.specs.declared.line.Line.{Line}
-use Rattle.col_codecs.specs.Slope.{slope_of}
-use Rattle.col_codecs.proofs.StatsLemmas.{fold-max-push}
-use Rattle.col_codecs.proofs.OffsetLemmas.{by_position-append}
+use Rattle.col_codecs.specs.LinearParams.{bare_params}
+use Rattle.col_codecs.proofs.ListLemmas.{head-same, tail-same}
+use Rattle.col_codecs.proofs.TurningLemmas.{by_position-append}
 
-pub offsets-push : (l : Slope) (xs : List ℕ) (x i : ℕ) → i ≡ length xs → offsets_from l (xs ++ x ∷ []) ≡ offsets_from l xs ++ offset_from l (i, x) ∷ []
+pub offsets-push : (l : LinearParams) (xs : List ℕ) (x i : ℕ) → i ≡ length xs → offsets_from l (xs ++ x ∷ []) ≡ offsets_from l xs ++ offset_from l (i, x) ∷ []
 offsets-push l xs x i e =
     let place : 0 + length xs ≡ i = omega (arith, e) in
     by_position-append (offset_from l) 0 xs (x ∷ []) ∙ ap (λ n. offsets_from l xs ++ offset_from l (n, x) ∷ []) place
 
 -- the first i values are offsets by now, of which the greatest is known
-pub record AreOffsets (l : Slope) (before now : List ℕ) (i greatest : ℕ) : Type 0 where
+pub record AreOffsets (l : LinearParams) (before now : List ℕ) (i greatest : ℕ) : Type 0 where
   pub done : take i now ≡ offsets_from l (take i before)
   pub rest : drop i now ≡ drop i before
   pub long : length now ≡ length before
   pub top : greatest ≡ greatest_of (take i now)
 
-pub AreOffsets-none : (l : Slope) (before : List ℕ) → AreOffsets l before before 0 0
-AreOffsets-none l before = record { done = refl; rest = refl; long = refl; top = refl }
-
-head-same : (x y : ℕ) (xs ys : List ℕ) → x ∷ xs ≡ y ∷ ys → x ≡ y
-head-same x y xs ys e = cc
-
-tail-same : (x y : ℕ) (xs ys : List ℕ) → x ∷ xs ≡ y ∷ ys → xs ≡ ys
-tail-same x y xs ys e = cc
-
 -- one value more
-pub AreOffsets-push : (l : Slope) (before now : List ℕ) (i greatest offset : ℕ) → AreOffsets l before now i greatest → i < length now → offset ≡ offset_from l (i, get_or now i 0) → AreOffsets l before (set now i offset) (i + 1) (max greatest offset)
+pub AreOffsets-push : (l : LinearParams) (before now : List ℕ) (i greatest offset : ℕ) → AreOffsets l before now i greatest → i < length now → offset ≡ offset_from l (i, get_or now i 0) → AreOffsets l before (set now i offset) (i + 1) (max greatest offset)
 AreOffsets-push l before now i greatest offset h room e =
     let there : i < length before = omega (arith, h.long, room) in
     let parts : get_or now i 0 ∷ drop (i + 1) now ≡ get_or before i 0 ∷ drop (i + 1) before = sym (drop_more now i 0 room) ∙ h.rest ∙ drop_more before i 0 there in
@@ -52,25 +44,19 @@ AreOffsets-push l before now i greatest offset h room e =
           drop-set-lt (i + 1) now i offset (omega arith)
           ∙ tail-same (get_or now i 0) (get_or before i 0) (drop (i + 1) now) (drop (i + 1) before) parts;
       long = length-set now i offset ∙ h.long;
-      top = ap (λ g. max g offset) h.top ∙ sym (fold-max-push 0 (take i now) offset) ∙ ap greatest_of (sym put);
+      top = ap (λ g. max g offset) h.top ∙ sym (fold_push max 0 (take i now) offset) ∙ ap greatest_of (sym put);
     }
 
-pub AreOffsets-end : (l : Slope) (before now : List ℕ) (i greatest : ℕ) → AreOffsets l before now i greatest → length before ≤ i → (now ≡ offsets_from l before) × (greatest ≡ greatest_of now)
-AreOffsets-end l before now i greatest h e =
-    let all : take i now ≡ now = take_all i now (omega (arith, h.long)) in
-    let whole : take i before ≡ before = take_all i before e in
-    (sym all ∙ h.done ∙ ap (offsets_from l) whole, h.top ∙ ap greatest_of all)
-
 -- a trained line with the width of the greatest offset
-pub block_line-held : (l : Line) (vals now : List ℕ) (greatest w : ℕ) → ◌≡◌ {A = ℕ × ℕ} (l.slope, l.intercept) (line_of vals) → now ≡ offsets_from (slope_of l) vals → greatest ≡ greatest_of now → w ≡ width greatest → let held : Slope = record { slope = l.slope; intercept = l.intercept; offset_width = w } in held ≡ block_line vals
+pub block_line-held : (l : Line) (vals now : List ℕ) (greatest w : ℕ) → ◌≡◌ {A = ℕ × ℕ} (l.slope, l.intercept) (line_of vals) → now ≡ offsets_from (bare_params l) vals → greatest ≡ greatest_of now → w ≡ width greatest → let held : LinearParams = record { slope = l.slope; intercept = l.intercept; offset_width = w } in held ≡ block_line vals
 unfolding block_line
 block_line-held l vals now greatest w e o g p =
-    let bare : Slope = record { slope = (line_of vals).0; intercept = (line_of vals).1; offset_width = 0 } in
-    let same : slope_of l ≡ bare = λ i. record { slope = (e i).0; intercept = (e i).1; offset_width = 0 } in
+    let bare : LinearParams = record { slope = (line_of vals).0; intercept = (line_of vals).1; offset_width = 0 } in
+    let same : bare_params l ≡ bare = λ i. record { slope = (e i).0; intercept = (e i).1; offset_width = 0 } in
     let wide : w ≡ width (greatest_of (offsets_from bare vals)) = p ∙ ap width (g ∙ ap greatest_of (o ∙ ap (λ s. offsets_from s vals) same)) in
     λ i. record { slope = (e i).0; intercept = (e i).1; offset_width = wide i }
 
 -- the offsets don't depend on the width
-pub offsets-held : (l : Line) (vals : List ℕ) → ◌≡◌ {A = ℕ × ℕ} (l.slope, l.intercept) (line_of vals) → offsets_from (slope_of l) vals ≡ offsets_from (block_line vals) vals
+pub offsets-held : (l : Line) (vals : List ℕ) → ◌≡◌ {A = ℕ × ℕ} (l.slope, l.intercept) (line_of vals) → offsets_from (bare_params l) vals ≡ offsets_from (block_line vals) vals
 unfolding block_line
 offsets-held l vals e = λ i. map (λ (p : ℕ × ℕ). less_wrapped p.1 (line (e i).0 (e i).1 p.0)) (enumerate_from 0 vals)

@@ -8,7 +8,8 @@ use borrow.Rule.Slice.PartMut.{put_mid, same_len_mid}
 use Rattle.col_model.specs.Stats.{Stats}
 use Rattle.col_codecs.specs.declared.blockwise_linear.block.Block.{Block}
 use Rattle.col_codecs.specs.Blocks.{block_of, step_in, step_of, item_of, items_in}
-use Rattle.col_codecs.proofs.LinearReaderLemmas.{filled_from, range-part}
+use Rattle.col_codecs.proofs.LinearReaderLemmas.{filled_from}
+use Rattle.col_codecs.proofs.ListLemmas.{range-part}
 use Rattle.col_codecs.proofs.BlockStepsLemmas.{range-split}
 use Rattle.col_codecs.proofs.BlockReaderLemmas.{items_in-is}
 

@@ -10,7 +10,7 @@ use Rattle.col_common.specs.Decoding.{Refuses}
 use Rattle.col_common.specs.declared.error.ColumnarError.{ColumnarError}
 use Rattle.col_common.specs.declared.error.ColumnarError.TheVariants.{OutOfMemory, InvalidData}
 use Rattle.col_model.specs.Stats.{Stats, stats_of, same_stats}
-use Rattle.col_model.specs.U64List.{Slope, slope_at}
+use Rattle.col_model.specs.U64List.{LinearParams, params_at}
 use Rattle.col_model.specs.Items.{linear_item, are_blocks, no_line, blockwise_item, blockwise_items}
 use Rattle.col_model.specs.Codecs.{block_count}
 use Rattle.col_model.proofs.ReadingLaws.{take-front}
@@ -18,9 +18,9 @@ use Rattle.col_model.proofs.StatsLaws.{map-map}
 use Rattle.col_model.proofs.BlockItemLaws.{length-items, blockwise_values-some, blockwise_values-no_parts, blockwise_values-no_lines}
 use Rattle.col_codecs.specs.declared.blockwise_linear.block.Block.{Block}
 use Rattle.col_codecs.specs.Header.{list_by}
-use Rattle.col_codecs.specs.Blocks.{block_slope, block_of, no_block, step_in, step_of, steps_in, item_of, items_in, lines_of, ArePlaced, IsReader}
+use Rattle.col_codecs.specs.Blocks.{block_params, block_of, no_block, step_in, step_of, steps_in, item_of, items_in, lines_of, ArePlaced, IsReader}
 use Rattle.col_codecs.proofs.LinearReaderLemmas.{filled_from}
-use Rattle.col_codecs.proofs.BoundsLemmas.{same_stats-equal}
+use Rattle.col_model.proofs.OneFormLaws.{same_stats-equal}
 use Rattle.col_codecs.proofs.BlockStatsLemmas.{item_of-wrapped}
 use Rattle.col_codecs.proofs.BlockStepsLemmas.{block-found}
 
@@ -37,17 +37,17 @@ pub items_in-at : (s : Stats) (bs : List Block) (bytes : List ℕ) (i : ℕ) →
 items_in-at s bs bytes i h = ap (λ xs. get_or xs i 0) (items_in-is s bs bytes) ∙ get_or-map-range_with_len (λ j. item_of s (step_of bs bytes j)) 0 s.count i i 0 h (omega arith)
 
 -- an item of placed blocks
-item-placed : (s : Stats) (bs : List Block) (bytes : List ℕ) (i : ℕ) → ArePlaced s.count bs bytes → length bs ≡ block_count s.count → i < s.count → item_of s (step_of bs bytes i) ≡ blockwise_item s (map block_slope bs) bytes i
+item-placed : (s : Stats) (bs : List Block) (bytes : List ℕ) (i : ℕ) → ArePlaced s.count bs bytes → length bs ≡ block_count s.count → i < s.count → item_of s (step_of bs bytes i) ≡ blockwise_item s (map block_params bs) bytes i
 item-placed s bs bytes i placed count h =
     let k = i / 512 in
     let room : k < length bs = omega (arith, count) in
-    let slope : block_slope (block_of bs k) ≡ get_or (map block_slope bs) k no_line = sym (get_or-map block_slope bs k no_block no_line room) in
+    let slope : block_params (block_of bs k) ≡ get_or (map block_params bs) k no_line = sym (get_or-map block_params bs k no_block no_line room) in
     ap (λ l. item_of s (linear_item l (drop (block_of bs k).start bytes) (i % 512))) slope
-    ∙ ap (λ n. item_of s (linear_item (get_or (map block_slope bs) k no_line) (drop n bytes) (i % 512))) (placed.starts k room)
+    ∙ ap (λ n. item_of s (linear_item (get_or (map block_params bs) k no_line) (drop n bytes) (i % 512))) (placed.starts k room)
 
-pub items_in-placed : (s : Stats) (bs : List Block) (bytes : List ℕ) → ArePlaced s.count bs bytes → length bs ≡ block_count s.count → items_in s bs bytes ≡ blockwise_items s (map block_slope bs) bytes
+pub items_in-placed : (s : Stats) (bs : List Block) (bytes : List ℕ) → ArePlaced s.count bs bytes → length bs ≡ block_count s.count → items_in s bs bytes ≡ blockwise_items s (map block_params bs) bytes
 items_in-placed s bs bytes placed count =
-    let own = blockwise_item s (map block_slope bs) bytes in
+    let own = blockwise_item s (map block_params bs) bytes in
     filled_from own 0 s.count (items_in s bs bytes) (length-items_in s bs bytes)
     (λ k h. let place : 0 + k ≡ k = omega arith in items_in-at s bs bytes k h ∙ item-placed s bs bytes k placed count h ∙ ap own (sym place))
 
@@ -67,7 +67,7 @@ refuses-list OutOfMemory lines list f r = tt
 refuses-list InvalidData lines list f r = f r
 refuses-list _ lines list f r = absurd r
 
-list_by-lines : (s : Stats) (bytes body footer : List ℕ) (n : ℕ) (ls : List Slope) → n ≡ div_ceil s.count 512 → parts_by_second w64 bytes ≡ Some (body, footer) → lines_of n footer ≡ Some ls → list_by 2 s bytes ≡ only_if (are_blocks s.count ls body && same_stats (stats_of (blockwise_items s ls body)) s) (blockwise_items s ls body)
+list_by-lines : (s : Stats) (bytes body footer : List ℕ) (n : ℕ) (ls : List LinearParams) → n ≡ div_ceil s.count 512 → parts_by_second w64 bytes ≡ Some (body, footer) → lines_of n footer ≡ Some ls → list_by 2 s bytes ≡ only_if (are_blocks s.count ls body && same_stats (stats_of (blockwise_items s ls body)) s) (blockwise_items s ls body)
 unfolding list_by
 list_by-lines s bytes body footer n ls count e q = rw (blockwise_values-some s bytes body footer ls e (ap (λ m. lines_of m footer) (sym count) ∙ q)) (both (are_blocks s.count ls body) (blockwise_items s ls body))
   where
@@ -76,10 +76,10 @@ list_by-lines s bytes body footer n ls count e q = rw (blockwise_values-some s b
     both false xs = refl
 
 -- so many lines
-pub length-lines_of : (n : ℕ) (footer : List ℕ) (ls : List Slope) → lines_of n footer ≡ Some ls → length ls ≡ n
+pub length-lines_of : (n : ℕ) (footer : List ℕ) (ls : List LinearParams) → lines_of n footer ≡ Some ls → length ls ≡ n
 length-lines_of n footer ls e =
-    option_and_then_some nothing_left (items slope_at n footer) ls e (λ r f g.
-    ap length (sym (cond_some (length r.1 == 0) r.0 ls g).1) ∙ length-items slope_at n footer r.0 r.1 f)
+    option_and_then_some nothing_left (items params_at n footer) ls e (λ r f g.
+    ap length (sym (cond_some (length r.1 == 0) r.0 ls g).1) ∙ length-items params_at n footer r.0 r.1 f)
 
 -- ---- parts
 
@@ -103,25 +103,25 @@ parts-front bytes body footer e =
 
 -- ---- a list whose parts and lines are read
 
-module _ (s : Stats) (bytes body footer : List ℕ) (n : ℕ) (bs : List Block) (count : n ≡ div_ceil s.count 512) (parts : parts_by_second w64 bytes ≡ Some (body, footer)) (lines : lines_of n footer ≡ Some (map block_slope bs)) where
-  own_lines : list_by 2 s bytes ≡ only_if (are_blocks s.count (map block_slope bs) body && same_stats (stats_of (blockwise_items s (map block_slope bs) body)) s) (blockwise_items s (map block_slope bs) body)
-  own_lines = list_by-lines s bytes body footer n (map block_slope bs) count parts lines
+module _ (s : Stats) (bytes body footer : List ℕ) (n : ℕ) (bs : List Block) (count : n ≡ div_ceil s.count 512) (parts : parts_by_second w64 bytes ≡ Some (body, footer)) (lines : lines_of n footer ≡ Some (map block_params bs)) where
+  own_lines : list_by 2 s bytes ≡ only_if (are_blocks s.count (map block_params bs) body && same_stats (stats_of (blockwise_items s (map block_params bs) body)) s) (blockwise_items s (map block_params bs) body)
+  own_lines = list_by-lines s bytes body footer n (map block_params bs) count parts lines
 
   -- its blocks are other ones
-  pub list_by-other_blocks : (lent : List Block) (test : Bool) → lent ≡ bs → test ≡ are_blocks s.count (map block_slope lent) body → test ≡ false → list_by 2 s bytes ≡ None
+  pub list_by-other_blocks : (lent : List Block) (test : Bool) → lent ≡ bs → test ≡ are_blocks s.count (map block_params lent) body → test ≡ false → list_by 2 s bytes ≡ None
   list_by-other_blocks lent test e is t =
-      own_lines ∙ ap (λ b. only_if (b && same_stats (stats_of (blockwise_items s (map block_slope bs) body)) s) (blockwise_items s (map block_slope bs) body)) (ap (λ ks. are_blocks s.count (map block_slope ks) body) (sym e) ∙ sym is ∙ t)
+      own_lines ∙ ap (λ b. only_if (b && same_stats (stats_of (blockwise_items s (map block_params bs) body)) s) (blockwise_items s (map block_params bs) body)) (ap (λ ks. are_blocks s.count (map block_params ks) body) (sym e) ∙ sym is ∙ t)
 
   -- Its blocks are placed, and held again where they were lent.
-  module _ (lent new held : List Block) (v : ℕ) (test : Bool) (e : lent ≡ bs) (slopes : map block_slope new ≡ map block_slope lent) (long : length new ≡ length lent) (all : v ≡ length bs) (refilled : held ≡ take v (new ++ drop (length new) bs)) (is : test ≡ are_blocks s.count (map block_slope lent) body) (t : test ≡ true) where
+  module _ (lent new held : List Block) (v : ℕ) (test : Bool) (e : lent ≡ bs) (slopes : map block_params new ≡ map block_params lent) (long : length new ≡ length lent) (all : v ≡ length bs) (refilled : held ≡ take v (new ++ drop (length new) bs)) (is : test ≡ are_blocks s.count (map block_params lent) body) (t : test ≡ true) where
     held-new : held ≡ new
     held-new = refilled ∙ ap (λ m. take m (new ++ drop (length new) bs)) (all ∙ ap length (sym e) ∙ sym long) ∙ take-front new (drop (length new) bs)
 
     pub held-count : length held ≡ block_count s.count
-    held-count = ap length held-new ∙ long ∙ ap length e ∙ sym (length-map bs block_slope) ∙ length-lines_of n footer (map block_slope bs) lines ∙ count
+    held-count = ap length held-new ∙ long ∙ ap length e ∙ sym (length-map bs block_params) ∙ length-lines_of n footer (map block_params bs) lines ∙ count
 
-    held-slopes : map block_slope held ≡ map block_slope bs
-    held-slopes = ap (map block_slope) held-new ∙ slopes ∙ ap (map block_slope) e
+    held-slopes : map block_params held ≡ map block_params bs
+    held-slopes = ap (map block_params) held-new ∙ slopes ∙ ap (map block_params) e
 
     front : take (length body) bytes ≡ body
     front = parts-front bytes body footer parts
@@ -129,9 +129,9 @@ module _ (s : Stats) (bytes body footer : List ℕ) (n : ℕ) (bs : List Block) 
     pub held-list : (b same : Bool) → ArePlaced s.count new body → same ≡ same_stats (stats_of (items_in s held body)) s → same ≡ b → list_by 2 s bytes ≡ only_if b (items_in s held (take (length body) bytes))
     held-list b same are by u =
         let placed : ArePlaced s.count held body = subst (λ ks. ArePlaced s.count ks body) (sym held-new) are in
-        let own : items_in s held body ≡ blockwise_items s (map block_slope bs) body = items_in-placed s held body placed held-count ∙ ap (λ ls. blockwise_items s ls body) held-slopes in
+        let own : items_in s held body ≡ blockwise_items s (map block_params bs) body = items_in-placed s held body placed held-count ∙ ap (λ ls. blockwise_items s ls body) held-slopes in
         own_lines
-        ∙ ap (λ c. only_if (c && same_stats (stats_of (blockwise_items s (map block_slope bs) body)) s) (blockwise_items s (map block_slope bs) body)) (ap (λ ks. are_blocks s.count (map block_slope ks) body) (sym e) ∙ sym is ∙ t)
+        ∙ ap (λ c. only_if (c && same_stats (stats_of (blockwise_items s (map block_params bs) body)) s) (blockwise_items s (map block_params bs) body)) (ap (λ ks. are_blocks s.count (map block_params ks) body) (sym e) ∙ sym is ∙ t)
         ∙ ap (λ xs. only_if (same_stats (stats_of xs) s) xs) (sym own)
         ∙ ap (λ c. only_if c (items_in s held body)) (sym by ∙ u)
         ∙ ap (λ read. only_if b (items_in s held read)) (sym front)

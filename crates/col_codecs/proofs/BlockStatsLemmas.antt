@@ -15,8 +15,8 @@ use Rattle.col_model.proofs.U64ListLaws.{Describes, stats_of-describes}
 use Rattle.col_model.proofs.ItemLaws.{length-linear_items, linear_items-at, linear_items-push}
 use Rattle.col_codecs.specs.declared.blockwise_linear.block.Block.{Block}
 use Rattle.col_codecs.specs.ColumnStats.{IsPossible}
-use Rattle.col_codecs.specs.Blocks.{block_slope, step_in, steps_in_block, item_of, is_whole, own_step}
-use Rattle.col_codecs.proofs.BoundsLemmas.{same_stats-equal}
+use Rattle.col_codecs.specs.Blocks.{block_params, step_in, steps_in_block, item_of, is_whole, own_step}
+use Rattle.col_model.proofs.OneFormLaws.{same_stats-equal}
 use Rattle.col_codecs.proofs.StepsLemmas.{steps_stats, same_stats-stepped}
 
 and-false : (b : Bool) → (b && false) ≡ false
@@ -151,7 +151,7 @@ only_if-none false x e = refl
 module _ (s : Stats) (b : Block) (bytes : List ℕ) where
   pub block-whole : (n step : ℕ) → list_all (is_whole s) (steps_in_block b bytes n) ≡ true → step ≡ step_in b bytes n → is_whole s step ≡ true → list_all (is_whole s) (steps_in_block b bytes (n + 1)) ≡ true
   block-whole n step e is h =
-      ap (list_all (is_whole s)) (linear_items-push (block_slope b) (drop b.start bytes) n)
+      ap (list_all (is_whole s)) (linear_items-push (block_params b) (drop b.start bytes) n)
       ∙ list_all-push s (steps_in_block b bytes n) (step_in b bytes n) e (ap (is_whole s) (sym is) ∙ h)
 
   pub block-collected : (xs : List ℕ) (n step own : ℕ) → step ≡ step_in b bytes n → own ≡ own_step s step → (xs ++ map (own_step s) (steps_in_block b bytes n)) ++ own ∷ [] ≡ xs ++ map (own_step s) (steps_in_block b bytes (n + 1))
@@ -160,15 +160,15 @@ module _ (s : Stats) (b : Block) (bytes : List ℕ) where
       append_assoc xs (map (own_step s) ks) (own ∷ [])
       ∙ ap (λ k. xs ++ (map (own_step s) ks ++ k ∷ [])) (e ∙ ap (own_step s) is)
       ∙ ap (λ r. xs ++ r) (sym (map-append (own_step s) ks (step_in b bytes n ∷ [])))
-      ∙ ap (λ r. xs ++ map (own_step s) r) (sym (linear_items-push (block_slope b) (drop b.start bytes) n))
+      ∙ ap (λ r. xs ++ map (own_step s) r) (sym (linear_items-push (block_params b) (drop b.start bytes) n))
 
   pub block-other : (n m step : ℕ) → n < m → step ≡ step_in b bytes n → is_whole s step ≡ false → list_all (is_whole s) (steps_in_block b bytes m) ≡ false
   block-other n m step h is e =
       let ks = steps_in_block b bytes m in
-      list_all_at (is_whole s) ks n 0 (rw (length-linear_items (block_slope b) (drop b.start bytes) m) h)
-      (ap (is_whole s) (linear_items-at (block_slope b) (drop b.start bytes) m n h ∙ sym is) ∙ e)
+      list_all_at (is_whole s) ks n 0 (rw (length-linear_items (block_params b) (drop b.start bytes) m) h)
+      (ap (is_whole s) (linear_items-at (block_params b) (drop b.start bytes) m n h ∙ sym is) ∙ e)
 
   pub block-count : (xs : List ℕ) (n : ℕ) → length (xs ++ map (own_step s) (steps_in_block b bytes n)) ≡ length xs + n
   block-count xs n =
       let ks = steps_in_block b bytes n in
-      omega (arith, length-append xs (map (own_step s) ks), length-map ks (own_step s), length-linear_items (block_slope b) (drop b.start bytes) n)
+      omega (arith, length-append xs (map (own_step s) ks), length-map ks (own_step s), length-linear_items (block_params b) (drop b.start bytes) n)

@@ -9,7 +9,7 @@ use Rattle.col_model.specs.Stats.{Stats}
 use Rattle.col_model.specs.Codecs.{block_count}
 use Rattle.col_model.proofs.ItemLaws.{length-linear_items, linear_items-at}
 use Rattle.col_codecs.specs.declared.blockwise_linear.block.Block.{Block}
-use Rattle.col_codecs.specs.Blocks.{block_slope, block_of, no_block, step_of, steps_in, steps_in_block, is_whole, own_step}
+use Rattle.col_codecs.specs.Blocks.{block_params, block_of, no_block, step_of, steps_in, steps_in_block, is_whole, own_step}
 use Rattle.col_codecs.proofs.LinearReaderLemmas.{filled_from}
 
 pub length-steps_in : (bs : List Block) (bytes : List ℕ) (n : ℕ) → length (steps_in bs bytes n) ≡ n
@@ -29,11 +29,11 @@ range-split f a n m =
 steps-of-block : (bs : List Block) (bytes : List ℕ) (k n len : ℕ) → n ≡ 512 * k → len ≤ 512 → map (step_of bs bytes) (range_with_len n len) ≡ steps_in_block (block_of bs k) bytes len
 steps-of-block bs bytes k n len e h =
     let b = block_of bs k in
-    sym (filled_from (step_of bs bytes) n len (steps_in_block b bytes len) (length-linear_items (block_slope b) (drop b.start bytes) len)
+    sym (filled_from (step_of bs bytes) n len (steps_in_block b bytes len) (length-linear_items (block_params b) (drop b.start bytes) len)
     (λ j p.
     let at : (n + j) / 512 ≡ k = omega (arith, e) in
     let place : (n + j) % 512 ≡ j = omega (arith, e) in
-    linear_items-at (block_slope b) (drop b.start bytes) len j p ∙ rw (at, place) refl))
+    linear_items-at (block_params b) (drop b.start bytes) len j p ∙ rw (at, place) refl))
 
 pub steps_in-block : (bs : List Block) (bytes : List ℕ) (k n len : ℕ) → n ≡ 512 * k → len ≤ 512 → steps_in bs bytes (n + len) ≡ steps_in bs bytes n ++ steps_in_block (block_of bs k) bytes len
 unfolding steps_in

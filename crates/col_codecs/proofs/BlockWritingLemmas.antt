@@ -1,29 +1,19 @@
 -- Blocks that are written one after another.
-use Rattle.std.proofs.Common.{◌≡◌, ℕ, zero, suc, ◌+◌, ◌-◌, ◌*◌, ◌/◌, ◌^◌, ◌<◌, ◌≤◌, ◌⊎◌, min, List, [], ◌∷◌, ◌++◌, length, take, drop, map, flat_map, Some, Ok, Err, refl, sym, ◌∙◌, ap, arith, inl, inr, append-nil}
+use Rattle.std.proofs.Common.{◌≡◌, ℕ, ◌+◌, ◌-◌, ◌*◌, ◌/◌, ◌^◌, ◌<◌, ◌≤◌, min, List, [], ◌∷◌, ◌++◌, length, take, drop, map, flat_map, refl, sym, ◌∙◌, ap, arith, inl, inr, append-nil}
 use Rattle.std.specs.Int.{w64, to_le_bytes, div_ceil}
 use Rattle.std.specs.List.{AllByRecursion}
 use Rattle.std.proofs.lemmas.List.{take_all, drop_all, drop-drop, take-map, drop-map, map-append, length-drop, length-map, length-take-le}
 use Rattle.std.proofs.lemmas.Grind.{flat_map-append}
 use Rattle.std.proofs.lemmas.Bool.{cases_lt}
 use Rattle.col_model.specs.Stats.{Stats, least_of, stats_of}
-use Rattle.col_bits.specs.Packed.{packed_bytes}
-use Rattle.col_model.specs.U64List.{Slope, joined_lists}
-use Rattle.col_model.specs.Codecs.{block_size, cut_blocks, packed_block, lines_bytes, blocks_bytes, slope_bytes, offsets_from, block_line, block_count, steps_above}
+use Rattle.col_model.proofs.ListLaws.{all_taken, all_dropped}
+use Rattle.col_model.specs.U64List.{LinearParams, joined_lists}
+use Rattle.col_model.specs.Codecs.{block_size, cut_blocks, packed_block, lines_bytes, blocks_bytes, params_bytes, offsets_from, block_line, block_count, steps_above}
 use Rattle.col_model.proofs.CutLaws.{joined_lists-push, block_at, cut_blocks-more}
-use Rattle.col_model.proofs.StatsLaws.{least_of-all}
+use Rattle.col_model.proofs.StatsLaws.{least_of-all, all_by}
 use Rattle.col_model.proofs.CodecLaws.{block_offsets-fit}
 use Rattle.col_codecs.specs.Blocks.{IsBlock}
 use Rattle.col_codecs.proofs.BlockEstimateLemmas.{block_line-width, count-is}
-
-all_taken : (P : ℕ → Type 0) (n : ℕ) (xs : List ℕ) → AllByRecursion P xs → AllByRecursion P (take n xs)
-all_taken P zero xs all = tt
-all_taken P (suc n) [] all = tt
-all_taken P (suc n) (x ∷ xs) all = (all.0, all_taken P n xs all.1)
-
-all_dropped : (P : ℕ → Type 0) (n : ℕ) (xs : List ℕ) → AllByRecursion P xs → AllByRecursion P (drop n xs)
-all_dropped P zero xs all = all
-all_dropped P (suc n) [] all = tt
-all_dropped P (suc n) (x ∷ xs) all = all_dropped P n xs all.1
 
 -- the packed blocks so far, and their lines
 abbrev pub packed_so_far : List ℕ → ℕ → List ℕ
@@ -38,9 +28,9 @@ packed_so_far-more ks k =
     ∙ ap joined_lists (map-append packed_block (cut_blocks k ks) (block_at k ks ∷ []))
     ∙ joined_lists-push (map packed_block (cut_blocks k ks)) (packed_block (block_at k ks))
 
-pub lines_so_far-more : (ks : List ℕ) (k : ℕ) → lines_so_far ks (k + 1) ≡ lines_so_far ks k ++ slope_bytes (block_line (block_at k ks))
+pub lines_so_far-more : (ks : List ℕ) (k : ℕ) → lines_so_far ks (k + 1) ≡ lines_so_far ks k ++ params_bytes (block_line (block_at k ks))
 lines_so_far-more ks k =
-    let spelled : List ℕ → List ℕ = λ b. slope_bytes (block_line b) in
+    let spelled : List ℕ → List ℕ = λ b. params_bytes (block_line b) in
     ap (flat_map spelled) (cut_blocks-more k ks)
     ∙ flat_map-append spelled (cut_blocks k ks) (block_at k ks ∷ [])
     ∙ ap (λ r. lines_so_far ks k ++ r) (append-nil (spelled (block_at k ks)))
@@ -61,20 +51,15 @@ steps_above-block s xs part k n e p =
     ]
 
 -- a block of steps with its line and its offsets
-pub record IsTrained (steps offsets : List ℕ) (l : Slope) : Type 0 where
+pub record IsTrained (steps offsets : List ℕ) (l : LinearParams) : Type 0 where
   pub slope : l ≡ block_line steps
   pub offsets_are : offsets ≡ offsets_from (block_line steps) steps
 
-pub trained-width : (steps offsets : List ℕ) (l : Slope) → IsTrained steps offsets l → l.offset_width ≤ 64
+pub trained-width : (steps offsets : List ℕ) (l : LinearParams) → IsTrained steps offsets l → l.offset_width ≤ 64
 trained-width steps offsets l h = rw h.slope (block_line-width steps)
 
-pub trained-small : (steps offsets : List ℕ) (l : Slope) → IsTrained steps offsets l → AllByRecursion (λ v. v < 2 ^ l.offset_width) offsets
+pub trained-small : (steps offsets : List ℕ) (l : LinearParams) → IsTrained steps offsets l → AllByRecursion (λ v. v < 2 ^ l.offset_width) offsets
 trained-small steps offsets l h = rw (h.slope, h.offsets_are) (block_offsets-fit steps)
-
-pub trained-packed : (steps offsets : List ℕ) (l : Slope) → IsTrained steps offsets l → packed_bytes l.offset_width offsets ≡ packed_block steps
-trained-packed steps offsets l h =
-    ap (λ (m : Slope). packed_bytes m.offset_width offsets) h.slope
-    ∙ ap (λ os. packed_bytes (block_line steps).offset_width os) h.offsets_are
 
 -- ---- the values
 
@@ -94,8 +79,7 @@ IsBlock-taken s xs part blocks k n e b h m p =
     record {
       some = omega (arith, count-is s xs e, b, h, m, long, length-drop (512 * k) xs);
       small = omega (arith, m, long);
-      above = rw (p, least-is s xs e) (all_taken (λ x. least_of xs ≤ x) n rest (all_dropped (λ x. least_of xs ≤ x) (512 * k) xs (least_of-all xs)));
-      positive = divisor-above s xs e;
+      above = all_by (λ x h. (h, divisor-above s xs e)) part (rw (p, least-is s xs e) (all_taken (λ x. least_of xs ≤ x) n rest (all_dropped (λ x. least_of xs ≤ x) (512 * k) xs (least_of-all xs))));
     }
 
 -- what is left behind them

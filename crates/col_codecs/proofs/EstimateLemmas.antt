@@ -6,8 +6,8 @@ use Rattle.std.proofs.Math.Nat.{mul-le-mul_left}
 use Rattle.col_common.specs.VInt.{vint_bytes}
 use Rattle.col_bits.specs.Packed.{is_width}
 use Rattle.col_model.specs.Stats.{Stats, stats_of, steps_of, stats_bytes}
-use Rattle.col_model.specs.U64List.{Slope as LineAndWidth}
-use Rattle.col_model.specs.Codecs.{block_size, line_len, packed_len, slope_bytes, offsets_from, packed_offsets, linear_line, linear_estimate, linear_body}
+use Rattle.col_model.specs.U64List.{LinearParams as LineAndWidth}
+use Rattle.col_model.specs.Codecs.{block_size, line_len, packed_len, params_bytes, offsets_from, packed_offsets, linear_line, linear_estimate, linear_body}
 use Rattle.col_model.proofs.CodecLaws.{linear_line-writable, linear_offsets-fit}
 use Rattle.col_codecs.proofs.LineLemmas.{vint_bytes-bound}
 
@@ -53,6 +53,6 @@ linear_estimate-enough xs h e = let some = linear_estimate-parts xs (stats_of xs
 
 -- ---- the bytes
 
-pub linear_body-parts : (xs : List ℕ) (s : Stats) (l : LineAndWidth) → s ≡ stats_of xs → l ≡ linear_line xs → stats_bytes s ++ (slope_bytes l ++ packed_offsets l xs) ≡ linear_body xs
+pub linear_body-parts : (xs : List ℕ) (s : Stats) (l : LineAndWidth) → s ≡ stats_of xs → l ≡ linear_line xs → stats_bytes s ++ (params_bytes l ++ packed_offsets l xs) ≡ linear_body xs
 unfolding linear_body
-linear_body-parts xs s l p q = ap (λ (t : Stats). stats_bytes t ++ (slope_bytes l ++ packed_offsets l xs)) p ∙ ap (λ k. stats_bytes (stats_of xs) ++ (slope_bytes k ++ packed_offsets k xs)) q
+linear_body-parts xs s l p q = ap (λ (t : Stats). stats_bytes t ++ (params_bytes l ++ packed_offsets l xs)) p ∙ ap (λ k. stats_bytes (stats_of xs) ++ (params_bytes k ++ packed_offsets k xs)) q

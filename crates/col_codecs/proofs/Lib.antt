@@ -14,12 +14,12 @@ pub mod BoundsLemmas
 pub mod EstimateLemmas
 pub mod HeaderLemmas
 pub mod LineLemmas
+pub mod ListLemmas
 pub mod LinearLemmas
 pub mod LinearReaderLemmas
-pub mod OffsetLemmas
 pub mod PackingLemmas
 pub mod PossibleLemmas
-pub mod SpareLemmas
 pub mod StatsLemmas
 pub mod StepsLemmas
+pub mod TurningLemmas
 pub mod WidthLemmas

@@ -1,31 +1,24 @@
 -- Lists under Linear: deviations of a list that grows, and what an estimator holds of it.
-use Rattle.std.proofs.Common.{◌≡◌, ℕ, suc, ◌+◌, ◌-◌, ◌%◌, ◌^◌, ◌<◌, ◌≤◌, min, max, List, [], ◌∷◌, ◌++◌, map, fold, length, take, set, refl, sym, ap, ◌∙◌, subst, arith}
+use Rattle.std.proofs.Common.{◌≡◌, ℕ, suc, ◌+◌, ◌-◌, ◌%◌, ◌^◌, ◌<◌, ◌≤◌, min, max, List, [], ◌∷◌, ◌++◌, map, length, take, set, refl, sym, ap, ◌∙◌, subst, arith}
 use Rattle.std.specs.List.{enumerate_from}
 use Rattle.std.proofs.lemmas.List.{take_all, take_more_set, length-set, length_push, take-append-le}
+use Rattle.std.proofs.lemmas.List.Sums.{fold_push}
 use Rattle.col_model.specs.Stats.{least_of, greatest_of}
 use Rattle.col_model.specs.Training.{line_of, less_wrapped}
-use Rattle.col_model.specs.U64List.{Slope as LineAndWidth}
+use Rattle.col_model.specs.U64List.{LinearParams as LineAndWidth}
 use Rattle.col_model.specs.Codecs.{block_size, half_space, deviation, deviations, linear_line}
 use Rattle.col_bits.specs.Packed.{width}
 use Rattle.col_model.proofs.StatsLaws.{least_of-all, fold-max}
-use Rattle.col_codecs.proofs.OffsetLemmas.{by_position-append}
+use Rattle.col_codecs.proofs.TurningLemmas.{by_position-append}
 use Rattle.col_codecs.specs.Line.{line_seen}
 use Rattle.col_codecs.specs.Linear.{first_line, IsTrained, IsCollected, IsFinalized}
 use Rattle.col_codecs.specs.declared.linear.estimator.LinearCodecEstimator.{LinearCodecEstimator}
 
 -- ---- lists that grow
 
-fold-min-push : (a : ℕ) (xs : List ℕ) (x : ℕ) → fold min a (xs ++ x ∷ []) ≡ min (fold min a xs) x
-fold-min-push a [] x = refl
-fold-min-push a (y ∷ xs) x = fold-min-push (min a y) xs x
-
-fold-max-push : (a : ℕ) (xs : List ℕ) (x : ℕ) → fold max a (xs ++ x ∷ []) ≡ max (fold max a xs) x
-fold-max-push a [] x = refl
-fold-max-push a (y ∷ xs) x = fold-max-push (max a y) xs x
-
 least_of-push : (xs : List ℕ) (x : ℕ) → 0 < length xs → least_of (xs ++ x ∷ []) ≡ min (least_of xs) x
 least_of-push [] x p = absurd (omega arith)
-least_of-push (y ∷ xs) x p = fold-min-push y xs x
+least_of-push (y ∷ xs) x p = fold_push min y xs x
 
 deviations-push : (l : ℕ × ℕ) (xs : List ℕ) (x : ℕ) → deviations l (xs ++ x ∷ []) ≡ deviations l xs ++ deviation l (length xs, x) ∷ []
 deviations-push l xs x =
@@ -46,7 +39,7 @@ first_line-push : (xs : List ℕ) (x : ℕ) → block_size ≤ length xs → fir
 first_line-push xs x h = ap line_of (take-append-le block_size xs (x ∷ []) h)
 
 -- one deviation more
-trained-more : (e f : LinearCodecEstimator) (xs : List ℕ) (x d : ℕ) → block_size ≤ length xs → IsTrained e xs → d ≡ deviation (line_seen e.slope.line) (length xs, x) → f.slope ≡ e.slope → f.min_deviation ≡ min e.min_deviation d → f.max_deviation ≡ max e.max_deviation d → IsTrained f (xs ++ x ∷ [])
+trained-more : (e f : LinearCodecEstimator) (xs : List ℕ) (x d : ℕ) → block_size ≤ length xs → IsTrained e xs → d ≡ deviation (line_seen e.linear_params.line) (length xs, x) → f.linear_params ≡ e.linear_params → f.min_deviation ≡ min e.min_deviation d → f.max_deviation ≡ max e.max_deviation d → IsTrained f (xs ++ x ∷ [])
 trained-more e f xs x d enough t is s low high =
     let l = first_line xs in
     let ds = deviations l xs in
@@ -57,14 +50,14 @@ trained-more e f xs x d enough t is s low high =
     record {
       line = ap (λ k. line_seen k.line) s ∙ t.line ∙ sym same;
       lowest = low ∙ ap (λ m. min m d) t.lowest ∙ sym (ap least_of grown ∙ least_of-push ds d some);
-      highest = high ∙ ap (λ m. max m d) t.highest ∙ sym (ap greatest_of grown ∙ fold-max-push 0 ds d);
+      highest = high ∙ ap (λ m. max m d) t.highest ∙ sym (ap greatest_of grown ∙ fold_push max 0 ds d);
     }
 
 -- a value behind the first ones
-pub collected-deviates : (e f : LinearCodecEstimator) (xs : List ℕ) (x d : ℕ) → IsCollected e xs → block_size ≤ e.row_id → d ≡ deviation (line_seen e.slope.line) (e.row_id, x) → f.block ≡ e.block → f.row_id ≡ e.row_id + 1 → f.slope ≡ e.slope → f.min_deviation ≡ min e.min_deviation d → f.max_deviation ≡ max e.max_deviation d → IsCollected f (xs ++ x ∷ [])
+pub collected-deviates : (e f : LinearCodecEstimator) (xs : List ℕ) (x d : ℕ) → IsCollected e xs → block_size ≤ e.row_id → d ≡ deviation (line_seen e.linear_params.line) (e.row_id, x) → f.block ≡ e.block → f.row_id ≡ e.row_id + 1 → f.linear_params ≡ e.linear_params → f.min_deviation ≡ min e.min_deviation d → f.max_deviation ≡ max e.max_deviation d → IsCollected f (xs ++ x ∷ [])
 collected-deviates e f xs x d h enough is b n s low high =
     let many : block_size ≤ length xs = omega (arith, enough, h.count) in
-    let here : d ≡ deviation (line_seen e.slope.line) (length xs, x) = is ∙ ap (λ k. deviation (line_seen e.slope.line) (k, x)) h.count in
+    let here : d ≡ deviation (line_seen e.linear_params.line) (length xs, x) = is ∙ ap (λ k. deviation (line_seen e.linear_params.line) (k, x)) h.count in
     let room : length e.block.items ≡ block_size = h.room in
     let whole : take (e.row_id + 1) e.block.items ≡ take e.row_id e.block.items = take_all (e.row_id + 1) e.block.items (omega (arith, room, enough)) ∙ sym (take_all e.row_id e.block.items (omega (arith, room, enough))) in
     record {
@@ -127,16 +120,16 @@ pub finalized-few : (e : LinearCodecEstimator) (xs : List ℕ) → IsCollected e
 finalized-few e xs h few = record { count = h.count; final = λ more. absurd (omega (arith, h.count, few, more)) }
 
 -- the raised line is the final one
-pub finalized-raised : (e f : LinearCodecEstimator) (xs : List ℕ) → IsCollected e xs → block_size ≤ e.row_id → f.row_id ≡ e.row_id → f.slope.line.slope ≡ e.slope.line.slope → f.slope.line.intercept ≡ ((e.slope.line.intercept + e.min_deviation) % 2 ^ 64 + (2 ^ 64 - half_space)) % 2 ^ 64 → f.slope.offset_width ≡ width (e.max_deviation - e.min_deviation) → IsFinalized f xs
+pub finalized-raised : (e f : LinearCodecEstimator) (xs : List ℕ) → IsCollected e xs → block_size ≤ e.row_id → f.row_id ≡ e.row_id → f.linear_params.line.slope ≡ e.linear_params.line.slope → f.linear_params.line.intercept ≡ ((e.linear_params.line.intercept + e.min_deviation) % 2 ^ 64 + (2 ^ 64 - half_space)) % 2 ^ 64 → f.linear_params.offset_width ≡ width (e.max_deviation - e.min_deviation) → IsFinalized f xs
 unfolding linear_line
 finalized-raised e f xs h enough n s i w =
     let t = h.trained (omega (arith, h.count, enough)) in
     let l = first_line xs in
     let low = least_of (deviations l xs) in
-    let once : f.slope.line.intercept ≡ less_wrapped (e.slope.line.intercept + e.min_deviation) half_space = omega (arith, i) in
+    let once : f.linear_params.line.intercept ≡ less_wrapped (e.linear_params.line.intercept + e.min_deviation) half_space = omega (arith, i) in
     record {
       count = n ∙ h.count;
-      final = λ more. same_slope f.slope.line.slope l.0 f.slope.line.intercept (less_wrapped (l.1 + low) half_space) f.slope.offset_width (width (greatest_of (deviations l xs) - low))
+      final = λ more. same_slope f.linear_params.line.slope l.0 f.linear_params.line.intercept (less_wrapped (l.1 + low) half_space) f.linear_params.offset_width (width (greatest_of (deviations l xs) - low))
           (s ∙ ap (λ k. k.0) t.line)
           (once ∙ ap (λ k. less_wrapped (k.1 + e.min_deviation) half_space) t.line ∙ ap (λ m. less_wrapped (l.1 + m) half_space) t.lowest)
           (w ∙ ap (λ m. width (m - e.min_deviation)) t.highest ∙ ap (λ m. width (greatest_of (deviations l xs) - m)) t.lowest);

@@ -1,26 +1,28 @@
 -- Lists under Linear that are read in place.
-use Rattle.std.proofs.Common.{◌≡◌, ℕ, suc, ◌+◌, ◌-◌, ◌*◌, ◌<◌, ◌≤◌, ◌&&◌, Bool, true, false, List, [], ◌∷◌, ◌++◌, map, length, take, drop, get_or, slice_get, Option, Some, None, refl, sym, ap, ◌∙◌, subst, arith, append_assoc, length-append, length-take, length-drop}
+use Rattle.std.proofs.Common.{◌≡◌, ℕ, ◌+◌, ◌-◌, ◌*◌, ◌<◌, ◌≤◌, ◌&&◌, Bool, true, false, List, [], ◌∷◌, ◌++◌, map, length, take, drop, get_or, slice_get, Option, Some, None, refl, sym, ap, ◌∙◌, subst, arith, append_assoc, length-append}
 use Rattle.std.specs.List.{range_with_len}
-use Rattle.std.proofs.lemmas.List.{same_lists, get_or-take, get_or-drop, get_or_default}
+use Rattle.std.proofs.lemmas.List.{same_lists, get_or_default}
 use Rattle.std.proofs.lemmas.List.FromFn.{length-map-range_with_len, get_or-map-range_with_len}
 use Rattle.std.proofs.lemmas.Option.{option_and_then_some, cond_some, same_Some, slice_get-get_or}
 use Rattle.col_common.specs.Reading.{◌>>=◌, only_if, IsBytes, byte_at}
 use Rattle.col_common.specs.VInt.{vint, vint_bytes}
 use Rattle.col_common.proofs.VIntLemmas.{vint_bytes-vint}
-use Rattle.col_bits.specs.Packed.{is_width}
+use Rattle.col_bits.specs.Packed.{is_width, is_packed}
 use Rattle.col_model.specs.Stats.{Stats, stats_of, same_stats}
 use Rattle.col_model.specs.Line.{line_at}
-use Rattle.col_model.specs.U64List.{Slope as LineAndWidth, width_at, slope_at}
-use Rattle.col_model.specs.Items.{is_packed, linear_item, linear_items}
+use Rattle.col_model.specs.U64List.{LinearParams as LineAndWidth, width_at, params_at}
+use Rattle.col_model.specs.Items.{linear_item, linear_items}
 use Rattle.col_model.proofs.ReadingLaws.{drop-front}
+use Rattle.col_model.proofs.OneFormLaws.{IsBytes-behind}
 use Rattle.col_model.proofs.ItemLaws.{linear_values-some, linear_values-none, length-linear_items, linear_items-at, linear_items-push}
 use Rattle.col_codecs.specs.ColumnStats.{Collected, collected_of}
 use Rattle.col_codecs.specs.Header.{list_by}
+use Rattle.col_codecs.proofs.ListLemmas.{range-part}
 use Rattle.col_codecs.proofs.StatsLemmas.{collected-count}
 
 -- ---- what stands behind a line
 
--- the steps of `slope_at`
+-- the steps of `params_at`
 abbrev pub with_byte : ℕ × ℕ → ℕ × List ℕ → Option (LineAndWidth × List ℕ)
 with_byte l w = Some (record { slope = l.0; intercept = l.1; offset_width = w.0 }, w.1)
 
@@ -36,18 +38,14 @@ with_slope slope = vint slope.1 >>= with_intercept slope.0
 abbrev pub of_width : ℕ × List ℕ → Option (ℕ × List ℕ)
 of_width w = only_if (is_width w.0) w
 
-IsBytes-behind : (a rest : List ℕ) → IsBytes (a ++ rest) → IsBytes rest
-IsBytes-behind [] rest b = b
-IsBytes-behind (c ∷ a) rest b = IsBytes-behind a rest (λ i. b (suc i))
-
 after-byte : (bytes : List ℕ) (w : ℕ × List ℕ) → byte_at bytes ≡ Some w → bytes ≡ w.0 ∷ w.1
 after-byte [] w e = absurd (cc)
 after-byte (b ∷ bytes) w e = let same : (b, bytes) ≡ w = cc in ap (λ p. p.0 ∷ p.1) same
 
 -- a line and what is behind it
-slope_at-front : (bytes rest : List ℕ) (l : LineAndWidth) → IsBytes bytes → slope_at bytes ≡ Some (l, rest) → (front : List ℕ) × (bytes ≡ front ++ rest)
-unfolding slope_at
-slope_at-front bytes rest l b e =
+params_at-front : (bytes rest : List ℕ) (l : LineAndWidth) → IsBytes bytes → params_at bytes ≡ Some (l, rest) → (front : List ℕ) × (bytes ≡ front ++ rest)
+unfolding params_at
+params_at-front bytes rest l b e =
     option_and_then_some with_line (line_at bytes) (l, rest) e (λ line e1 e2.
     option_and_then_some with_slope (vint bytes) line e1 (λ slope f1 f2.
     option_and_then_some (with_intercept slope.0) (vint slope.1) line f2 (λ intercept g1 g2.
@@ -68,16 +66,16 @@ slope_at-front bytes rest l b e =
     regroup : (xs ys : List ℕ) (z : ℕ) (zs : List ℕ) → xs ++ (ys ++ (z ∷ zs)) ≡ (xs ++ (ys ++ (z ∷ []))) ++ zs
     regroup xs ys z zs = sym (append_assoc xs (ys ++ (z ∷ [])) zs ∙ ap (λ ts. xs ++ ts) (append_assoc ys (z ∷ []) zs))
 
-pub slope_at-behind : (bytes rest : List ℕ) (l : LineAndWidth) → IsBytes bytes → slope_at bytes ≡ Some (l, rest) → (length rest ≤ length bytes) × (drop (length bytes - length rest) bytes ≡ rest)
-slope_at-behind bytes rest l b e =
-    let f = slope_at-front bytes rest l b e in
+pub params_at-behind : (bytes rest : List ℕ) (l : LineAndWidth) → IsBytes bytes → params_at bytes ≡ Some (l, rest) → (length rest ≤ length bytes) × (drop (length bytes - length rest) bytes ≡ rest)
+params_at-behind bytes rest l b e =
+    let f = params_at-front bytes rest l b e in
     let long : length bytes ≡ length f.0 + length rest = ap length f.1 ∙ length-append f.0 rest in
     let start : length bytes - length rest ≡ length f.0 = omega (arith, long) in
     (omega (arith, long), ap (λ n. drop n bytes) start ∙ ap (drop (length f.0)) f.1 ∙ drop-front f.0 rest)
 
 -- ---- the list behind statistics
 
-pub list_by-no_line : (s : Stats) (bytes : List ℕ) → slope_at bytes ≡ None → list_by 1 s bytes ≡ None
+pub list_by-no_line : (s : Stats) (bytes : List ℕ) → params_at bytes ≡ None → list_by 1 s bytes ≡ None
 unfolding list_by
 list_by-no_line s bytes e = rw (linear_values-none s bytes e) refl
 
@@ -85,7 +83,7 @@ list_by-no_line s bytes e = rw (linear_values-none s bytes e) refl
 abbrev pub is_list : Stats → LineAndWidth → List ℕ → Bool
 is_list s l rest = is_packed rest (s.count * l.offset_width) && same_stats (stats_of (linear_items l rest s.count)) s
 
-pub list_by-line : (s : Stats) (bytes rest : List ℕ) (l : LineAndWidth) → slope_at bytes ≡ Some (l, rest) → list_by 1 s bytes ≡ only_if (is_list s l rest) (linear_items l rest s.count)
+pub list_by-line : (s : Stats) (bytes rest : List ℕ) (l : LineAndWidth) → params_at bytes ≡ Some (l, rest) → list_by 1 s bytes ≡ only_if (is_list s l rest) (linear_items l rest s.count)
 unfolding list_by
 list_by-line s bytes rest l e = rw (linear_values-some s bytes l rest e) (both (is_packed rest (s.count * l.offset_width)) (linear_items l rest s.count))
   where
@@ -94,22 +92,10 @@ list_by-line s bytes rest l e = rw (linear_values-some s bytes l rest e) (both (
     both false xs = refl
 
 -- the same by the answer of a test over a cut of the bytes
-pub list_by-tested : (s : Stats) (bytes rest read : List ℕ) (l : LineAndWidth) (b test : Bool) → slope_at bytes ≡ Some (l, rest) → read ≡ rest → test ≡ is_list s l read → test ≡ b → list_by 1 s bytes ≡ only_if b (linear_items l rest s.count)
+pub list_by-tested : (s : Stats) (bytes rest read : List ℕ) (l : LineAndWidth) (b test : Bool) → params_at bytes ≡ Some (l, rest) → read ≡ rest → test ≡ is_list s l read → test ≡ b → list_by 1 s bytes ≡ only_if b (linear_items l rest s.count)
 list_by-tested s bytes rest read l b test e same is t = list_by-line s bytes rest l e ∙ ap (λ a. only_if a (linear_items l rest s.count)) (ap (is_list s l) (sym same) ∙ sym is ∙ t)
 
 -- ---- items
-
--- a part of what a function gives of the first numbers
-pub range-part : (f : ℕ → ℕ) (n start m : ℕ) → start + m ≤ n → map f (range_with_len start m) ≡ take m (drop start (map f (range_with_len 0 n)))
-range-part f n start m h =
-    let whole = map f (range_with_len 0 n) in
-    let long : length (map f (range_with_len start m)) ≡ m = length-map-range_with_len f start m in
-    let part : length (take m (drop start whole)) ≡ m = omega (arith, length-take m (drop start whole), length-drop start whole, length-map-range_with_len f 0 n, h) in
-    same_lists (map f (range_with_len start m)) (take m (drop start whole)) (long ∙ sym part)
-    (λ k d w.
-    let within : k < m = omega (arith, w, long) in
-    get_or-map-range_with_len f start m k (start + k) d within refl
-    ∙ sym (get_or-take m (drop start whole) k d within ∙ get_or-drop start whole k d ∙ get_or-map-range_with_len f 0 n (start + k) (start + k) d (omega (arith, within, h)) (omega arith)))
 
 -- a part of the items
 pub linear_items-part : (l : LineAndWidth) (bytes : List ℕ) (n start m : ℕ) → start + m ≤ n → map (linear_item l bytes) (range_with_len start m) ≡ take m (drop start (linear_items l bytes n))

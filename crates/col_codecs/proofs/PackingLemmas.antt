@@ -9,6 +9,7 @@ use Rattle.std.proofs.lemmas.List.{take_more, take_more_set, drop_more, take_all
 use Rattle.std.proofs.lemmas.List.Elements.{All-get_or, All-from_recursion}
 use Rattle.col_bits.specs.Packed.{number_of, digits, packed_bytes}
 use Rattle.col_bits.proofs.PackedLemmas.{number_of-append, number_of-below, pow-pow}
+use Rattle.col_codecs.proofs.ListLemmas.{head-same, tail-same}
 
 -- ---- a block
 
@@ -21,12 +22,6 @@ pub record IsTaken (whole block : List ℕ) (n : ℕ) (left : List ℕ) : Type 0
 
 pub IsTaken-none : (whole block : List ℕ) → IsTaken whole block 0 whole
 IsTaken-none whole block = record { room = omega arith; there = omega arith; taken = refl; rest = refl }
-
-head-same : (x y : ℕ) (xs ys : List ℕ) → x ∷ xs ≡ y ∷ ys → x ≡ y
-head-same x y xs ys e = cc
-
-tail-same : (x y : ℕ) (xs ys : List ℕ) → x ∷ xs ≡ y ∷ ys → xs ≡ ys
-tail-same x y xs ys e = cc
 
 -- one item more
 pub IsTaken-push : (whole block left rest : List ℕ) (n x : ℕ) → IsTaken whole block n left → n < length block → left ≡ x ∷ rest → IsTaken whole (slice_set block n x) (n + 1) rest

@@ -1,12 +1,10 @@
 -- Statistics of a list that grows by one number.
-use Rattle.std.proofs.Common.{◌≡◌, ℕ, ◌+◌, ◌-◌, ◌%◌, ◌<◌, min, max, List, [], ◌∷◌, ◌++◌, length, map, fold, refl, sym, ◌∙◌, ap, arith, length-append, append_assoc, subst, Result}
+use Rattle.std.proofs.Common.{◌≡◌, ℕ, ◌+◌, ◌-◌, ◌%◌, ◌<◌, min, max, List, [], ◌∷◌, ◌++◌, length, map, refl, sym, ◌∙◌, ap, arith, length-append, append_assoc}
 use Rattle.std.specs.Int.{abs_diff}
+use Rattle.std.proofs.lemmas.List.Sums.{fold_push}
 use Rattle.std.proofs.lemmas.Nat.Gcd.{dvd_refl, IsGcd-swap, IsGcd-from_mod, same_from_IsGcd}
 use native.Mathlib.Nat.{one-dvd}
-use Rattle.col_common.specs.Outside.{SeenSink}
-use Rattle.col_common.specs.Serializing.{Serializes}
 use Rattle.col_common.specs.VInt.{vint_bytes}
-use Rattle.col_common.specs.declared.error.ColumnarError.{ColumnarError}
 use Rattle.col_model.specs.Stats.{gcd, gcd_of, least_of, greatest_of, at_least_one, stats_of, stats_bytes, steps_of}
 use Rattle.col_model.proofs.StatsLaws.{IsGcd-gcd}
 use Rattle.col_model.proofs.CollectLaws.{gcd_of-push}
@@ -23,14 +21,6 @@ gcd-swap a b = same_from_IsGcd a b (gcd a b) (gcd b a) (IsGcd-gcd a b) (IsGcd-sw
 -- nothing but 1 divides 1
 pub gcd-one : (b : ℕ) → gcd 1 b ≡ 1
 gcd-one b = same_from_IsGcd 1 b (gcd 1 b) 1 (IsGcd-gcd 1 b) (dvd_refl 1, one-dvd b, λ d p q. p)
-
-fold-min-push : (a : ℕ) (xs : List ℕ) (x : ℕ) → fold min a (xs ++ x ∷ []) ≡ min (fold min a xs) x
-fold-min-push a [] x = refl
-fold-min-push a (y ∷ xs) x = fold-min-push (min a y) xs x
-
-pub fold-max-push : (a : ℕ) (xs : List ℕ) (x : ℕ) → fold max a (xs ++ x ∷ []) ≡ max (fold max a xs) x
-fold-max-push a [] x = refl
-fold-max-push a (y ∷ xs) x = fold-max-push (max a y) xs x
 
 same_collector : (a b c d e f : ℕ) (m n : ℕ) → a ≡ b → c ≡ d → e ≡ f → m ≡ n → let left : Collected = record { least = a; greatest = c; divisor = e; count = m } in let right : Collected = record { least = b; greatest = d; divisor = f; count = n } in left ≡ right
 same_collector a b c d e f m n p q r s = cc
@@ -55,8 +45,8 @@ collected-more s (y ∷ ys) x finer p f e =
     let count : s.count ≡ length (y ∷ ys) = ap (λ c. c.count) e in
     let long : length ((y ∷ ys) ++ x ∷ []) ≡ length (y ∷ ys) + 1 = length-append (y ∷ ys) (x ∷ []) in
     same_collector (min s.least x) (least_of ((y ∷ ys) ++ x ∷ [])) (max s.greatest x) (greatest_of ((y ∷ ys) ++ x ∷ [])) finer (gcd_of (map (λ z. z - least_of ((y ∷ ys) ++ x ∷ [])) ((y ∷ ys) ++ x ∷ []))) (s.count + 1) (length ((y ∷ ys) ++ x ∷ []))
-    (ap (λ k. min k x) low ∙ sym (fold-min-push y ys x))
-    (ap (λ k. max k x) high ∙ sym (fold-max-push 0 (y ∷ ys) x))
+    (ap (λ k. min k x) low ∙ sym (fold_push min y ys x))
+    (ap (λ k. max k x) high ∙ sym (fold_push max 0 (y ∷ ys) x))
     (f ∙ ap (λ k. gcd k (abs_diff x s.least)) old ∙ ap (λ k. gcd (gcd_of (map (λ z. z - least_of (y ∷ ys)) (y ∷ ys))) (abs_diff x k)) low ∙ sym (gcd_of-push y ys x))
     (omega arith)
 

@@ -1,6 +1,6 @@
 -- Lists under Bitpacked, each item read where it stands, behind their statistics.
-use Rattle.std.specs.Prelude.{◌≡◌, ◌<◌, ◌≤◌, ℕ, ◌+◌, ◌-◌, ◌*◌, ◌/◌, ◌^◌, List, map}
-use Rattle.std.specs.List.{range_with_len, AllByRecursion}
+use Rattle.std.specs.Prelude.{◌≡◌, ◌<◌, ℕ, ◌+◌, ◌*◌, ◌^◌, List, map}
+use Rattle.std.specs.List.{range_with_len}
 use Rattle.col_bits.specs.Packed.{item, width}
 use Rattle.col_model.specs.Stats.{Stats, steps_of, stats_of}
 
@@ -17,7 +17,3 @@ pub record IsReader (s : Stats) (w : ℕ) (bytes : List ℕ) : Type 0 where
   pub width_is : w ≡ width (steps_of s)
   pub fits : (i : ℕ) → i < s.count → bitpacked_item s bytes i < 2 ^ 64
   pub exact : stats_of (bitpacked_items s bytes) ≡ s
-
--- each of these values lies above the least, and its steps take at most w bits
-abbrev pub FitSteps : Stats → ℕ → List ℕ → Type 0
-FitSteps s w xs = AllByRecursion (λ x. (s.least ≤ x) × ((x - s.least) / s.divisor < 2 ^ w)) xs

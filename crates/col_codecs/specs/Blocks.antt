@@ -3,31 +3,31 @@ use Rattle.std.specs.Prelude.{◌≡◌, ◌<◌, ◌≤◌, ℕ, ◌+◌, ◌-�
 use Rattle.std.specs.List.{AllByRecursion, range_with_len}
 use Rattle.col_model.specs.Stats.{Stats, stats_of}
 use Rattle.col_common.specs.Reading.{◌>>=◌, nothing_left, items}
-use Rattle.col_model.specs.U64List.{Slope, slope_at}
+use Rattle.col_model.specs.U64List.{LinearParams, params_at}
 use Rattle.col_model.specs.Codecs.{block_size, block_count}
 use Rattle.col_model.specs.Items.{linear_item, linear_items, block_start}
 use Rattle.col_codecs.specs.declared.line.Line.{Line}
 use Rattle.col_codecs.specs.declared.blockwise_linear.block.Block.{Block}
+use Rattle.col_codecs.specs.ColumnStats.{IsAbove}
 use Rattle.col_codecs.specs.Line.{with_width}
 
 -- the values of a block of a list with these statistics, none of which is below the least
 pub record IsBlock (s : Stats) (values : List ℕ) : Type 0 where
   pub some : 0 < length values
   pub small : length values ≤ block_size
-  pub above : AllByRecursion (λ x. s.least ≤ x) values
-  pub positive : 0 < s.divisor
+  pub above : AllByRecursion (IsAbove s) values
 
 -- so many lines with their widths, and nothing else
-abbrev pub lines_of : ℕ → List ℕ → Option (List Slope)
-lines_of count bytes = items slope_at count bytes >>= nothing_left
+abbrev pub lines_of : ℕ → List ℕ → Option (List LinearParams)
+lines_of count bytes = items params_at count bytes >>= nothing_left
 
 -- a block's line with the width of the offsets from it
-abbrev pub block_slope : Block → Slope
-block_slope b = with_width b.line b.bit_unpacker
+abbrev pub block_params : Block → LinearParams
+block_params b = with_width b.line b.bit_unpacker
 
 -- the step at a place of a block
 abbrev pub step_in : Block → List ℕ → ℕ → ℕ
-step_in b bytes place = linear_item (block_slope b) (drop b.start bytes) place
+step_in b bytes place = linear_item (block_params b) (drop b.start bytes) place
 
 -- a block for a place that has none
 abbrev pub no_block : Block
@@ -57,7 +57,7 @@ items_in s bs bytes = map (item_of s) (steps_in bs bytes s.count)
 
 -- the steps of the first items of a block
 abbrev pub steps_in_block : Block → List ℕ → ℕ → List ℕ
-steps_in_block b bytes n = linear_items (block_slope b) (drop b.start bytes) n
+steps_in_block b bytes n = linear_items (block_params b) (drop b.start bytes) n
 
 -- the item of a step lies a whole count of divisors above the least, up to the greatest
 unfoldable pub is_whole : Stats → ℕ → Bool
@@ -76,7 +76,7 @@ AreWithin bs bytes = (k : ℕ) → k < length bs → (block_of bs k).start ≤ l
 -- each block begins behind those before it, and within the bytes
 pub record ArePlaced (n : ℕ) (bs : List Block) (bytes : List ℕ) : Type 0 where
   pub starts : (k : ℕ) → k < length bs →
-      (block_of bs k).start ≡ block_start n (map block_slope bs) k
+      (block_of bs k).start ≡ block_start n (map block_params bs) k
   pub within : AreWithin bs bytes
 
 -- there is a block for each 512 items, each begins within the bytes, and the statistics are the

@@ -1,8 +1,9 @@
 pub mod ColumnStats
 pub mod Bitpacked
-pub mod Slope
+pub mod LinearParams
 pub mod Line
 pub mod Linear
 pub mod Blockwise
 pub mod Blocks
 pub mod Header
+pub mod Turning

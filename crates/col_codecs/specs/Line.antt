@@ -2,7 +2,7 @@
 use Rattle.std.specs.Prelude.{ℕ, List, map}
 use Rattle.col_model.specs.Line.{line}
 use Rattle.col_model.specs.Training.{less_wrapped}
-use Rattle.col_model.specs.U64List.{Slope as LineAndWidth}
+use Rattle.col_model.specs.U64List.{LinearParams as LineAndWidth}
 use Rattle.col_codecs.specs.declared.line.Line.{Line}
 
 -- slope and intercept
@@ -13,7 +13,8 @@ line_seen l = (l.slope, l.intercept)
 abbrev pub with_width : Line → ℕ → LineAndWidth
 with_width l w = record { slope = l.slope; intercept = l.intercept; offset_width = w }
 
--- how far a value at its position lies above the line from 0 on, and that above a mark, modulo 2 ^ 64
+-- how far a value at its position lies above the line from 0 on, and that above a mark,
+-- modulo 2 ^ 64
 abbrev pub distance : ℕ → ℕ → ℕ × ℕ → ℕ
 distance slope mark p = less_wrapped (less_wrapped p.1 (line slope 0 p.0)) mark
 

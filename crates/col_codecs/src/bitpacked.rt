@@ -8,25 +8,20 @@ ghost use Rattle.col_model.specs.Stats.{stats_of, steps_of, same_stats, least_of
 ghost use Rattle.col_model.specs.Codecs.{block_size, steps_above};
 ghost use Rattle.col_codecs.specs.ColumnStats.{stats_seen, collected_of, IsPossible};
 ghost use Rattle.col_codecs.specs.Header.{list_by};
-ghost use Rattle.col_codecs.specs.Bitpacked.{bitpacked_items, FitSteps};
+ghost use Rattle.col_codecs.specs.Bitpacked.{bitpacked_items};
 
 use crate::codec::{ColumnCodec, ColumnCodecEstimator};
 use crate::column_stats::ColumnStats;
 use crate::header::take_stats;
-use crate::packing::{BLOCK_SIZE, is_packed, pack_block, take_block, take_steps};
+use crate::packing::take_steps;
 use crate::stats_collector::StatsCollector;
+use crate::turning::{Turn, serialize_turned};
 use bytes::Bytes;
-use col_bits::{BitUnpacker, compute_num_bits};
-use col_common::{ColumnarError, Iterable, Sink, serialize_bytes};
+use col_bits::{BitUnpacker, compute_num_bits, is_packed};
+use col_common::{BYTE_BITS, ColumnarError, Iterable, Sink};
 use col_values::ColumnValues;
 use std::alloc::Global;
 use std::marker::Model;
-
-// The bits of a byte.
-const BYTE_BITS: u64 = 8;
-
-// The bytes of a value.
-const WORD_BYTES: usize = 8;
 
 /// A list that is read in place.
 #[derive(Drop)]
@@ -180,6 +175,20 @@ fn widen_by_items(
     collector.stats()
 }
 
+// Steps are packed in place of values.
+impl Turn for ColumnStats {
+    ghost use Rattle.std.specs.Prelude.{◌-◌, ◌/◌};
+    ghost use Rattle.col_codecs.specs.ColumnStats.{IsAbove};
+
+    ghost turned = { λ s p. (p.1 - s.min_value) / s.gcd };
+
+    ghost Takes = { λ s. IsAbove (stats_seen s) };
+
+    fn turn(&self, _start: u32, vals: &mut [u64]) {
+        take_steps(self, vals);
+    }
+}
+
 /// The codec Bitpacked.
 pub struct BitpackedCodec;
 
@@ -203,7 +212,7 @@ impl ColumnCodec for BitpackedCodec {
 }
 
 /// Estimates and writes lists under Bitpacked, for which the statistics are enough.
-#[derive(Clone, Copy, Debug)]
+#[derive(Drop)]
 pub struct BitpackedCodecEstimator;
 
 impl ColumnCodecEstimator for BitpackedCodecEstimator {
@@ -221,7 +230,7 @@ impl ColumnCodecEstimator for BitpackedCodecEstimator {
     fn estimate(&self, stats: &ColumnStats) -> Option<u64> {
         let num_bits = compute_num_bits(stats.steps());
         let bits = u64::from(stats.num_rows) * u64::from(num_bits);
-        Some(stats.num_bytes() + bits.div_ceil(BYTE_BITS))
+        Some(stats.num_bytes() + bits.div_ceil(BYTE_BITS as u64))
     }
 
     fn serialize<I: Iterable<u64>, K: Sink>(
@@ -234,71 +243,6 @@ impl ColumnCodecEstimator for BitpackedCodecEstimator {
         let _greatest = stats.max_value;
         stats.serialize(sink)?;
         let num_bits = compute_num_bits(stats.steps());
-        serialize_steps(alloc, stats, num_bits, vals, sink)
+        serialize_turned(alloc, stats, num_bits, vals, sink)
     }
-}
-
-// Adds the steps of a list, packed, a block at a time.
-fn serialize_steps<I: Iterable<u64>, K: Sink>(
-    alloc: Global,
-    stats: &ColumnStats,
-    num_bits: u8,
-    vals: &I,
-    sink: &mut K,
-) -> Result<(), ColumnarError>
-    requires width { num_bits ≤ 64 }
-    requires positive { 0 < stats.now.gcd }
-    requires fit { FitSteps (stats_seen stats.now) num_bits (I.items vals.now) }
-    ensures { Serializes (K.seen sink.old) (K.seen sink.new)
-        result (packed_bytes num_bits (steps_above (stats_seen stats.now) (I.items vals.now))) }
-{
-    let mut block = [0; BLOCK_SIZE];
-    let mut packed = Vec::with_capacity(alloc, BLOCK_SIZE * WORD_BYTES)?;
-    serialize_blocks(stats, num_bits, vals, &mut block, &mut packed, sink)
-}
-
-// The same in a block's room.
-fn serialize_blocks<I: Iterable<u64>, K: Sink>(
-    stats: &ColumnStats,
-    num_bits: u8,
-    vals: &I,
-    block: &mut [u64],
-    packed: &mut Vec<u8>,
-    sink: &mut K,
-) -> Result<(), ColumnarError>
-    requires width { num_bits ≤ 64 }
-    requires positive { 0 < stats.now.gcd }
-    requires fit { FitSteps (stats_seen stats.now) num_bits (I.items vals.now) }
-    requires room { length block.old ≡ block_size }
-    ensures { Serializes (K.seen sink.old) (K.seen sink.new)
-        result (packed_bytes num_bits (steps_above (stats_seen stats.now) (I.items vals.now))) }
-{
-    let mut at = vals.walk();
-    'values: loop {
-        let taken = take_block(vals, &mut at, block);
-        if taken == 0 {
-            return Ok(());
-        }
-        serialize_block(stats, num_bits, &mut block[..taken], packed, sink)?;
-    }
-}
-
-// Adds the steps of a block's values, packed.
-fn serialize_block<K: Sink>(
-    stats: &ColumnStats,
-    num_bits: u8,
-    vals: &mut [u64],
-    packed: &mut Vec<u8>,
-    sink: &mut K,
-) -> Result<(), ColumnarError>
-    requires width { num_bits ≤ 64 }
-    requires positive { 0 < stats.now.gcd }
-    requires fit { FitSteps (stats_seen stats.now) num_bits vals.old }
-    ensures { Serializes (K.seen sink.old) (K.seen sink.new)
-        result (packed_bytes num_bits (steps_above (stats_seen stats.now) vals.old)) }
-{
-    take_steps(stats, vals);
-    packed.clear();
-    pack_block(vals, num_bits, packed)?;
-    serialize_bytes(sink, packed)
 }

@@ -9,15 +9,11 @@ mod writer;
 
 use crate::codec::ColumnCodec;
 use crate::header::take_stats;
-use crate::packing::BLOCK_SIZE;
 use bytes::Bytes;
 use col_common::ColumnarError;
 pub use estimator::BlockwiseLinearEstimator;
 pub use reader::BlockwiseLinearReader;
 use std::alloc::Global;
-
-// How many values a block has; the last one may have fewer.
-const BLOCK_LEN: u32 = BLOCK_SIZE as u32;
 
 /// Offsets from a line for each block of 512 values.
 pub struct BlockwiseLinearCodec;

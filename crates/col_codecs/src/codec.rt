@@ -13,10 +13,11 @@ use col_common::{ColumnarError, Iterable, Sink};
 use col_values::ColumnValues;
 use std::alloc::Global;
 
-/// Gathers what a codec has to know of a list, in a first pass, tells how long the list's bytes would be,
-/// and writes them in a second pass.
+/// Gathers what a codec has to know of a list, in a first pass, tells how long the list's bytes
+/// would be, and writes them in a second pass.
 ///
-/// Each value is collected, then `finalize` is called once, and then `estimate` and `serialize` may be.
+/// Each value is collected, then `finalize` is called once, and then `estimate` and `serialize`
+/// may be.
 pub trait ColumnCodecEstimator {
     ghost use Rattle.col_common.specs.declared.error.ColumnarError.TheVariants.{NoCodec};
 
@@ -32,7 +33,8 @@ pub trait ColumnCodecEstimator {
     /// Takes one value more.
     fn collect(&mut self, value: u64)
         requires room { (xs : List ℕ) × Collected self.old xs × (length xs + 1 < 2 ^ 32) }
-        ensures more { (xs : List ℕ) → Collected self.old xs → Collected self.new (xs ++ value ∷ []) }
+        ensures more { (xs : List ℕ) → Collected self.old xs
+            → Collected self.new (xs ++ value ∷ []) }
         ensures code { code self.new ≡ code self.old };
 
     /// Ends the first pass.
@@ -41,9 +43,11 @@ pub trait ColumnCodecEstimator {
         ensures all { (xs : List ℕ) → Collected self.old xs → Finalized self.new xs }
         ensures code { code self.new ≡ code self.old };
 
-    /// How many bytes the list would take behind the codec's code; none where the codec doesn't apply.
+    /// How many bytes the list would take behind the codec's code; none where the codec doesn't
+    /// apply.
     fn estimate(&self, stats: &ColumnStats) -> Option<u64>
-        requires { (xs : List ℕ) × Finalized self.now xs × (length xs < 2 ^ 32) × (stats_seen stats.now ≡ stats_of xs) }
+        requires { (xs : List ℕ) × Finalized self.now xs × (length xs < 2 ^ 32)
+            × (stats_seen stats.now ≡ stats_of xs) }
         ensures { (xs : List ℕ) → Finalized self.now xs → stats_seen stats.now ≡ stats_of xs →
             result ≡ estimate xs (code self.now) };
 

@@ -9,8 +9,8 @@ ghost use Rattle.col_codecs.specs.ColumnStats.{stats_seen, IsPossible};
 
 use col_common::{ColumnarError, InvalidData, RowId, Sink, VInt, read_vint};
 
-/// The bounds and the count of values, and the greatest common divisor of their differences from the
-/// least.
+/// The bounds and the count of values, and the greatest common divisor of their differences from
+/// the least.
 #[derive(Clone, Copy, Debug, PartialEq, Eq)]
 pub struct ColumnStats {
     pub gcd: u64,

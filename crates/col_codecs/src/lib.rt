@@ -8,10 +8,11 @@ mod column_stats;
 mod header;
 mod line;
 mod linear;
+mod linear_params;
 mod packing;
 mod positions;
-mod slope;
 mod stats_collector;
+mod turning;
 
 pub use bitpacked::{BitpackedCodec, BitpackedCodecEstimator, BitpackedReader};
 pub use blockwise_linear::{BlockwiseLinearCodec, BlockwiseLinearEstimator, BlockwiseLinearReader};
@@ -21,6 +22,3 @@ pub use line::Line;
 pub use linear::{LinearCodec, LinearCodecEstimator, LinearReader};
 pub use positions::Positions;
 pub use stats_collector::{StatsCollector, compute_gcd};
-
-#[cfg(test)]
-mod tests;

@@ -1,37 +1,27 @@
 //! Blocks of values on their way into packed lists.
 ghost use Rattle.std.specs.Prelude.{◌≡◌, ◌<◌, ◌≤◌, ◌^◌, ◌++◌, length, take, drop, min, OnOk};
 ghost use Rattle.col_model.specs.Codecs.{steps_above};
-ghost use Rattle.col_model.specs.Items.{is_packed};
-ghost use Rattle.col_codecs.specs.ColumnStats.{stats_seen};
+ghost use Rattle.col_codecs.specs.ColumnStats.{stats_seen, IsAbove};
 ghost use Rattle.std.specs.List.{AllByRecursion};
 ghost use Rattle.col_bits.specs.Packed.{packed_bytes};
 
 use crate::column_stats::ColumnStats;
 use col_bits::BitPacker;
-use col_common::{Iterable, Walk};
+use col_common::{Iterable, U64_NUM_BYTES, Walk};
 use std::alloc::AllocError;
 
 /// How many values a block has; the last one may have fewer.
 pub const BLOCK_SIZE: usize = 512;
 
-// The bits of a byte.
-const BYTE_BITS: usize = 8;
+/// The same as a count of rows.
+pub const BLOCK_LEN: u32 = BLOCK_SIZE as u32;
 
-/// Whether there are just the bytes that so many bits take, and the spare bits are 0.
-pub fn is_packed(bytes: &[u8], num_bits: usize) -> bool
-    ensures { result ≡ is_packed bytes.now num_bits }
-{
-    if bytes.len() != num_bits.div_ceil(BYTE_BITS) {
-        return false;
-    }
-    let used = num_bits % BYTE_BITS;
-    used == 0 || bytes[bytes.len() - 1] >> used == 0
-}
+/// The most bytes of a packed block.
+pub const MAX_BLOCK_NUM_BYTES: usize = BLOCK_SIZE * U64_NUM_BYTES;
 
 /// Turns values into how many divisors each lies above the least.
 pub fn take_steps(stats: &ColumnStats, vals: &mut [u64])
-    requires positive { 0 < stats.now.gcd }
-    requires above { AllByRecursion (λ x. stats.now.min_value ≤ x) vals.old }
+    requires { AllByRecursion (IsAbove (stats_seen stats.now)) vals.old }
     ensures { vals.new ≡ steps_above (stats_seen stats.now) vals.old }
 {
     let ColumnStats { gcd, min_value, .. } = *stats;

@@ -6,7 +6,7 @@ use col_common::{Iterable, Walk};
 use col_values::ColumnValues;
 
 /// A list's values with their positions, one after another; `place` of a walk is the next position.
-#[derive(Clone, Copy)]
+#[derive(Drop)]
 pub struct Positions<'a, V> {
     pub values: &'a V,
 }

@@ -1,5 +1,6 @@
 //! Statistics of values that come one by one.
 ghost use Rattle.std.specs.Prelude.{◌≡◌, ◌==◌, ◌<◌, ◌+◌, ◌^◌, ℕ, List, [], ◌∷◌, ◌++◌, length};
+ghost use Rattle.std.specs.Int.{IsGcd};
 ghost use Rattle.col_model.specs.Stats.{stats_of, gcd};
 ghost use Rattle.col_codecs.specs.ColumnStats.{stats_seen, Collected, collected_of};
 
@@ -11,7 +12,9 @@ use std::marker::Model;
 ///
 /// It is faster where the first number is the greater one.
 pub fn compute_gcd(large: u64, small: u64) -> u64
-    ensures { result ≡ gcd large small }
+    ensures value { result ≡ gcd large small }
+    // It divides both, and each number that divides both divides it.
+    ensures greatest { IsGcd large small result }
 {
     let mut large = large;
     let mut small = small;
@@ -35,7 +38,7 @@ fn finer_gcd(increment_gcd: u64, difference: u64) -> u64
 }
 
 /// Collects values, and holds the divisor of their differences, 0 where all of them are 0.
-#[derive(Clone, Copy, Debug)]
+#[derive(Clone, Copy)]
 pub struct StatsCollector {
     min_value: u64,
     max_value: u64,

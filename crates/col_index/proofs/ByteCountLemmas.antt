@@ -7,8 +7,8 @@ use Rattle.std.proofs.Math.Nat.{mul-le-mul_left}
 use Rattle.col_common.specs.VInt.{group_bytes, vint_bytes}
 use Rattle.col_model.specs.Packed.{width, is_width, packed_bytes, number_of, digits}
 use Rattle.col_model.specs.Stats.{Stats, stats_of, steps_of, stats_bytes}
-use Rattle.col_model.specs.U64List.{Slope}
-use Rattle.col_model.specs.Codecs.{chosen_codec, chosen_before, is_not_below, estimate, bitpacked_estimate, linear_estimate, bitpacked_body, linear_body, linear_line, slope_bytes, packed_len, packed_offsets, line_len, stats_len, steps_above, offsets_from, codec_bytes, block_size}
+use Rattle.col_model.specs.U64List.{LinearParams}
+use Rattle.col_model.specs.Codecs.{chosen_codec, chosen_before, is_not_below, estimate, bitpacked_estimate, linear_estimate, bitpacked_body, linear_body, linear_line, params_bytes, packed_len, packed_offsets, line_len, stats_len, steps_above, offsets_from, codec_bytes, block_size}
 use Rattle.col_model.proofs.CodecLaws.{is_width-width, linear_line-writable}
 use Rattle.col_model.proofs.LinearLaws.{length-offsets_from}
 use Rattle.std.proofs.lemmas.List.{length-map}
@@ -33,11 +33,11 @@ bitpacked-length xs =
     length-append (stats_bytes s) _
     ∙ ap (λ n. length (stats_bytes s) + n) (packed_bytes-length (width (steps_of s)) (steps_above s xs) ∙ ap (λ n. packed_len n (width (steps_of s))) (steps_above-length s xs))
 
-offsets-length : (l : Slope) (xs : List ℕ) → length (packed_offsets l xs) ≡ packed_len (length xs) l.offset_width
+offsets-length : (l : LinearParams) (xs : List ℕ) → length (packed_offsets l xs) ≡ packed_len (length xs) l.offset_width
 offsets-length l xs = packed_bytes-length l.offset_width (offsets_from l xs) ∙ ap (λ n. packed_len n l.offset_width) (length-offsets_from l xs)
 
-slope-length : (l : Slope) → length (slope_bytes l) ≡ line_len l + 1
-unfolding slope_bytes
+slope-length : (l : LinearParams) → length (params_bytes l) ≡ line_len l + 1
+unfolding params_bytes
 slope-length l = length-append (vint_bytes l.slope) _ ∙ ap (λ n. length (vint_bytes l.slope) + n) (length-append (vint_bytes l.intercept) (l.offset_width ∷ [])) ∙ omega arith
 
 -- what Linear takes where it applies
@@ -49,7 +49,7 @@ unfolding linear_body
 linear-length xs =
     let l = linear_line xs in
     length-append (stats_bytes (stats_of xs)) _
-    ∙ ap (λ n. stats_len xs + n) (length-append (slope_bytes l) (packed_offsets l xs) ∙ ap (λ n. n + length (packed_offsets l xs)) (slope-length l) ∙ ap (λ n. line_len l + 1 + n) (offsets-length l xs))
+    ∙ ap (λ n. stats_len xs + n) (length-append (params_bytes l) (packed_offsets l xs) ∙ ap (λ n. n + length (packed_offsets l xs)) (slope-length l) ∙ ap (λ n. line_len l + 1 + n) (offsets-length l xs))
     ∙ omega arith
 
 linear-estimated : (xs : List ℕ) (e : ℕ) → linear_estimate xs ≡ Some e → length (linear_body xs) ≡ e

@@ -7,15 +7,15 @@ use Rattle.std.proofs.lemmas.Option.{option_and_then_some, cond_some, same_Some}
 use Rattle.std.proofs.lemmas.List.{get_or_append_left, get_or-append_right, drop-drop}
 use Rattle.std.proofs.lemmas.List.FromFn.{fill_by_all}
 use Rattle.col_common.specs.Reading.{only_if, ◌>>=◌, nothing_left, items, parts_by_second}
-use Rattle.col_bits.specs.Packed.{item}
+use Rattle.col_bits.specs.Packed.{item, is_packed}
 use Rattle.col_model.specs.Stats.{Stats}
-use Rattle.col_model.specs.U64List.{Slope, slope_at, above_line, block_len, blocks, joined_lists, blockwise_values}
-use Rattle.col_model.specs.Items.{is_packed, linear_item, linear_items, block_bytes, block_start, are_blocks, block_item, blockwise_items}
+use Rattle.col_model.specs.U64List.{LinearParams, params_at, above_line, block_len, blocks, joined_lists, blockwise_values}
+use Rattle.col_model.specs.Items.{linear_item, linear_items, block_bytes, block_start, are_blocks, block_item, blockwise_items}
 use Rattle.col_model.proofs.StatsLaws.{map-map}
 use Rattle.col_model.proofs.ItemLaws.{only_if-then, packed-front, above_line-items, length-linear_items, linear_items-at}
 
 -- the items of n items in blocks, block by block
-unfoldable pub block_lists : ℕ → List Slope → List ℕ → List (List ℕ)
+unfoldable pub block_lists : ℕ → List LinearParams → List ℕ → List (List ℕ)
 block_lists n [] bytes = []
 block_lists n (l ∷ ls) bytes = linear_items l bytes (block_len n) ∷ block_lists (n - 512) ls (drop (block_bytes n l) bytes)
 
@@ -37,7 +37,7 @@ behind-test true c os above o xss e = front-behind (above os) o ∙ ap (λ r. r 
 behind-test false c os above o xss e = refl
 
 -- the blocks, where they are packed and nothing else
-pub blocks-lists : (n : ℕ) (ls : List Slope) (bytes : List ℕ) → (blocks n ls bytes >>= nothing_left) ≡ only_if (are_blocks n ls bytes) (block_lists n ls bytes)
+pub blocks-lists : (n : ℕ) (ls : List LinearParams) (bytes : List ℕ) → (blocks n ls bytes >>= nothing_left) ≡ only_if (are_blocks n ls bytes) (block_lists n ls bytes)
 unfolding blocks are_blocks block_lists
 blocks-lists n [] bytes = refl
 blocks-lists n (l ∷ ls) bytes =
@@ -51,14 +51,14 @@ blocks-lists n (l ∷ ls) bytes =
 
 -- ---- the items one after another
 
-pub length-joined-block_lists : (n : ℕ) (ls : List Slope) (bytes : List ℕ) → n ≤ 512 * length ls → length (joined_lists (block_lists n ls bytes)) ≡ n
+pub length-joined-block_lists : (n : ℕ) (ls : List LinearParams) (bytes : List ℕ) → n ≤ 512 * length ls → length (joined_lists (block_lists n ls bytes)) ≡ n
 unfolding block_lists
 length-joined-block_lists n [] bytes h = omega arith
 length-joined-block_lists n (l ∷ ls) bytes h =
     rw (length-append (linear_items l bytes (block_len n)) (joined_lists (block_lists (n - 512) ls (drop (block_bytes n l) bytes))), length-linear_items l bytes (block_len n), length-joined-block_lists (n - 512) ls (drop (block_bytes n l) bytes) (omega arith)) (omega arith)
 
 -- an item of the first block
-first-block : (n : ℕ) (l : Slope) (ls : List Slope) (bytes : List ℕ) (i : ℕ) → i < 512 → linear_item l bytes i ≡ block_item n (l ∷ ls) bytes i
+first-block : (n : ℕ) (l : LinearParams) (ls : List LinearParams) (bytes : List ℕ) (i : ℕ) → i < 512 → linear_item l bytes i ≡ block_item n (l ∷ ls) bytes i
 unfolding block_start
 first-block n l ls bytes i h =
     let k : i / 512 ≡ 0 = omega arith in
@@ -66,7 +66,7 @@ first-block n l ls bytes i h =
     rw (k, j) refl
 
 -- an item of a later block is that of the blocks behind the first
-later-block : (n : ℕ) (l : Slope) (ls : List Slope) (bytes : List ℕ) (i : ℕ) → 512 ≤ i → block_item (n - 512) ls (drop (block_bytes n l) bytes) (i - 512) ≡ block_item n (l ∷ ls) bytes i
+later-block : (n : ℕ) (l : LinearParams) (ls : List LinearParams) (bytes : List ℕ) (i : ℕ) → 512 ≤ i → block_item (n - 512) ls (drop (block_bytes n l) bytes) (i - 512) ≡ block_item n (l ∷ ls) bytes i
 unfolding block_start
 later-block n l ls bytes i h =
     let k : i / 512 ≡ suc ((i - 512) / 512) = omega arith in
@@ -74,7 +74,7 @@ later-block n l ls bytes i h =
     rw (k, j, drop-drop (block_start (n - 512) ls ((i - 512) / 512)) (block_bytes n l) bytes) refl
 
 -- the item at a place
-pub block_lists-at : (n : ℕ) (ls : List Slope) (bytes : List ℕ) (i : ℕ) → n ≤ 512 * length ls → i < n → slice_index (joined_lists (block_lists n ls bytes)) i ≡ block_item n ls bytes i
+pub block_lists-at : (n : ℕ) (ls : List LinearParams) (bytes : List ℕ) (i : ℕ) → n ≤ 512 * length ls → i < n → slice_index (joined_lists (block_lists n ls bytes)) i ≡ block_item n ls bytes i
 unfolding block_lists
 block_lists-at n [] bytes i h p = absurd (omega arith)
 block_lists-at n (l ∷ ls) bytes i h p =
@@ -90,7 +90,7 @@ block_lists-at n (l ∷ ls) bytes i h p =
           get_or-append_right first later 512 i 0 long q ∙ block_lists-at (n - 512) ls behind (i - 512) (omega arith) (omega arith) ∙ later-block n l ls bytes i q)
     ]
 
-pub joined-block_lists : (n : ℕ) (ls : List Slope) (bytes : List ℕ) → n ≤ 512 * length ls → joined_lists (block_lists n ls bytes) ≡ map (block_item n ls bytes) (range_with_len 0 n)
+pub joined-block_lists : (n : ℕ) (ls : List LinearParams) (bytes : List ℕ) → n ≤ 512 * length ls → joined_lists (block_lists n ls bytes) ≡ map (block_item n ls bytes) (range_with_len 0 n)
 joined-block_lists n ls bytes h = fill_by_all (block_item n ls bytes) (joined_lists (block_lists n ls bytes)) n 0 (length-joined-block_lists n ls bytes h) (λ i p. block_lists-at n ls bytes i h p)
 
 -- ---- the list
@@ -104,18 +104,18 @@ length-items {A} read (suc n) bytes xs rest e =
     option_and_then_some (λ (q : List A × List ℕ). Some (p.0 ∷ q.0, q.1)) (items read n p.1) (xs, rest) e1 (λ q e2 e3.
     ap (λ r. length r.0) (sym (same_Some _ _ e3)) ∙ ap suc (length-items read n p.1 q.0 q.1 e2)))
 
-length-lines : (n : ℕ) (footer : List ℕ) (ls : List Slope) → (items slope_at n footer >>= nothing_left) ≡ Some ls → length ls ≡ n
+length-lines : (n : ℕ) (footer : List ℕ) (ls : List LinearParams) → (items params_at n footer >>= nothing_left) ≡ Some ls → length ls ≡ n
 length-lines n footer ls e =
-    option_and_then_some nothing_left (items slope_at n footer) ls e (λ r e1 e2. ap length (sym (cond_some (length r.1 == 0) r.0 ls e2).1) ∙ length-items slope_at n footer r.0 r.1 e1)
+    option_and_then_some nothing_left (items params_at n footer) ls e (λ r e1 e2. ap length (sym (cond_some (length r.1 == 0) r.0 ls e2).1) ∙ length-items params_at n footer r.0 r.1 e1)
 
 -- steps above the least
-scaled : (s : Stats) (ls : List Slope) (body : List ℕ) → s.count ≤ 512 * length ls → map (λ k. (s.least + s.divisor * k) % 2 ^ 64) (joined_lists (block_lists s.count ls body)) ≡ blockwise_items s ls body
+scaled : (s : Stats) (ls : List LinearParams) (body : List ℕ) → s.count ≤ 512 * length ls → map (λ k. (s.least + s.divisor * k) % 2 ^ 64) (joined_lists (block_lists s.count ls body)) ≡ blockwise_items s ls body
 scaled s ls body h =
     ap (map (λ k. (s.least + s.divisor * k) % 2 ^ 64)) (joined-block_lists s.count ls body h)
     ∙ map-map (block_item s.count ls body) (λ k. (s.least + s.divisor * k) % 2 ^ 64) (range_with_len 0 s.count)
 
 -- a list in blocks, where its lines are read
-pub blockwise_values-some : (s : Stats) (bytes body footer : List ℕ) (ls : List Slope) → parts_by_second w64 bytes ≡ Some (body, footer) → (items slope_at (div_ceil s.count 512) footer >>= nothing_left) ≡ Some ls → blockwise_values s bytes ≡ only_if (are_blocks s.count ls body) (blockwise_items s ls body)
+pub blockwise_values-some : (s : Stats) (bytes body footer : List ℕ) (ls : List LinearParams) → parts_by_second w64 bytes ≡ Some (body, footer) → (items params_at (div_ceil s.count 512) footer >>= nothing_left) ≡ Some ls → blockwise_values s bytes ≡ only_if (are_blocks s.count ls body) (blockwise_items s ls body)
 unfolding blockwise_values
 blockwise_values-some s bytes body footer ls p q =
     let enough : s.count ≤ 512 * length ls = omega (arith, length-lines (div_ceil s.count 512) footer ls q) in
@@ -126,6 +126,6 @@ pub blockwise_values-no_parts : (s : Stats) (bytes : List ℕ) → parts_by_seco
 unfolding blockwise_values
 blockwise_values-no_parts s bytes p = rw p refl
 
-pub blockwise_values-no_lines : (s : Stats) (bytes body footer : List ℕ) → parts_by_second w64 bytes ≡ Some (body, footer) → (items slope_at (div_ceil s.count 512) footer >>= nothing_left) ≡ None → blockwise_values s bytes ≡ None
+pub blockwise_values-no_lines : (s : Stats) (bytes body footer : List ℕ) → parts_by_second w64 bytes ≡ Some (body, footer) → (items params_at (div_ceil s.count 512) footer >>= nothing_left) ≡ None → blockwise_values s bytes ≡ None
 unfolding blockwise_values
 blockwise_values-no_lines s bytes body footer p q = rw (p, q) refl

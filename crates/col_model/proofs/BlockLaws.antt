@@ -11,14 +11,14 @@ use Rattle.col_common.proofs.VIntLemmas.{group_bytes-short, group_bytes-long}
 use Rattle.col_bits.specs.Packed.{number_of}
 use Rattle.col_bits.proofs.PackedLemmas.{length-digits}
 use Rattle.col_model.specs.Stats.{Stats, stats_of}
-use Rattle.col_model.specs.U64List.{Slope, slope_at, block_len, blocks, joined_lists, blockwise_values}
-use Rattle.col_model.specs.Codecs.{slope_bytes, offsets_from, block_size, cut_blocks, block_count, blocks_of, block_line, packed_block, lines_bytes, blocks_bytes, steps_above, blockwise_body}
+use Rattle.col_model.specs.U64List.{LinearParams, params_at, block_len, blocks, joined_lists, blockwise_values}
+use Rattle.col_model.specs.Codecs.{params_bytes, offsets_from, block_size, cut_blocks, block_count, blocks_of, block_line, packed_block, lines_bytes, blocks_bytes, steps_above, blockwise_body}
 use Rattle.col_model.specs.Laws.{BlockwiseIsReadBack}
 use Rattle.col_model.proofs.StatsLaws.{all_by, mapped_all, map-map, map-same}
 use Rattle.col_model.proofs.ListLaws.{all_taken, all_dropped}
 use Rattle.col_model.proofs.ReadingLaws.{front-append, parts_by_second-w64, items-flat_map}
 use Rattle.col_model.proofs.U64ListLaws.{stats_of-describes, steps_list-back}
-use Rattle.col_model.proofs.CodecLaws.{IsWritable, slope_at-slope_bytes, block_line-writable, block_offsets-fit}
+use Rattle.col_model.proofs.CodecLaws.{IsWritable, params_at-params_bytes, block_line-writable, block_offsets-fit}
 use Rattle.col_model.proofs.LinearLaws.{length-offsets_from, packed-packed_offsets, items-above_line, values64-behind_stats}
 
 -- ---- cuts into blocks
@@ -67,10 +67,10 @@ lines-writable : (bs : List (List ℕ)) → AllByRecursion IsWritable (map block
 lines-writable [] = tt
 lines-writable (b ∷ bs) = (block_line-writable b, lines-writable bs)
 
-pub items-lines_bytes : (n : ℕ) (bs : List (List ℕ)) → n ≡ length bs → (items slope_at n (lines_bytes bs) >>= nothing_left) ≡ Some (map block_line bs)
+pub items-lines_bytes : (n : ℕ) (bs : List (List ℕ)) → n ≡ length bs → (items params_at n (lines_bytes bs) >>= nothing_left) ≡ Some (map block_line bs)
 items-lines_bytes n bs e =
-    let read = items-flat_map slope_at slope_bytes IsWritable slope_at-slope_bytes (map block_line bs) [] (lines-writable bs) in
-    let same = rw (append-nil, flat_map-map slope_bytes block_line bs, length-map bs block_line, ← e) at read in
+    let read = items-flat_map params_at params_bytes IsWritable params_at-params_bytes (map block_line bs) [] (lines-writable bs) in
+    let same = rw (append-nil, flat_map-map params_bytes block_line bs, length-map bs block_line, ← e) at read in
     rw same refl
 
 length-group_bytes : (k n : ℕ) → length (group_bytes k n) ≤ k
@@ -82,13 +82,13 @@ length-group_bytes (suc k) n =
       | inr p ↦ rw (group_bytes-long k n p) (omega (arith, length-group_bytes k (n / 128)))
     ]
 
-length-slope_bytes : (l : Slope) → length (slope_bytes l) ≤ 39
-unfolding slope_bytes
-length-slope_bytes l = rw (length-append, length-append) (omega (arith, length-group_bytes 19 l.slope, length-group_bytes 19 l.intercept))
+length-params_bytes : (l : LinearParams) → length (params_bytes l) ≤ 39
+unfolding params_bytes
+length-params_bytes l = rw (length-append, length-append) (omega (arith, length-group_bytes 19 l.slope, length-group_bytes 19 l.intercept))
 
 pub length-lines_bytes : (bs : List (List ℕ)) → length (lines_bytes bs) ≤ 39 * length bs
 length-lines_bytes [] = omega arith
-length-lines_bytes (b ∷ bs) = rw (length-append (slope_bytes (block_line b)) (lines_bytes bs)) (omega (arith, length-slope_bytes (block_line b), length-lines_bytes bs))
+length-lines_bytes (b ∷ bs) = rw (length-append (params_bytes (block_line b)) (lines_bytes bs)) (omega (arith, length-params_bytes (block_line b), length-lines_bytes bs))
 
 -- ---- lists are read back
 

@@ -2,17 +2,18 @@
 use Rattle.std.proofs.Common.{◌≡◌, ℕ, zero, suc, ◌+◌, ◌-◌, ◌*◌, ◌<◌, ◌≤◌, ◌==◌, ◌&&◌, Bool, true, false, nat_le, List, [], ◌∷◌, length, take, drop, slice_index_or, refl, ap, sym, ◌∙◌, arith, add-one}
 use Rattle.std.proofs.lemmas.Bool.{le-leb, lt-leb}
 use Rattle.std.proofs.lemmas.List.{drop-drop, drop_more, drop_all, length-drop}
-use Rattle.col_model.specs.U64List.{Slope, block_len}
-use Rattle.col_model.specs.Items.{is_packed, block_bytes, block_start, are_blocks}
+use Rattle.col_model.specs.U64List.{LinearParams, block_len}
+use Rattle.col_bits.specs.Packed.{is_packed}
+use Rattle.col_model.specs.Items.{block_bytes, block_start, are_blocks}
 
 -- the first block begins at the front
-pub block_start-first : (n : ℕ) (ls : List Slope) → block_start n ls 0 ≡ 0
+pub block_start-first : (n : ℕ) (ls : List LinearParams) → block_start n ls 0 ≡ 0
 unfolding block_start
 block_start-first n [] = refl
 block_start-first n (l ∷ ls) = refl
 
 -- the next block begins behind a block
-pub block_start-more : (n : ℕ) (ls : List Slope) (k : ℕ) (d : Slope) → k < length ls → block_start n ls (k + 1) ≡ block_start n ls k + block_bytes (n - 512 * k) (slice_index_or ls k d)
+pub block_start-more : (n : ℕ) (ls : List LinearParams) (k : ℕ) (d : LinearParams) → k < length ls → block_start n ls (k + 1) ≡ block_start n ls k + block_bytes (n - 512 * k) (slice_index_or ls k d)
 unfolding block_start
 block_start-more n [] k d h = absurd (omega arith)
 block_start-more n (l ∷ ls) zero d h = let all : n - 512 * 0 ≡ n = omega arith in rw (block_start-first (n - 512) ls, all) (omega arith)
@@ -24,18 +25,18 @@ block_start-more n (l ∷ ls) (suc k) d h =
     rw (add-one, later) (omega arith)
 
 -- A reader has read k blocks and stands at the next one.
-pub record IsAtBlock (n : ℕ) (ls : List Slope) (bytes : List ℕ) (k start : ℕ) : Type 0 where
+pub record IsAtBlock (n : ℕ) (ls : List LinearParams) (bytes : List ℕ) (k start : ℕ) : Type 0 where
   pub start_is : start ≡ block_start n ls k
   pub within : start ≤ length bytes
   pub so_far : are_blocks n ls bytes ≡ are_blocks (n - 512 * k) (drop k ls) (drop start bytes)
 
-pub at_block-first : (n : ℕ) (ls : List Slope) (bytes : List ℕ) → IsAtBlock n ls bytes 0 0
+pub at_block-first : (n : ℕ) (ls : List LinearParams) (bytes : List ℕ) → IsAtBlock n ls bytes 0 0
 at_block-first n ls bytes =
     let all : n - 512 * 0 ≡ n = omega arith in
     record { start_is = sym (block_start-first n ls); within = omega arith; so_far = rw all refl }
 
 -- the test of a block and of those behind it
-at_block-test : (n : ℕ) (ls : List Slope) (bytes : List ℕ) (k start : ℕ) (d : Slope) → IsAtBlock n ls bytes k start → k < length ls
+at_block-test : (n : ℕ) (ls : List LinearParams) (bytes : List ℕ) (k start : ℕ) (d : LinearParams) → IsAtBlock n ls bytes k start → k < length ls
     → let l = slice_index_or ls k d in let m = n - 512 * k in let rest = drop start bytes in
     are_blocks n ls bytes ≡ (nat_le (block_bytes m l) (length rest) && is_packed (take (block_bytes m l) rest) (block_len m * l.offset_width) && are_blocks (n - 512 * (k + 1)) (drop (k + 1) ls) (drop (start + block_bytes m l) bytes))
 unfolding are_blocks
@@ -45,7 +46,7 @@ at_block-test n ls bytes k start d so h =
     let fewer : n - 512 * (k + 1) ≡ m - 512 = omega arith in
     rw (so.so_far, drop_more ls k d h, fewer, ← drop-drop (block_bytes m l) start bytes) refl
 
-pub at_block-more : (n : ℕ) (ls : List Slope) (bytes : List ℕ) (k start : ℕ) (d : Slope) → IsAtBlock n ls bytes k start → k < length ls
+pub at_block-more : (n : ℕ) (ls : List LinearParams) (bytes : List ℕ) (k start : ℕ) (d : LinearParams) → IsAtBlock n ls bytes k start → k < length ls
     → let l = slice_index_or ls k d in let m = n - 512 * k in
     start + block_bytes m l ≤ length bytes → is_packed (take (block_bytes m l) (drop start bytes)) (block_len m * l.offset_width) ≡ true → IsAtBlock n ls bytes (k + 1) (start + block_bytes m l)
 at_block-more n ls bytes k start d so h fits e =
@@ -59,7 +60,7 @@ at_block-more n ls bytes k start d so h fits e =
     }
 
 -- a block that isn't there whole
-pub at_block-short : (n : ℕ) (ls : List Slope) (bytes : List ℕ) (k start : ℕ) (d : Slope) → IsAtBlock n ls bytes k start → k < length ls → length bytes < start + block_bytes (n - 512 * k) (slice_index_or ls k d) → are_blocks n ls bytes ≡ false
+pub at_block-short : (n : ℕ) (ls : List LinearParams) (bytes : List ℕ) (k start : ℕ) (d : LinearParams) → IsAtBlock n ls bytes k start → k < length ls → length bytes < start + block_bytes (n - 512 * k) (slice_index_or ls k d) → are_blocks n ls bytes ≡ false
 at_block-short n ls bytes k start d so h short =
     let l = slice_index_or ls k d in
     let m = n - 512 * k in
@@ -71,13 +72,13 @@ refused true c = refl
 refused false c = refl
 
 -- a block with spare bits that aren't 0
-pub at_block-spare : (n : ℕ) (ls : List Slope) (bytes : List ℕ) (k start : ℕ) (d : Slope) → IsAtBlock n ls bytes k start → k < length ls
+pub at_block-spare : (n : ℕ) (ls : List LinearParams) (bytes : List ℕ) (k start : ℕ) (d : LinearParams) → IsAtBlock n ls bytes k start → k < length ls
     → let l = slice_index_or ls k d in let m = n - 512 * k in
     is_packed (take (block_bytes m l) (drop start bytes)) (block_len m * l.offset_width) ≡ false → are_blocks n ls bytes ≡ false
 at_block-spare n ls bytes k start d so h e = rw (at_block-test n ls bytes k start d so h, e) (refused _ _)
 
 -- behind the last block nothing stands
-pub at_block-end : (n : ℕ) (ls : List Slope) (bytes : List ℕ) (k start : ℕ) → IsAtBlock n ls bytes k start → length ls ≤ k → are_blocks n ls bytes ≡ (length bytes - start == 0)
+pub at_block-end : (n : ℕ) (ls : List LinearParams) (bytes : List ℕ) (k start : ℕ) → IsAtBlock n ls bytes k start → length ls ≤ k → are_blocks n ls bytes ≡ (length bytes - start == 0)
 unfolding are_blocks
 at_block-end n ls bytes k start so h = rw (so.so_far, drop_all k ls h, length-drop start bytes) refl
 

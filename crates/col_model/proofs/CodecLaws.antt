@@ -7,8 +7,8 @@ use Rattle.col_common.proofs.VIntLemmas.{vint-vint_bytes}
 use Rattle.col_model.specs.Stats.{least_of, greatest_of}
 use Rattle.col_model.specs.Line.{line, signed_32}
 use Rattle.col_model.specs.Training.{less_wrapped, line_of}
-use Rattle.col_model.specs.U64List.{Slope, slope_at}
-use Rattle.col_model.specs.Codecs.{slope_bytes, offset_from, offsets_from, half_space, block_size, deviation, deviations, linear_line, block_line}
+use Rattle.col_model.specs.U64List.{LinearParams, params_at}
+use Rattle.col_model.specs.Codecs.{params_bytes, offset_from, offsets_from, half_space, block_size, deviation, deviations, linear_line, block_line}
 use Rattle.col_model.proofs.StatsLaws.{least_of-all, fold-max, fold-max-one, all_by, all_mapped, mapped_all, all_both}
 use Rattle.col_model.proofs.WidthLaws.{width-above}
 use Rattle.col_model.proofs.TrainingLaws.{less_wrapped-below, trained_line-below}
@@ -30,15 +30,15 @@ is_width-width n =
     ]
 
 -- a line that can be written
-pub record IsWritable (l : Slope) : Type 0 where
+pub record IsWritable (l : LinearParams) : Type 0 where
   pub slope : l.slope < 2 ^ 64
   pub intercept : l.intercept < 2 ^ 64
   pub offset_width : is_width l.offset_width ≡ true
 
 -- a line is read back from its bytes, whatever follows
-pub slope_at-slope_bytes : (l : Slope) (rest : List ℕ) → IsWritable l → slope_at (slope_bytes l ++ rest) ≡ Some (l, rest)
-unfolding slope_at slope_bytes
-slope_at-slope_bytes l rest h =
+pub params_at-params_bytes : (l : LinearParams) (rest : List ℕ) → IsWritable l → params_at (params_bytes l ++ rest) ≡ Some (l, rest)
+unfolding params_at params_bytes
+params_at-params_bytes l rest h =
     rw (append_assoc, append_assoc, vint-vint_bytes l.slope _ h.slope, vint-vint_bytes l.intercept _ h.intercept, h.offset_width) refl
 
 -- the lines that are trained can be written
@@ -57,7 +57,7 @@ pub block_line-writable : (xs : List ℕ) → IsWritable (block_line xs)
 unfolding block_line
 block_line-writable xs =
     let l = line_of xs in
-    let bare : Slope = record { slope = l.0; intercept = l.1; offset_width = 0 } in
+    let bare : LinearParams = record { slope = l.0; intercept = l.1; offset_width = 0 } in
     record {
       slope = (trained_line-below _ _ _ _).0;
       intercept = (trained_line-below _ _ _ _).1;
@@ -114,14 +114,14 @@ linear_offsets-fit xs = mapped_all (λ v. v < 2 ^ (linear_line xs).offset_width)
 -- ---- blocks
 
 -- a block's line without its width
-abbrev pub bare_line : List ℕ → Slope
+abbrev pub bare_line : List ℕ → LinearParams
 bare_line xs = record { slope = (line_of xs).0; intercept = (line_of xs).1; offset_width = 0 }
 
-offsets-below : (l : Slope) (ps : List (ℕ × ℕ)) → AllByRecursion (λ v. v < 2 ^ 64) (map (offset_from l) ps)
+offsets-below : (l : LinearParams) (ps : List (ℕ × ℕ)) → AllByRecursion (λ v. v < 2 ^ 64) (map (offset_from l) ps)
 offsets-below l [] = tt
 offsets-below l (p ∷ ps) = (less_wrapped-below p.1 (line l.slope l.intercept p.0), offsets-below l ps)
 
-greatest_offset-below : (l : Slope) (xs : List ℕ) → greatest_of (offsets_from l xs) < 2 ^ 64
+greatest_offset-below : (l : LinearParams) (xs : List ℕ) → greatest_of (offsets_from l xs) < 2 ^ 64
 greatest_offset-below l xs = fold-max-one (λ v. v < 2 ^ 64) 0 (offsets_from l xs) (lit< tt) (offsets-below l (enumerate_from 0 xs))
 
 -- the offsets of a block from its line fit the line's width

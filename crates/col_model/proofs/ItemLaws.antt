@@ -6,12 +6,12 @@ use Rattle.std.proofs.lemmas.List.FromFn.{fill_by_all, length-map-range_with_len
 use Rattle.std.proofs.lemmas.Nat.{pow-add, pow_pos, row_fits}
 use native.Mathlib.Nat.{add-mul-mod_self_right, add-mul-div_right}
 use Rattle.col_common.specs.Reading.{only_if, ◌>>=◌}
-use Rattle.col_bits.specs.Packed.{number_of, digits, item, packed}
+use Rattle.col_bits.specs.Packed.{number_of, digits, item, packed, is_packed}
 use Rattle.col_bits.proofs.PackedLemmas.{digits-at, length-digits, pow-pow, number_of-append}
 use Rattle.col_model.specs.Stats.{Stats}
 use Rattle.col_model.specs.Line.{line}
-use Rattle.col_model.specs.U64List.{Slope, slope_at, above_line, linear_values}
-use Rattle.col_model.specs.Items.{is_packed, linear_item, linear_items}
+use Rattle.col_model.specs.U64List.{LinearParams, params_at, above_line, linear_values}
+use Rattle.col_model.specs.Items.{linear_item, linear_items}
 
 -- the digits of the bytes' number are its items
 pub digits-items : (bytes : List ℕ) (w n : ℕ) → digits (2 ^ w) n (number_of 256 bytes) ≡ map (item bytes w) (range_with_len 0 n)
@@ -62,33 +62,33 @@ only_if-then f true x = refl
 only_if-then f false x = refl
 
 -- offsets above a line, place by place
-above-range : (l : Slope) (f : ℕ → ℕ) (k n : ℕ) → map (above_line l) (enumerate_from k (map f (range_with_len k n))) ≡ map (λ i. (line l.slope l.intercept i + f i) % 2 ^ 64) (range_with_len k n)
+above-range : (l : LinearParams) (f : ℕ → ℕ) (k n : ℕ) → map (above_line l) (enumerate_from k (map f (range_with_len k n))) ≡ map (λ i. (line l.slope l.intercept i + f i) % 2 ^ 64) (range_with_len k n)
 above-range l f k zero = refl
 above-range l f k (suc n) = ap (λ r. (line l.slope l.intercept k + f k) % 2 ^ 64 ∷ r) (above-range l f (k + 1) n)
 
-pub above_line-items : (l : Slope) (bytes : List ℕ) (n : ℕ) → map (above_line l) (enumerate_from 0 (map (item bytes l.offset_width) (range_with_len 0 n))) ≡ linear_items l bytes n
+pub above_line-items : (l : LinearParams) (bytes : List ℕ) (n : ℕ) → map (above_line l) (enumerate_from 0 (map (item bytes l.offset_width) (range_with_len 0 n))) ≡ linear_items l bytes n
 above_line-items l bytes n = above-range l (item bytes l.offset_width) 0 n
 
 -- a list under Linear, where its line is read
-pub linear_values-some : (s : Stats) (bytes : List ℕ) (l : Slope) (rest : List ℕ) → slope_at bytes ≡ Some (l, rest) → linear_values s bytes ≡ only_if (is_packed rest (s.count * l.offset_width)) (linear_items l rest s.count)
+pub linear_values-some : (s : Stats) (bytes : List ℕ) (l : LinearParams) (rest : List ℕ) → params_at bytes ≡ Some (l, rest) → linear_values s bytes ≡ only_if (is_packed rest (s.count * l.offset_width)) (linear_items l rest s.count)
 unfolding linear_values
 linear_values-some s bytes l rest e =
     let test = is_packed rest (s.count * l.offset_width) in
     let offsets = map (item rest l.offset_width) (range_with_len 0 s.count) in
     rw (e, packed-items rest l.offset_width s.count) (only_if-then (λ os. map (above_line l) (enumerate_from 0 os)) test offsets ∙ ap (only_if test) (above_line-items l rest s.count))
 
-pub linear_values-none : (s : Stats) (bytes : List ℕ) → slope_at bytes ≡ None → linear_values s bytes ≡ None
+pub linear_values-none : (s : Stats) (bytes : List ℕ) → params_at bytes ≡ None → linear_values s bytes ≡ None
 unfolding linear_values
 linear_values-none s bytes e = rw e refl
 
 -- ---- for a reader of the items
 
-pub length-linear_items : (l : Slope) (bytes : List ℕ) (n : ℕ) → length (linear_items l bytes n) ≡ n
+pub length-linear_items : (l : LinearParams) (bytes : List ℕ) (n : ℕ) → length (linear_items l bytes n) ≡ n
 length-linear_items l bytes n = length-map-range_with_len (linear_item l bytes) 0 n
 
-pub linear_items-at : (l : Slope) (bytes : List ℕ) (n i : ℕ) → i < n → slice_index (linear_items l bytes n) i ≡ linear_item l bytes i
+pub linear_items-at : (l : LinearParams) (bytes : List ℕ) (n i : ℕ) → i < n → slice_index (linear_items l bytes n) i ≡ linear_item l bytes i
 linear_items-at l bytes n i h = get_or-map-range_with_len (linear_item l bytes) 0 n i i 0 h (omega arith)
 
 -- one item more
-pub linear_items-push : (l : Slope) (bytes : List ℕ) (n : ℕ) → linear_items l bytes (n + 1) ≡ linear_items l bytes n ++ linear_item l bytes n ∷ []
+pub linear_items-push : (l : LinearParams) (bytes : List ℕ) (n : ℕ) → linear_items l bytes (n + 1) ≡ linear_items l bytes n ++ linear_item l bytes n ∷ []
 linear_items-push l bytes n = map-range_with_len_more (linear_item l bytes) 0 n n (omega arith)

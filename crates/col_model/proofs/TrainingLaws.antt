@@ -3,7 +3,7 @@ use Rattle.std.proofs.Common.{◌≡◌, ℕ, ◌+◌, ◌-◌, ◌*◌, ◌/◌
 use Rattle.std.proofs.lemmas.Bool.{cases_eq, cases_lt, lt-ltb, le-ltb, le-leb, lt-leb, eq-eqb, ne_eqb}
 use Rattle.col_model.specs.Line.{signed_32, line}
 use Rattle.col_model.specs.Training.{less_wrapped, rise, fall, trained_slope, trained_line}
-use Rattle.col_model.specs.U64List.{Slope, above_line}
+use Rattle.col_model.specs.U64List.{LinearParams, above_line}
 use Rattle.col_model.specs.Codecs.{offset_from}
 
 -- a line's value fits 64 bits
@@ -19,7 +19,7 @@ pub add-less_wrapped : (v n : ℕ) → v < 2 ^ 64 → n < 2 ^ 64 → (n + less_w
 add-less_wrapped v n p q = omega arith
 
 -- an item lies above the line by its offset
-pub above_line-offset_from : (l : Slope) (i v : ℕ) → v < 2 ^ 64 → above_line l (i, offset_from l (i, v)) ≡ v
+pub above_line-offset_from : (l : LinearParams) (i v : ℕ) → v < 2 ^ 64 → above_line l (i, offset_from l (i, v)) ≡ v
 above_line-offset_from l i v p = add-less_wrapped v (line l.slope l.intercept i) p (line-below l.slope l.intercept i)
 
 rise-below : (a steps : ℕ) → rise a steps < 2 ^ 64

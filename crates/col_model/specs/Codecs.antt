@@ -8,22 +8,22 @@ use Rattle.col_bits.specs.Packed.{packed_bytes, width, binary_digits}
 use Rattle.col_model.specs.Stats.{Stats, stats_of, steps_of, stats_bytes, least_of, greatest_of}
 use Rattle.col_model.specs.Line.{line}
 use Rattle.col_model.specs.Training.{less_wrapped, line_of}
-use Rattle.col_model.specs.U64List.{Slope, joined_lists}
+use Rattle.col_model.specs.U64List.{LinearParams, joined_lists}
 
 -- how far an item at its position lies above a line, modulo 2 ^ 64
-abbrev pub offset_from : Slope → ℕ × ℕ → ℕ
+abbrev pub offset_from : LinearParams → ℕ × ℕ → ℕ
 offset_from l p = less_wrapped p.1 (line l.slope l.intercept p.0)
 
 -- the offsets of a list from a line
-abbrev pub offsets_from : Slope → List ℕ → List ℕ
+abbrev pub offsets_from : LinearParams → List ℕ → List ℕ
 offsets_from l xs = map (offset_from l) (enumerate_from 0 xs)
 
 -- the bytes of a line: slope, intercept, width
-unfoldable pub slope_bytes : Slope → List ℕ
-slope_bytes l = vint_bytes l.slope ++ (vint_bytes l.intercept ++ (l.offset_width ∷ []))
+unfoldable pub params_bytes : LinearParams → List ℕ
+params_bytes l = vint_bytes l.slope ++ (vint_bytes l.intercept ++ (l.offset_width ∷ []))
 
 -- the offsets of a list from a line, packed
-abbrev pub packed_offsets : Slope → List ℕ → List ℕ
+abbrev pub packed_offsets : LinearParams → List ℕ → List ℕ
 packed_offsets l xs = packed_bytes l.offset_width (offsets_from l xs)
 
 -- half of the numbers below 2 ^ 64, without one
@@ -44,7 +44,7 @@ block_size = 512
 
 -- The line of a list under Linear: trained on the first 512 items, and raised by the least
 -- deviation; the width is that of the greatest deviation less the least.
-unfoldable pub linear_line : List ℕ → Slope
+unfoldable pub linear_line : List ℕ → LinearParams
 linear_line xs =
     let l = line_of (take block_size xs) in
     let low = least_of (deviations l xs) in
@@ -58,7 +58,7 @@ linear_line xs =
 unfoldable pub linear_body : List ℕ → List ℕ
 linear_body xs =
     let l = linear_line xs in
-    stats_bytes (stats_of xs) ++ (slope_bytes l ++ packed_offsets l xs)
+    stats_bytes (stats_of xs) ++ (params_bytes l ++ packed_offsets l xs)
 
 -- k blocks of a list, the last one maybe shorter
 unfoldable pub cut_blocks : ℕ → List ℕ → List (List ℕ)
@@ -74,10 +74,10 @@ abbrev pub blocks_of : List ℕ → List (List ℕ)
 blocks_of xs = cut_blocks (block_count (length xs)) xs
 
 -- The line of a block: trained on all of it; the width is the greatest of those of the offsets.
-unfoldable pub block_line : List ℕ → Slope
+unfoldable pub block_line : List ℕ → LinearParams
 block_line xs =
     let l = line_of xs in
-    let bare : Slope = record { slope = l.0; intercept = l.1; offset_width = 0 } in
+    let bare : LinearParams = record { slope = l.0; intercept = l.1; offset_width = 0 } in
     let w = width (greatest_of (offsets_from bare xs)) in
     record { slope = l.0; intercept = l.1; offset_width = w }
 
@@ -87,7 +87,7 @@ packed_block xs = packed_offsets (block_line xs) xs
 
 -- the bytes of the blocks' lines
 abbrev pub lines_bytes : List (List ℕ) → List ℕ
-lines_bytes bs = flat_map (λ b. slope_bytes (block_line b)) bs
+lines_bytes bs = flat_map (λ b. params_bytes (block_line b)) bs
 
 -- blocks, their lines, and the length of the lines
 unfoldable pub blocks_bytes : List (List ℕ) → List ℕ
@@ -111,7 +111,7 @@ bitpacked_body xs =
     stats_bytes s ++ packed_bytes (width (steps_of s)) (steps_above s xs)
 
 -- the bytes of slope and intercept
-abbrev pub line_len : Slope → ℕ
+abbrev pub line_len : LinearParams → ℕ
 line_len l = length (vint_bytes l.slope) + length (vint_bytes l.intercept)
 
 -- the bytes that n items of w bits take

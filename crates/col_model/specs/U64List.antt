@@ -19,26 +19,26 @@ abbrev pub width_at : List ℕ → Option (ℕ × List ℕ)
 width_at bytes = byte_at bytes >>= λ w. only_if (is_width w.0) w
 
 -- a line, and the width of the offsets from it
-pub record Slope : Type 0 where
+pub record LinearParams : Type 0 where
   pub slope : ℕ
   pub intercept : ℕ
   pub offset_width : ℕ
 
 -- the line and the width byte at the front, and the bytes behind them
-unfoldable pub slope_at : List ℕ → Option (Slope × List ℕ)
-slope_at bytes = do
+unfoldable pub params_at : List ℕ → Option (LinearParams × List ℕ)
+params_at bytes = do
   l ← line_at bytes
   w ← width_at l.1
   Some (record { slope = l.0.0; intercept = l.0.1; offset_width = w.0 }, w.1)
 
 -- the line's value at the offset's place plus the offset, modulo 2 ^ 64
-abbrev pub above_line : Slope → ℕ × ℕ → ℕ
+abbrev pub above_line : LinearParams → ℕ × ℕ → ℕ
 above_line l p = (line l.slope l.intercept p.0 + p.1) % 2 ^ 64
 
 -- Codec 1, Linear: a line, and each item's offset from it.
 unfoldable pub linear_values : Stats → List ℕ → Option (List ℕ)
 linear_values s bytes = do
-  l ← slope_at bytes
+  l ← params_at bytes
   offsets ← packed l.1 l.0.offset_width s.count
   Some (map (above_line l.0) (enumerate_from 0 offsets))
 
@@ -48,7 +48,7 @@ block_len n = min n 512
 
 -- what the blocks stand for: n items in blocks of 512, each with its line, and each beginning at
 -- a byte
-unfoldable pub blocks : ℕ → List Slope → List ℕ → Option (List (List ℕ) × List ℕ)
+unfoldable pub blocks : ℕ → List LinearParams → List ℕ → Option (List (List ℕ) × List ℕ)
 blocks n [] bytes = Some ([], bytes)
 blocks n (l ∷ ls) bytes = do
   part ← front (div_ceil (block_len n * l.offset_width) 8) bytes
@@ -66,7 +66,7 @@ joined_lists (xs ∷ xss) = xs ++ joined_lists xss
 unfoldable pub blockwise_values : Stats → List ℕ → Option (List ℕ)
 blockwise_values s bytes = do
   parts ← parts_by_second w64 bytes
-  lines ← items slope_at (div_ceil s.count 512) parts.1 >>= nothing_left
+  lines ← items params_at (div_ceil s.count 512) parts.1 >>= nothing_left
   values ← blocks s.count lines parts.0 >>= nothing_left
   Some (map (λ k. (s.least + s.divisor * k) % 2 ^ 64) (joined_lists values))
 

@@ -51,8 +51,8 @@ impl<'a, T: MonotonicallyMappableToU64, I: Iterable<T>> Iterable<u64> for Number
     }
 }
 
-// The statistics of a list; none of too many values.
-fn collect_stats<I: Iterable<u64>>(vals: &I) -> Option<ColumnStats>
+/// The statistics of a list; none of too many values.
+pub fn collect_stats<I: Iterable<u64>>(vals: &I) -> Option<ColumnStats>
     ensures stats { IfSome result (λ s. stats_seen s ≡ stats_of (I.items vals.now)) }
     ensures count { IfSome result (λ s. length (I.items vals.now) < 2 ^ 32) }
     ensures fit { IfSome result (λ s. AllByRecursion (λ x. x < 2 ^ 64) (I.items vals.now)) }

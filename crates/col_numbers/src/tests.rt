@@ -1,3 +1,7 @@
 //! Lists of numbers under any codec, by examples.
 
 mod choice;
+mod codecs;
+mod line;
+mod lists;
+mod stats;

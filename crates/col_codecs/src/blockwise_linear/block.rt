@@ -1,27 +1,18 @@
 //! Blocks of a list: their lines, and where their packed offsets begin.
-ghost use Rattle.std.specs.Prelude.{◌≡◌, ◌≤◌, true, map, length, option_map};
-ghost use Rattle.std.specs.Int.{w64};
-ghost use Rattle.col_common.specs.Reading.{back, parts_by_second};
+ghost use Rattle.std.specs.Prelude.{◌≡◌, ◌≤◌, true, map, length};
 ghost use Rattle.col_common.specs.Decoding.{Decodes};
 ghost use Rattle.col_model.specs.Items.{are_blocks};
-ghost use Rattle.col_codecs.specs.Blocks.{block_slope, lines_of, ArePlaced};
+ghost use Rattle.col_codecs.specs.Blocks.{block_params, lines_of, ArePlaced};
 
-use super::BLOCK_LEN;
 use crate::line::Line;
-use crate::packing::is_packed;
-use crate::slope::Slope;
-use col_bits::BitUnpacker;
-use col_common::ColumnarError;
+use crate::linear_params::LinearParams;
+use crate::packing::BLOCK_LEN;
+use col_bits::{BitUnpacker, is_packed};
+use col_common::{BYTE_BITS, ColumnarError};
 use std::alloc::Global;
-
-// The bytes of the lines' length.
-const LINES_LEN_NUM_BYTES: usize = 8;
 
 // The fewest bytes of a line: slope, intercept and width.
 const MIN_LINE_NUM_BYTES: usize = 3;
-
-// The bits of a byte.
-const BYTE_BITS: usize = 8;
 
 /// A block: its line, the width of the offsets from it, and where these begin in the data.
 #[derive(Clone, Copy)]
@@ -46,31 +37,9 @@ impl Block {
     }
 }
 
-/// The packed blocks and their lines, behind which the length of the lines stands.
-#[tactic(auto, unfolding(col_common::specs::Reading::parts_by_second))]
-pub fn split_lines(bytes: &[u8]) -> Option<(&[u8], &[u8])>
-    ensures { option_map (λ r. (r.0.now, r.1.now)) result ≡ parts_by_second w64 bytes.now }
-{
-    let (parts, len) = split_back(bytes, LINES_LEN_NUM_BYTES)?;
-    let len = u64::from_le_bytes([
-        len[0], len[1], len[2], len[3], len[4], len[5], len[6], len[7],
-    ]);
-    split_back(parts, len as usize)
-}
-
-// The others, and the last bytes, so many.
-fn split_back(bytes: &[u8], count: usize) -> Option<(&[u8], &[u8])>
-    ensures { option_map (λ r. (r.0.now, r.1.now)) result ≡ back count bytes.now }
-{
-    if count > bytes.len() {
-        return None;
-    }
-    Some(bytes.split_at(bytes.len() - count))
-}
-
 /// So many lines and nothing else, each of a block that isn't placed yet.
 pub fn read_blocks(alloc: Global, count: u32, lines: &[u8]) -> Result<Vec<Block>, ColumnarError>
-    ensures { Decodes (λ bs. map block_slope bs.items) result (lines_of count lines.now) }
+    ensures { Decodes (λ bs. map block_params bs.items) result (lines_of count lines.now) }
 {
     if lines.len() / MIN_LINE_NUM_BYTES < count as usize {
         return Err(ColumnarError::InvalidData);
@@ -78,12 +47,12 @@ pub fn read_blocks(alloc: Global, count: u32, lines: &[u8]) -> Result<Vec<Block>
     let mut blocks = Vec::with_capacity(alloc, count as usize)?;
     let mut lines = lines;
     for _block_id in 0..count {
-        let Some((slope, rest)) = Slope::read(lines) else {
+        let Some((params, rest)) = LinearParams::read(lines) else {
             return Err(ColumnarError::InvalidData);
         };
         blocks.push(Block {
-            line: slope.line,
-            bit_unpacker: BitUnpacker::new(slope.offset_width),
+            line: params.line,
+            bit_unpacker: BitUnpacker::new(params.offset_width),
             start: 0,
         })?;
         lines = rest;
@@ -96,8 +65,8 @@ pub fn read_blocks(alloc: Global, count: u32, lines: &[u8]) -> Result<Vec<Block>
 
 /// Places blocks one behind another, and says whether the data is just these, so many values.
 pub fn place_blocks(num_vals: u32, blocks: &mut [Block], data: &[u8]) -> bool
-    ensures slopes { map block_slope blocks.new ≡ map block_slope blocks.old }
-    ensures packed { result ≡ are_blocks num_vals (map block_slope blocks.old) «data».now }
+    ensures params { map block_params blocks.new ≡ map block_params blocks.old }
+    ensures packed { result ≡ are_blocks num_vals (map block_params blocks.old) «data».now }
     ensures placed { result ≡ true → ArePlaced num_vals blocks.new «data».now }
 {
     let mut left = num_vals;
@@ -106,7 +75,7 @@ pub fn place_blocks(num_vals: u32, blocks: &mut [Block], data: &[u8]) -> bool
         let len = left.min(BLOCK_LEN);
         let mut block = blocks[at];
         let num_bits = len as usize * block.bit_unpacker.bit_width() as usize;
-        let num_bytes = num_bits.div_ceil(BYTE_BITS);
+        let num_bytes = num_bits.div_ceil(BYTE_BITS as usize);
         if num_bytes > data.len() - start {
             return false;
         }

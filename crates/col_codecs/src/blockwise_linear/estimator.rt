@@ -10,14 +10,8 @@ use super::writer::serialize_blocks;
 use crate::codec::ColumnCodecEstimator;
 use crate::column_stats::ColumnStats;
 use crate::packing::BLOCK_SIZE;
-use col_common::{ColumnarError, Iterable, Sink};
+use col_common::{BYTE_BITS, ColumnarError, Iterable, Sink, U64_NUM_BYTES};
 use std::alloc::{AllocError, Global};
-
-// The bytes of the lines' length.
-const LINES_LEN_NUM_BYTES: u64 = 8;
-
-// The bits of a byte.
-const BYTE_BITS: u64 = 8;
 
 // The binary logarithm of 2^64, less 1.
 const MAX_LOG: u32 = 63;
@@ -37,8 +31,9 @@ fn estimate_block(vals: &mut [u64]) -> u64
     ensures { result ≡ block_estimate vals.old }
 {
     let count = vals.len() as u64;
-    let slope = train_offsets(vals);
-    1 + slope.line.num_bytes() + (count * u64::from(slope.offset_width)).div_ceil(BYTE_BITS)
+    let params = train_offsets(vals);
+    1 + params.line.num_bytes()
+        + (count * u64::from(params.offset_width)).div_ceil(BYTE_BITS as u64)
 }
 
 // The binary logarithm, rounded down.
@@ -110,8 +105,8 @@ impl ColumnCodecEstimator for BlockwiseLinearEstimator {
     }
 
     fn estimate(&self, stats: &ColumnStats) -> Option<u64> {
-        let num_bytes = LINES_LEN_NUM_BYTES + stats.num_bytes() + self.num_bytes;
-        let spared = u64::from(log2(stats.gcd)) * u64::from(stats.num_rows) / BYTE_BITS;
+        let num_bytes = U64_NUM_BYTES as u64 + stats.num_bytes() + self.num_bytes;
+        let spared = u64::from(log2(stats.gcd)) * u64::from(stats.num_rows) / BYTE_BITS as u64;
         Some(num_bytes.saturating_sub(spared))
     }
 

@@ -7,12 +7,12 @@ ghost use Rattle.col_codecs.specs.Header.{list_by};
 ghost use Rattle.col_model.specs.Codecs.{block_size, block_count};
 ghost use Rattle.col_codecs.specs.Blocks.{item_of, items_in, step_in, step_of, AreWithin, IsReader};
 
-use super::BLOCK_LEN;
-use super::block::{Block, place_blocks, read_blocks, split_lines};
+use super::block::{Block, place_blocks, read_blocks};
 use super::statistics::are_stats_of;
 use crate::column_stats::ColumnStats;
+use crate::packing::BLOCK_LEN;
 use bytes::Bytes;
-use col_common::ColumnarError;
+use col_common::{ColumnarError, split_by_second};
 use col_values::ColumnValues;
 use std::alloc::Global;
 use std::marker::Model;
@@ -84,7 +84,7 @@ fn read_list(
     ensures reader { IfOk result
         (λ r. IsReader (stats_seen stats.now) r.0.items (take r.1 bytes.now)) }
 {
-    let Some((data, lines)) = split_lines(bytes) else {
+    let Some((data, lines)) = split_by_second(bytes) else {
         return Err(ColumnarError::InvalidData);
     };
     let mut blocks = read_blocks(alloc, stats.num_rows.div_ceil(BLOCK_LEN), lines)?;

@@ -7,9 +7,9 @@ ghost use Rattle.col_model.specs.Codecs.{block_count};
 ghost use Rattle.col_codecs.specs.ColumnStats.{stats_seen, collected_of, IsPossible};
 ghost use Rattle.col_codecs.specs.Blocks.{AreWithin, items_in, steps_in_block, is_whole, own_step};
 
-use super::BLOCK_LEN;
 use super::block::Block;
 use crate::column_stats::ColumnStats;
+use crate::packing::BLOCK_LEN;
 use crate::stats_collector::StatsCollector;
 
 /// Whether these are the statistics of the list in blocks.
@@ -58,6 +58,7 @@ fn collect_block(
         result ≡ only_if (list_all (is_whole (stats_seen stats.now)) own)
         (collected_of (xs ++ map (own_step (stats_seen stats.now)) own)) }
 {
+    let block = *block;
     let mut collector = collector;
     for at in 0..len {
         let Some(step) = whole_step(stats, steps, block.step_at(at, data)) else {

@@ -9,22 +9,20 @@ ghost use Rattle.col_model.specs.Codecs.{
   blocks_bytes,
   lines_bytes,
   packed_block,
-  slope_bytes,
+  params_bytes,
   block_line,
   steps_above,
 };
 ghost use Rattle.col_codecs.specs.ColumnStats.{stats_seen};
 ghost use Rattle.col_codecs.specs.Blocks.{IsBlock};
 
-use super::BLOCK_LEN;
 use super::offsets::train_offsets;
 use crate::column_stats::ColumnStats;
-use crate::packing::{BLOCK_SIZE, pack_block, take_block, take_steps};
+use crate::packing::{
+    BLOCK_LEN, BLOCK_SIZE, MAX_BLOCK_NUM_BYTES, pack_block, take_block, take_steps,
+};
 use col_common::{Buffer, ColumnarError, Iterable, Sink, serialize_bytes};
 use std::alloc::Global;
-
-// The bytes of a value.
-const WORD_BYTES: usize = 8;
 
 /// Adds a list's blocks, their lines, and the length of the lines.
 pub fn serialize_blocks<I: Iterable<u64>, K: Sink>(
@@ -68,7 +66,7 @@ fn serialize_packed<I: Iterable<u64>, K: Sink>(
         lines_bytes (blocks_of (steps_above (stats_seen stats.now) (I.items vals.now)))) }
 {
     let mut block = [0; BLOCK_SIZE];
-    let mut packed = Vec::with_capacity(alloc, BLOCK_SIZE * WORD_BYTES)?;
+    let mut packed = Vec::with_capacity(alloc, MAX_BLOCK_NUM_BYTES)?;
     let mut at = vals.walk();
     for _block_id in 0..stats.num_rows.div_ceil(BLOCK_LEN) {
         let taken = take_block(vals, &mut at, &mut block);
@@ -89,12 +87,12 @@ fn serialize_block<K: Sink>(
     ensures packed { Serializes (K.seen sink.old) (K.seen sink.new) result
         (packed_block (steps_above (stats_seen stats.now) vals.old)) }
     ensures line { OnOk result (lines.new ≡ lines.old
-        ++ slope_bytes (block_line (steps_above (stats_seen stats.now) vals.old))) }
+        ++ params_bytes (block_line (steps_above (stats_seen stats.now) vals.old))) }
 {
     take_steps(stats, vals);
-    let slope = train_offsets(vals);
-    slope.serialize(lines)?;
+    let params = train_offsets(vals);
+    params.serialize(lines)?;
     packed.clear();
-    pack_block(vals, slope.offset_width, packed)?;
+    pack_block(vals, params.offset_width, packed)?;
     serialize_bytes(sink, packed)
 }

@@ -5,26 +5,20 @@ ghost use Rattle.col_model.specs.Stats.{least_of, greatest_of, stats_of};
 ghost use Rattle.col_model.specs.Codecs.{deviation, deviations, linear_line, linear_body};
 ghost use Rattle.col_codecs.specs.ColumnStats.{stats_seen};
 ghost use Rattle.col_codecs.specs.Line.{line_seen};
-ghost use Rattle.col_codecs.specs.Slope.{slope_seen};
+ghost use Rattle.col_codecs.specs.LinearParams.{params_seen};
 
-use super::offsets::serialize_offsets;
 use crate::codec::ColumnCodecEstimator;
 use crate::column_stats::ColumnStats;
 use crate::line::Line;
-use crate::packing::BLOCK_SIZE;
-use crate::slope::Slope;
+use crate::linear_params::LinearParams;
+use crate::packing::{BLOCK_LEN, BLOCK_SIZE};
+use crate::turning::serialize_turned;
 use col_bits::compute_num_bits;
-use col_common::{ColumnarError, Iterable, Sink};
+use col_common::{BYTE_BITS, ColumnarError, Iterable, Sink};
 use std::alloc::{AllocError, Global};
 
 // Half of the numbers below 2^64, without one.
 const HALF_SPACE: u64 = u64::MAX / 2;
-
-// How many values the line is trained on.
-const TRAINED: u32 = BLOCK_SIZE as u32;
-
-// The bits of a byte.
-const BYTE_BITS: u64 = 8;
 
 /// Holds the first 512 values, then the line that is trained on them, and the least and the
 /// greatest deviation of all values from it.
@@ -32,7 +26,7 @@ const BYTE_BITS: u64 = 8;
 pub struct LinearCodecEstimator {
     block: Vec<u64>,
     row_id: u32,
-    slope: Slope,
+    linear_params: LinearParams,
     min_deviation: u64,
     max_deviation: u64,
 }
@@ -49,7 +43,7 @@ impl LinearCodecEstimator {
         Ok(LinearCodecEstimator {
             block: vec![in alloc; 0; BLOCK_SIZE]?,
             row_id: 0,
-            slope: Slope {
+            linear_params: LinearParams {
                 line: Line::default(),
                 offset_width: 0,
             },
@@ -65,8 +59,8 @@ impl LinearCodecEstimator {
         ensures { (xs : List ℕ) → IsCollected self.old xs
             → IsCollected self.new (xs ++ value ∷ []) }
     {
-        if self.row_id >= TRAINED {
-            let deviation = deviation_from(self.slope.line, self.row_id, value);
+        if self.row_id >= BLOCK_LEN {
+            let deviation = deviation_from(self.linear_params.line, self.row_id, value);
             self.min_deviation = self.min_deviation.min(deviation);
             self.max_deviation = self.max_deviation.max(deviation);
             self.row_id += 1;
@@ -74,7 +68,7 @@ impl LinearCodecEstimator {
         }
         self.block[self.row_id as usize] = value;
         self.row_id += 1;
-        if self.row_id == TRAINED {
+        if self.row_id == BLOCK_LEN {
             self.train();
         }
     }
@@ -90,7 +84,7 @@ impl LinearCodecEstimator {
     {
         let line = Line::train_block(&self.block);
         let (least, greatest) = deviation_bounds(line, &self.block);
-        self.slope.line = line;
+        self.linear_params.line = line;
         self.min_deviation = least;
         self.max_deviation = greatest;
     }
@@ -100,16 +94,16 @@ impl LinearCodecEstimator {
         requires { (xs : List ℕ) × IsCollected self.old xs × (length xs < 2 ^ 32) }
         ensures { (xs : List ℕ) → IsCollected self.old xs → IsFinalized self.new xs }
     {
-        if self.row_id < TRAINED {
+        if self.row_id < BLOCK_LEN {
             return;
         }
-        self.slope.line.intercept = self
-            .slope
+        self.linear_params.line.intercept = self
+            .linear_params
             .line
             .intercept
             .wrapping_add(self.min_deviation)
             .wrapping_sub(HALF_SPACE);
-        self.slope.offset_width = compute_num_bits(self.max_deviation - self.min_deviation);
+        self.linear_params.offset_width = compute_num_bits(self.max_deviation - self.min_deviation);
     }
 }
 
@@ -132,12 +126,17 @@ impl ColumnCodecEstimator for LinearCodecEstimator {
     }
 
     fn estimate(&self, stats: &ColumnStats) -> Option<u64> {
-        if self.row_id < TRAINED {
+        if self.row_id < BLOCK_LEN {
             return None;
         }
-        let slope = self.slope;
-        let packed_bits = u64::from(self.row_id) * u64::from(slope.offset_width);
-        Some(stats.num_bytes() + slope.line.num_bytes() + 1 + packed_bits.div_ceil(BYTE_BITS))
+        let params = self.linear_params;
+        let packed_bits = u64::from(self.row_id) * u64::from(params.offset_width);
+        Some(
+            stats.num_bytes()
+                + params.line.num_bytes()
+                + 1
+                + packed_bits.div_ceil(BYTE_BITS as u64),
+        )
     }
 
     fn serialize<I: Iterable<u64>, K: Sink>(
@@ -147,10 +146,10 @@ impl ColumnCodecEstimator for LinearCodecEstimator {
         vals: &I,
         sink: &mut K,
     ) -> Result<(), ColumnarError> {
-        if self.row_id < TRAINED {
+        if self.row_id < BLOCK_LEN {
             return Err(ColumnarError::NoCodec);
         }
-        serialize_behind_codec(alloc, stats, self.slope, vals, sink)
+        serialize_behind_codec(alloc, stats, self.linear_params, vals, sink)
     }
 }
 
@@ -159,19 +158,20 @@ impl ColumnCodecEstimator for LinearCodecEstimator {
 fn serialize_behind_codec<I: Iterable<u64>, K: Sink>(
     alloc: Global,
     stats: &ColumnStats,
-    slope: Slope,
+    params: LinearParams,
     vals: &I,
     sink: &mut K,
 ) -> Result<(), ColumnarError>
     requires count { length (I.items vals.now) < 2 ^ 32 }
     requires stats { stats_seen stats.now ≡ stats_of (I.items vals.now) }
-    requires line { slope_seen slope ≡ linear_line (I.items vals.now) }
-    ensures { Serializes (K.seen sink.old) (K.seen sink.new) result (linear_body (I.items vals.now)) }
+    requires line { params_seen params ≡ linear_line (I.items vals.now) }
+    ensures { Serializes (K.seen sink.old) (K.seen sink.new) result
+        (linear_body (I.items vals.now)) }
 {
     let _greatest = stats.max_value;
     stats.serialize(sink)?;
-    slope.serialize(sink)?;
-    serialize_offsets(alloc, slope, vals, sink)
+    params.serialize(sink)?;
+    serialize_turned(alloc, &params, params.offset_width, vals, sink)
 }
 
 // How far a value at its position lies above a line, moved up by half of the space.

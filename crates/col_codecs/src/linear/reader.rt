@@ -2,22 +2,21 @@
 ghost use Rattle.std.specs.Prelude.{◌≡◌, ◌≤◌, ◌+◌, ◌*◌, ◌^◌, ◌&&◌, length, drop, map, option_map, IfSome, IfOk, IfErr, IsTrue};
 ghost use Rattle.std.specs.List.{range_with_len};
 ghost use Rattle.col_common.specs.Decoding.{Decodes};
-ghost use Rattle.col_bits.specs.Packed.{is_width};
+ghost use Rattle.col_bits.specs.Packed.{is_width, is_packed};
 ghost use Rattle.col_model.specs.Stats.{stats_of, same_stats};
-ghost use Rattle.col_model.specs.U64List.{slope_at};
-ghost use Rattle.col_model.specs.Items.{is_packed, linear_item, linear_items};
+ghost use Rattle.col_model.specs.U64List.{params_at};
+ghost use Rattle.col_model.specs.Items.{linear_item, linear_items};
 ghost use Rattle.col_codecs.specs.ColumnStats.{stats_seen, collected_of};
 ghost use Rattle.col_codecs.specs.Header.{list_by};
 ghost use Rattle.col_codecs.specs.Line.{with_width};
-ghost use Rattle.col_codecs.specs.Slope.{slope_seen};
+ghost use Rattle.col_codecs.specs.LinearParams.{params_seen};
 
 use crate::column_stats::ColumnStats;
 use crate::line::Line;
-use crate::packing::is_packed;
-use crate::slope::Slope;
+use crate::linear_params::LinearParams;
 use crate::stats_collector::StatsCollector;
 use bytes::Bytes;
-use col_bits::BitUnpacker;
+use col_bits::{BitUnpacker, is_packed};
 use col_common::ColumnarError;
 use col_values::ColumnValues;
 use std::marker::Model;
@@ -51,16 +50,16 @@ impl LinearReader {
     pub fn open(stats: ColumnStats, bytes: Bytes) -> Result<LinearReader, ColumnarError>
         ensures { Decodes (λ list. list) result (list_by 1 (stats_seen stats) bytes) }
     {
-        let Some((slope, data)) = take_slope(bytes) else {
+        let Some((params, data)) = take_params(bytes) else {
             return Err(ColumnarError::InvalidData);
         };
-        if !is_list(&stats, slope, data.as_slice()) {
+        if !is_list(&stats, params, data.as_slice()) {
             return Err(ColumnarError::InvalidData);
         }
         Ok(LinearReader {
             data,
-            line: slope.line,
-            bit_unpacker: BitUnpacker::new(slope.offset_width),
+            line: params.line,
+            bit_unpacker: BitUnpacker::new(params.offset_width),
             stats,
         })
     }
@@ -122,40 +121,40 @@ impl ColumnValues<u64> for LinearReader {
 }
 
 // The line and the width byte at the front, and the bytes behind them.
-fn take_slope(bytes: Bytes) -> Option<(Slope, Bytes)>
-    ensures value { option_map (λ r. (slope_seen r.0, r.1)) result ≡ slope_at bytes }
+fn take_params(bytes: Bytes) -> Option<(LinearParams, Bytes)>
+    ensures value { option_map (λ r. (params_seen r.0, r.1)) result ≡ params_at bytes }
     ensures width { IfSome result (λ r. IsTrue (is_width r.0.offset_width)) }
 {
-    let (slope, start) = read_slope(bytes.as_slice())?;
+    let (params, start) = read_params(bytes.as_slice())?;
     let mut behind = bytes;
     behind.advance(start);
-    Some((slope, behind))
+    Some((params, behind))
 }
 
 // The line and the width byte at the front, and the place behind them.
-fn read_slope(bytes: &[u8]) -> Option<(Slope, usize)>
-    ensures value { option_map (λ r. (slope_seen r.0, drop r.1 bytes.now)) result
-        ≡ slope_at bytes.now }
+fn read_params(bytes: &[u8]) -> Option<(LinearParams, usize)>
+    ensures value { option_map (λ r. (params_seen r.0, drop r.1 bytes.now)) result
+        ≡ params_at bytes.now }
     ensures within { IfSome result (λ r. r.1 ≤ length bytes.now) }
     ensures width { IfSome result (λ r. IsTrue (is_width r.0.offset_width)) }
 {
-    let (slope, rest) = Slope::read(bytes)?;
-    Some((slope, bytes.len() - rest.len()))
+    let (params, rest) = LinearParams::read(bytes)?;
+    Some((params, bytes.len() - rest.len()))
 }
 
 // Whether the bytes are packed offsets, and these are the statistics of the items.
-fn is_list(stats: &ColumnStats, slope: Slope, bytes: &[u8]) -> bool
-    requires { IsTrue (is_width slope.offset_width) }
-    ensures { result ≡ (is_packed bytes.now (stats.now.num_rows * slope.offset_width)
-        && same_stats (stats_of (linear_items (slope_seen slope) bytes.now stats.now.num_rows))
+fn is_list(stats: &ColumnStats, params: LinearParams, bytes: &[u8]) -> bool
+    requires { IsTrue (is_width params.offset_width) }
+    ensures { result ≡ (is_packed bytes.now (stats.now.num_rows * params.offset_width)
+        && same_stats (stats_of (linear_items (params_seen params) bytes.now stats.now.num_rows))
         (stats_seen stats.now)) }
 {
-    let num_bits = stats.num_rows as usize * slope.offset_width as usize;
+    let num_bits = stats.num_rows as usize * params.offset_width as usize;
     if !is_packed(bytes, num_bits) {
         return false;
     }
-    let bit_unpacker = BitUnpacker::new(slope.offset_width);
-    stats_of_items(slope.line, bit_unpacker, bytes, stats.num_rows).is_same(stats)
+    let bit_unpacker = BitUnpacker::new(params.offset_width);
+    stats_of_items(params.line, bit_unpacker, bytes, stats.num_rows).is_same(stats)
 }
 
 // The line's value at an index plus the offset there, modulo 2^64.

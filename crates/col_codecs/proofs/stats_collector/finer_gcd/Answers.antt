@@ -7,4 +7,4 @@ pub returns-then-increment_gcd-eq1 : goal.returns-then-increment_gcd-eq1
 returns-then-increment_gcd-eq1 c = sym (ap (λ k. gcd k c.args.difference) c.if-increment_gcd-eq1.true ∙ gcd-one c.args.difference)
 
 pub returns-else-increment_gcd-eq1 : goal.returns-else-increment_gcd-eq1
-returns-else-increment_gcd-eq1 c = c.compute_gcd.ensures ∙ gcd-swap c.args.difference c.args.increment_gcd
+returns-else-increment_gcd-eq1 c = c.compute_gcd.ensures.value ∙ gcd-swap c.args.difference c.args.increment_gcd

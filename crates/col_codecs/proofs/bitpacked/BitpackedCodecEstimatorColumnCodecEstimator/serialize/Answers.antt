@@ -1,11 +1,8 @@
-use Rattle.std.proofs.Common.{◌≡◌, ◌++◌, ◌∙◌, sym, ap, arith, subst}
+use Rattle.std.proofs.Common.{◌∙◌, ap, arith}
 use Rattle.col_common.proofs.SerializingLemmas.{serializes-as, serializes-then}
-use Rattle.col_bits.specs.Packed.{packed_bytes, width}
-use Rattle.col_model.specs.Stats.{steps_of, stats_bytes}
-use Rattle.col_model.specs.Codecs.{steps_above}
+use Rattle.col_bits.specs.Packed.{width}
 use Rattle.col_codecs.specs.ColumnStats.{stats_seen}
-use Rattle.col_codecs.specs.Bitpacked.{FitSteps}
-use Rattle.col_codecs.proofs.BitpackedWritingLemmas.{FitSteps-stats_of, body-bytes}
+use Rattle.col_codecs.proofs.BitpackedWritingLemmas.{steps-packable, body-bytes}
 use Rattle.col_codecs.proofs.PossibleLemmas.{IsPossible-stats_of}
 use Rattle.col_codecs.proofs.bitpacked.BitpackedCodecEstimatorColumnCodecEstimator.serialize.Goals as goal
 
@@ -18,19 +15,14 @@ steps-requires-clause-ordered g c = (IsPossible-stats_of (stats_seen c.args.stat
 pub steps-requires-clause-positive : goal.steps-requires-clause-positive
 steps-requires-clause-positive g c = (IsPossible-stats_of (stats_seen c.args.stats.now) (g.I.Iterable.items c.args.vals.now) c.requires.stats (omega arith)).positive
 
-pub serialize_steps-requires-clause-positive : goal.serialize_steps-requires-clause-positive
-serialize_steps-requires-clause-positive g c = (IsPossible-stats_of (stats_seen c.args.stats.now) (g.I.Iterable.items c.args.vals.now) c.requires.stats (omega arith)).positive
-
-pub serialize_steps-requires-clause-fit : goal.serialize_steps-requires-clause-fit
-serialize_steps-requires-clause-fit g c =
-    let s = stats_seen c.args.stats.now in
-    let xs = g.I.Iterable.items c.args.vals.now in
-    subst (λ w. FitSteps s w xs) (ap width (sym c.steps.ensures) ∙ sym c.compute_num_bits-num_bits.ensures) (FitSteps-stats_of s xs c.requires.stats (omega arith))
+pub serialize_turned-requires-clause-packable : goal.serialize_turned-requires-clause-packable
+serialize_turned-requires-clause-packable g c =
+    steps-packable (stats_seen c.args.stats.now) (g.I.Iterable.items c.args.vals.now) c.compute_num_bits-num_bits.result c.requires.stats (omega arith) c.requires.count
+    (c.compute_num_bits-num_bits.ensures ∙ ap width c.steps.ensures)
 
 pub returns-clause-ok : goal.returns-clause-ok
 returns-clause-ok g c =
     let s = stats_seen c.args.stats.now in
     let xs = g.I.Iterable.items c.args.vals.now in
-    let w : c.compute_num_bits-num_bits.result ≡ width (steps_of s) = c.compute_num_bits-num_bits.ensures ∙ ap width c.steps.ensures in
-    serializes-as _ _ _ _ _ (serializes-then _ _ _ _ _ _ _ c.in_ok-serialize.ensures.ok c.serialize_steps.ensures)
-    (ap (λ v. stats_bytes s ++ packed_bytes v (steps_above s xs)) w ∙ body-bytes s xs c.requires.stats)
+    serializes-as _ _ _ _ _ (serializes-then _ _ _ _ _ _ _ c.in_ok-serialize.ensures.ok c.serialize_turned.ensures)
+    (body-bytes s xs c.compute_num_bits-num_bits.result c.requires.stats (c.compute_num_bits-num_bits.ensures ∙ ap width c.steps.ensures))

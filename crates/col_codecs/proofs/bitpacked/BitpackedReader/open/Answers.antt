@@ -1,7 +1,6 @@
 use Rattle.std.proofs.Common.{◌≡◌, ◌*◌, ℕ, List, Bool, true, false, ap, sym, ◌∙◌, arith}
-use Rattle.col_bits.specs.Packed.{width}
+use Rattle.col_bits.specs.Packed.{width, is_packed}
 use Rattle.col_model.specs.Stats.{Stats, same_stats, stats_of, steps_of}
-use Rattle.col_model.specs.Items.{is_packed}
 use Rattle.col_model.proofs.CodecLaws.{is_width-width}
 use Rattle.col_codecs.specs.Bitpacked.{bitpacked_items}
 use Rattle.col_codecs.specs.ColumnStats.{stats_seen}

@@ -1,4 +1,4 @@
-use Rattle.std.proofs.Common.{◌≡◌, ap, sym, ◌∙◌}
+use Rattle.std.proofs.Common.{ap, sym, ◌∙◌}
 use Rattle.col_model.specs.Stats.{greatest_of}
 use Rattle.col_codecs.proofs.BoundsLemmas.{stats_of-greatest, greatest-above}
 use Rattle.col_codecs.proofs.bitpacked.BitpackedReaderColumnValuesU64.max_value.Goals as goal

@@ -12,7 +12,7 @@ returns-in_default c = AreRead-stuck c.args.count c.args.lines.now c.loop-block_
 
 pub loop-block_id-preserved : goal.loop-block_id-preserved
 loop-block_id-preserved c =
-    let line = c.in-Some.slope.line in
+    let line = c.in-Some.params.line in
     let b : Block = record { line = line; bit_unpacker = c.new.result; start = 0 } in
     rw c.in_ok-push.ensures.items
     (AreRead-push c.args.count c.args.lines.now c.loop-block_id._block_id c.loop-block_id.blocks.items c.loop-block_id.lines.now c.in-Some.rest.now b c.loop-block_id.invariant c.loop-block_id-test.true

@@ -25,18 +25,18 @@ returns-then-not-place_blocks-clause-list c =
 pub are_stats_of-requires-clause-count : goal.are_stats_of-requires-clause-count
 are_stats_of-requires-clause-count c =
     held-count (stats_seen c.args.stats.now) c.args.bytes.now c.in-Some.data.now c.in-Some.lines.now c.div_ceil.result c.in_ok-blocks.blocks.items c.div_ceil.ensures (sym c.in-Some.ensures) c.in_ok-blocks.ensures
-    c.deref_mut.result.now c.place_blocks.new.blocks c.deref.result.now c.in_ok-blocks.blocks.len c.place_blocks.result c.deref_mut.ensures.value c.place_blocks.ensures.slopes c.place_blocks.auto.blocks c.in_ok-blocks.blocks.ok.0 c.deref.ensures.value c.place_blocks.ensures.packed c.if-not-place_blocks.false
+    c.deref_mut.result.now c.place_blocks.new.blocks c.deref.result.now c.in_ok-blocks.blocks.len c.place_blocks.result c.deref_mut.ensures.value c.place_blocks.ensures.params c.place_blocks.auto.blocks c.in_ok-blocks.blocks.ok.0 c.deref.ensures.value c.place_blocks.ensures.packed c.if-not-place_blocks.false
 
 pub returns-then-not-are_stats_of-clause-list : goal.returns-then-not-are_stats_of-clause-list
 returns-then-not-are_stats_of-clause-list c =
     held-list (stats_seen c.args.stats.now) c.args.bytes.now c.in-Some.data.now c.in-Some.lines.now c.div_ceil.result c.in_ok-blocks.blocks.items c.div_ceil.ensures (sym c.in-Some.ensures) c.in_ok-blocks.ensures
-    c.deref_mut.result.now c.place_blocks.new.blocks c.deref.result.now c.in_ok-blocks.blocks.len c.place_blocks.result c.deref_mut.ensures.value c.place_blocks.ensures.slopes c.place_blocks.auto.blocks c.in_ok-blocks.blocks.ok.0 c.deref.ensures.value c.place_blocks.ensures.packed c.if-not-place_blocks.false
+    c.deref_mut.result.now c.place_blocks.new.blocks c.deref.result.now c.in_ok-blocks.blocks.len c.place_blocks.result c.deref_mut.ensures.value c.place_blocks.ensures.params c.place_blocks.auto.blocks c.in_ok-blocks.blocks.ok.0 c.deref.ensures.value c.place_blocks.ensures.packed c.if-not-place_blocks.false
     false c.are_stats_of.result (c.place_blocks.ensures.placed c.if-not-place_blocks.false) c.are_stats_of.ensures c.if-not-are_stats_of.true
 
 pub returns-clause-list : goal.returns-clause-list
 returns-clause-list c =
     held-list (stats_seen c.args.stats.now) c.args.bytes.now c.in-Some.data.now c.in-Some.lines.now c.div_ceil.result c.in_ok-blocks.blocks.items c.div_ceil.ensures (sym c.in-Some.ensures) c.in_ok-blocks.ensures
-    c.deref_mut.result.now c.place_blocks.new.blocks c.deref.result.now c.in_ok-blocks.blocks.len c.place_blocks.result c.deref_mut.ensures.value c.place_blocks.ensures.slopes c.place_blocks.auto.blocks c.in_ok-blocks.blocks.ok.0 c.deref.ensures.value c.place_blocks.ensures.packed c.if-not-place_blocks.false
+    c.deref_mut.result.now c.place_blocks.new.blocks c.deref.result.now c.in_ok-blocks.blocks.len c.place_blocks.result c.deref_mut.ensures.value c.place_blocks.ensures.params c.place_blocks.auto.blocks c.in_ok-blocks.blocks.ok.0 c.deref.ensures.value c.place_blocks.ensures.packed c.if-not-place_blocks.false
     true c.are_stats_of.result (c.place_blocks.ensures.placed c.if-not-place_blocks.false) c.are_stats_of.ensures c.if-not-are_stats_of.false
     ∙ ap (λ held. Some (items_in (stats_seen c.args.stats.now) held (take (length c.in-Some.data.now) c.args.bytes.now))) c.deref.ensures.value
 
@@ -44,5 +44,5 @@ pub returns-clause-reader : goal.returns-clause-reader
 returns-clause-reader c =
     subst (λ (held : List Block). IsReader (stats_seen c.args.stats.now) held (take (length c.in-Some.data.now) c.args.bytes.now)) c.deref.ensures.value
     (held-reader (stats_seen c.args.stats.now) c.args.bytes.now c.in-Some.data.now c.in-Some.lines.now c.div_ceil.result c.in_ok-blocks.blocks.items c.div_ceil.ensures (sym c.in-Some.ensures) c.in_ok-blocks.ensures
-    c.deref_mut.result.now c.place_blocks.new.blocks c.deref.result.now c.in_ok-blocks.blocks.len c.place_blocks.result c.deref_mut.ensures.value c.place_blocks.ensures.slopes c.place_blocks.auto.blocks c.in_ok-blocks.blocks.ok.0 c.deref.ensures.value c.place_blocks.ensures.packed c.if-not-place_blocks.false
+    c.deref_mut.result.now c.place_blocks.new.blocks c.deref.result.now c.in_ok-blocks.blocks.len c.place_blocks.result c.deref_mut.ensures.value c.place_blocks.ensures.params c.place_blocks.auto.blocks c.in_ok-blocks.blocks.ok.0 c.deref.ensures.value c.place_blocks.ensures.packed c.if-not-place_blocks.false
     c.are_stats_of.result (c.place_blocks.ensures.placed c.if-not-place_blocks.false) c.are_stats_of.ensures c.if-not-are_stats_of.false)

@@ -1,8 +1,8 @@
-use Rattle.std.proofs.Common.{◌≡◌, ◌+◌, ◌*◌, ◌++◌, ◌∙◌, ap, sym, arith, drop, take, length, min, refl, length-append}
+use Rattle.std.proofs.Common.{◌≡◌, ◌*◌, ◌++◌, ◌∙◌, ap, sym, arith, drop, take, length, min, refl, length-append}
 use Rattle.std.proofs.lemmas.List.{length-take, length-drop}
 use Rattle.std.proofs.lemmas.Result.{err_from_is_err_and}
 use Rattle.col_common.proofs.SerializingLemmas.{serializes-as, serializes-nothing, serializes-stopped, serializes-then}
-use Rattle.col_model.specs.Codecs.{block_size, cut_blocks, steps_above, packed_block, block_line, slope_bytes}
+use Rattle.col_model.specs.Codecs.{block_size, cut_blocks, steps_above, packed_block, block_line, params_bytes}
 use Rattle.col_model.proofs.CutLaws.{block_at}
 use Rattle.col_codecs.specs.ColumnStats.{stats_seen}
 use Rattle.col_codecs.proofs.BlockWritingLemmas.{packed_so_far, lines_so_far, packed_so_far-more, lines_so_far-more, steps_above-block, IsBlock-taken, all_blocks, left-next}
@@ -45,8 +45,8 @@ loop-block_id-preserved g c =
           (ap (λ b. packed_so_far steps k ++ packed_block b) block ∙ sym (packed_so_far-more steps k));
       gathered =
           c.in_ok-serialize_block.ensures.line
-          ∙ ap (λ ls. ls ++ slope_bytes (block_line (steps_above s part))) c.loop-block_id.invariant.gathered
-          ∙ ap (λ b. lines_so_far steps k ++ slope_bytes (block_line b)) block
+          ∙ ap (λ ls. ls ++ params_bytes (block_line (steps_above s part))) c.loop-block_id.invariant.gathered
+          ∙ ap (λ b. lines_so_far steps k ++ params_bytes (block_line b)) block
           ∙ sym (lines_so_far-more steps k);
       room = omega (arith, length-append c.serialize_block.new.vals (drop n c.take_block-taken.new.block), c.serialize_block.auto.vals, length-take n c.take_block-taken.new.block, length-drop n c.take_block-taken.new.block, c.take_block-taken.auto.block, c.loop-block_id.invariant.room, count);
     }

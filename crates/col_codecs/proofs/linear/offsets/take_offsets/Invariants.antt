@@ -1,8 +1,0 @@
-use Rattle.std.proofs.Common.{◌≡◌, ◌++◌, take, drop}
-use Rattle.col_model.specs.Codecs.{offset_from}
-use Rattle.col_codecs.specs.Slope.{slope_seen}
-use Rattle.col_codecs.proofs.OffsetLemmas.{by_position}
-use Rattle.col_codecs.proofs.linear.offsets.take_offsets.Given as goal
-
-abbrev pub invariant-loop-at : goal.invariant-loop-at
-invariant-loop-at l = l.vals ≡ by_position (offset_from (slope_seen l.fn.slope)) l.start (take l.at l.initial.vals) ++ drop l.at l.initial.vals
