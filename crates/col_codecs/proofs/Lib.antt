@@ -11,11 +11,8 @@ pub mod BlockStatsLemmas
 pub mod BlockStepsLemmas
 pub mod BlockWritingLemmas
 pub mod BoundsLemmas
-pub mod ChoiceLemmas
-pub mod CollectingLemmas
 pub mod EstimateLemmas
 pub mod HeaderLemmas
-pub mod ImageLemmas
 pub mod LineLemmas
 pub mod LinearLemmas
 pub mod LinearReaderLemmas
@@ -26,4 +23,3 @@ pub mod SpareLemmas
 pub mod StatsLemmas
 pub mod StepsLemmas
 pub mod WidthLemmas
-pub mod WrittenLemmas

@@ -1,10 +1,5 @@
 pub mod ColumnStats
 pub mod Bitpacked
-pub mod CodecTypes
-pub mod Estimators
-pub mod Readers
-pub mod NumValues
-pub mod Written
 pub mod Slope
 pub mod Line
 pub mod Linear

@@ -2,7 +2,6 @@
 
 mod bitpacked;
 mod blockwise_linear;
-mod choice;
 mod line;
 mod linear;
 mod lists;

@@ -8,9 +8,9 @@ use Rattle.col_common.specs.declared.error.ColumnarError.{ColumnarError}
 use Rattle.col_common.specs.declared.error.ColumnarError.TheVariants as refusals
 use Rattle.col_common.specs.Decoding.{Decodes, Refuses}
 use Rattle.col_model.specs.Codecs.{chosen_codec}
-use Rattle.col_codecs.specs.Written.{list_refusal}
-use Rattle.col_codecs.specs.declared.u64_values.U64Values.{U64Values}
-use Rattle.col_codecs.specs.Readers.{list_of}
+use Rattle.col_numbers.specs.Written.{list_refusal}
+use Rattle.col_numbers.specs.declared.u64_values.U64Values.{U64Values}
+use Rattle.col_numbers.specs.Readers.{list_of}
 
 -- Bitpacked applies to each list
 bitpacked_applies : (xs : List ℕ) → length xs < 2 ^ 32 → list_refusal xs (0 ∷ []) ≡ None

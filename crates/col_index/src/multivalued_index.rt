@@ -4,7 +4,7 @@ ghost use Rattle.std.specs.List.{list_all};
 ghost use Rattle.col_common.specs.declared.error.ColumnarError.TheVariants as refusals;
 ghost use Rattle.col_model.specs.Ascending.{is_rising, differences};
 ghost use Rattle.col_model.specs.Positions.{start_of, index_range, rows_with_value, next_row, starts_of, rows_at};
-ghost use Rattle.col_codecs.specs.Readers.{list_of};
+ghost use Rattle.col_numbers.specs.Readers.{list_of};
 ghost use Rattle.col_values.specs.Values.{AreBelow};
 ghost use Rattle.col_index.specs.Offsets.{AreOldOffsets, row_positions, docs_of, positions_of};
 ghost use Rattle.col_index.specs.Sets.{BeginsWith};
@@ -12,7 +12,7 @@ ghost use Rattle.col_index.specs.Sets.{BeginsWith};
 use crate::multivalued_index_v2::MultiValueIndexV2;
 use crate::optional_index::NonNullDocs;
 use col_common::{ColumnarError, DocId, RowId};
-use col_codecs::U64Values;
+use col_numbers::U64Values;
 use std::alloc::Global;
 use std::ops::Range;
 

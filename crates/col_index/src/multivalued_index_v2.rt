@@ -4,7 +4,7 @@ ghost use Rattle.col_common.specs.declared.error.ColumnarError.TheVariants as re
 ghost use Rattle.col_model.specs.Ascending.{is_rising, differences};
 ghost use Rattle.col_model.specs.Index.{offset_counts};
 ghost use Rattle.col_model.specs.Positions.{start_of, index_range, rows_with_value, next_row, starts_of, rows_at};
-ghost use Rattle.col_codecs.specs.Readers.{list_of};
+ghost use Rattle.col_numbers.specs.Readers.{list_of};
 ghost use Rattle.col_values.specs.Values.{AreBelow};
 ghost use Rattle.col_index.specs.Offsets.{AreOldOffsets, row_positions, docs_of, positions_of, is_start_list, offsets_by, run};
 ghost use Rattle.col_index.specs.Sets.{BeginsWith};
@@ -13,7 +13,7 @@ use crate::optional_index::{NonNullDocs, OptionalIndex, load_numbers};
 use crate::search::Place;
 use crate::set::Set;
 use col_common::{ColumnarError, DocId, RowId};
-use col_codecs::U64Values;
+use col_numbers::U64Values;
 use col_values::ColumnValues;
 use std::alloc::Global;
 use std::marker::Model;
@@ -30,7 +30,7 @@ pub struct MultiValueIndexV2 {
 impl Model for MultiValueIndexV2 {
     ghost use Rattle.std.specs.Prelude.{◌≡◌, true};
     ghost use Rattle.col_model.specs.Index.{RowOffsets, are_starts};
-    ghost use Rattle.col_codecs.specs.Readers.{list_of};
+    ghost use Rattle.col_numbers.specs.Readers.{list_of};
     ghost use Rattle.col_index.specs.Sets.{AreRows};
     ghost use Rattle.col_index.specs.Offsets.{AreOffsets};
 

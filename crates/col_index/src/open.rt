@@ -19,7 +19,7 @@ use crate::multivalued_index_v2::MultiValueIndexV2;
 use crate::optional_index::OptionalIndex;
 use bytes::Bytes;
 use col_common::{ColumnarError, RowId, read_vint};
-use col_codecs::load_u64_values;
+use col_numbers::load_u64_values;
 use std::alloc::Global;
 
 // The bytes of a length.

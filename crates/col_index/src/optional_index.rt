@@ -5,12 +5,12 @@ ghost use Rattle.col_model.specs.Index.{RowSet, set_counts};
 ghost use Rattle.col_model.specs.Positions.{rank, next_row, index_range};
 ghost use Rattle.col_values.specs.Values.{AreBelow};
 ghost use Rattle.col_index.specs.Sets.{AreRows, BeginsWith, holds, held, held_ranks, is_row_list, set_by};
-ghost use Rattle.col_codecs.specs.Readers.{list_of};
+ghost use Rattle.col_numbers.specs.Readers.{list_of};
 
 use crate::search::{Place, rank_in};
 use crate::set::{SelectCursor, Set};
 use col_common::{ColumnarError, DocId, Iterable, RowId, Walk};
-use col_codecs::{CodecType, U64Values, serialize_and_load_u64_values};
+use col_numbers::{CodecType, U64Values, serialize_and_load_u64_values};
 use col_values::ColumnValues;
 use std::alloc::Global;
 use std::marker::Model;
@@ -25,7 +25,7 @@ pub struct OptionalIndex {
 
 impl Model for OptionalIndex {
     ghost use Rattle.col_model.specs.Index.{RowSet};
-    ghost use Rattle.col_codecs.specs.Readers.{list_of};
+    ghost use Rattle.col_numbers.specs.Readers.{list_of};
     ghost use Rattle.col_index.specs.Sets.{AreRows};
 
     ghost Value = { RowSet };

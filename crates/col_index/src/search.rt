@@ -2,10 +2,10 @@
 ghost use Rattle.std.specs.Prelude.{◌≡◌, ◌^◌, ◌-◌, ◌+◌, ◌<◌, true, length, slice_index_or};
 ghost use Rattle.col_model.specs.Ascending.{is_rising};
 ghost use Rattle.col_model.specs.Positions.{rank};
-ghost use Rattle.col_codecs.specs.Readers.{list_of};
+ghost use Rattle.col_numbers.specs.Readers.{list_of};
 ghost use Rattle.col_index.specs.Search.{IsNarrowed};
 
-use col_codecs::U64Values;
+use col_numbers::U64Values;
 use col_values::ColumnValues;
 
 // How many numbers of the list are below a target, where those below `low` are, and those from

@@ -2,7 +2,7 @@
 ghost use Rattle.std.specs.Prelude.{◌≡◌, ◌≤◌, ◌<◌, ◌^◌, length, sum, slice_get};
 ghost use Rattle.std.specs.List.{range_with_len};
 ghost use Rattle.col_model.specs.Positions.{rows_with_value, starts_of};
-ghost use Rattle.col_codecs.specs.Readers.{list_of};
+ghost use Rattle.col_numbers.specs.Readers.{list_of};
 ghost use Rattle.col_index.specs.Counted.{counts_in};
 ghost use Rattle.col_index.specs.Indexes.{shape_of};
 ghost use Rattle.col_common.specs.Walks.{IsNext};
@@ -11,8 +11,8 @@ ghost use Rattle.col_index.specs.Stacks.{StandsAtRow, rows_left, StandsAtOffset,
 
 use crate::{ColumnIndex, NonNullDocs};
 use col_common::{Iterable, RowId, Walk};
+use col_numbers::U64Values;
 use col_order::StackMergeOrder;
-use col_codecs::U64Values;
 use col_values::ColumnValues;
 use std::marker::Model;
 

@@ -13,7 +13,7 @@ use Rattle.std.proofs.lemmas.Map.Lookups.{exact_bytes}
 use Rattle.std.proofs.lemmas.Map.Text.{is_eq-slice_cmp}
 use Rattle.std.proofs.lemmas.List.Sorted.{IsNonDecreasingBy-from_all_adjacent}
 use Rattle.col_model.specs.Ascending.{is_before, is_ascending}
-use Rattle.col_codecs.specs.NumValues.{num_values_of}
+use Rattle.col_numbers.specs.NumValues.{num_values_of}
 use Rattle.col_tool.specs.declared.column.NamedColumn.{NamedColumn}
 use Rattle.col_tool.specs.Opened.{opened, numbers_named}
 

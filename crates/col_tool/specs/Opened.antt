@@ -1,7 +1,7 @@
 -- The columns of an open file.
 use Rattle.std.specs.Prelude.{ℕ, List, find, string_bytes, bytes_eq, Option, option_map}
 use Rattle.col_model.specs.FullColumns.{NamedNumbers}
-use Rattle.col_codecs.specs.NumValues.{num_values_of}
+use Rattle.col_numbers.specs.NumValues.{num_values_of}
 use Rattle.col_tool.specs.declared.column.NamedColumn.{NamedColumn}
 
 -- a column's name and numbers

@@ -8,7 +8,7 @@ ghost use Rattle.col_model.specs.File.{for_each};
 ghost use Rattle.col_model.specs.FullColumns.{full_numbers, entry_numbers};
 ghost use Rattle.col_model.specs.Keys.{entries_from, total_length};
 ghost use Rattle.col_model.specs.U64List.{values64};
-ghost use Rattle.col_codecs.specs.NumValues.{num_values_of};
+ghost use Rattle.col_numbers.specs.NumValues.{num_values_of};
 ghost use Rattle.col_tool.specs.KeyTables.{key_seen, all_keyed};
 ghost use Rattle.col_tool.specs.Opened.{opened};
 
@@ -18,7 +18,7 @@ use crate::key_table::KeyedLength;
 use crate::reading::{U64_NUM_BYTES, whole_number};
 use bytes::Bytes;
 use col_common::ColumnarError;
-use col_codecs::{NumValues, load_u64_based_column_values};
+use col_numbers::{NumValues, load_u64_based_column_values};
 use col_values::ColumnValues;
 use std::alloc::Global;
 

@@ -3,9 +3,9 @@ ghost use Rattle.std.specs.Prelude.{◌≡◌, pos, IfOk};
 ghost use Rattle.col_model.specs.FullColumns.{full_content};
 ghost use Rattle.col_model.specs.Lookup.{docs_between};
 ghost use Rattle.col_model.specs.Table as cells;
-ghost use Rattle.col_codecs.specs.NumValues.{num_values_of};
+ghost use Rattle.col_numbers.specs.NumValues.{num_values_of};
 
-use col_codecs::NumValues;
+use col_numbers::NumValues;
 use col_values::ColumnValues;
 use std::alloc::{AllocError, Global};
 

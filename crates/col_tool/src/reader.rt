@@ -5,7 +5,7 @@ use crate::column::{NamedColumn, find_column, open_columns};
 use crate::key_table::parse_keys;
 use bytes::Bytes;
 use col_common::ColumnarError;
-use col_codecs::NumValues;
+use col_numbers::NumValues;
 use std::alloc::Global;
 use std::marker::Model;
 
@@ -34,7 +34,7 @@ impl ColumnarReader {
     ghost use Rattle.std.specs.Prelude.{map, option_map};
     ghost use Rattle.col_common.specs.Decoding.{Decodes};
     ghost use Rattle.col_model.specs.FullColumns.{numbers_of_file};
-    ghost use Rattle.col_codecs.specs.NumValues.{num_values_of};
+    ghost use Rattle.col_numbers.specs.NumValues.{num_values_of};
     ghost use Rattle.col_tool.specs.Opened.{opened, numbers_named};
 
     /// Opens a file of Full u64 columns, with its columns.

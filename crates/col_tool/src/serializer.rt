@@ -13,8 +13,8 @@ ghost use Rattle.col_tool.specs.Columns.{named_numbers};
 use crate::column::FULL_INDEX;
 use crate::column_type::ColumnType;
 use crate::footer::serialize_footer;
-use col_codecs::{CodecType, serialize_u64_based_column_values};
 use col_common::{Buffer, ColumnarError, Sink, VInt, serialize_bytes};
+use col_numbers::{CodecType, serialize_u64_based_column_values};
 use std::alloc::Global;
 use std::collections::BTreeMap;
 

@@ -1,6 +1,6 @@
 use Rattle.std.proofs.Common.{◌≡◌, ◌+◌, length, sym, ◌∙◌, arith}
 use Rattle.std.proofs.lemmas.Option.{get_or_from_slice_get}
-use Rattle.col_codecs.specs.Readers.{list_of}
+use Rattle.col_numbers.specs.Readers.{list_of}
 use Rattle.col_index.proofs.StartLemmas.{rises-first, rises-fallen, rises-large, rises-more}
 use Rattle.col_index.proofs.multivalued_index_v2.are_starts.Goals as goal
 

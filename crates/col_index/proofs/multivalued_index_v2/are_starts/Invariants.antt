@@ -1,5 +1,5 @@
 use Rattle.std.proofs.Common.{◌≡◌, drop}
-use Rattle.col_codecs.specs.Readers.{list_of}
+use Rattle.col_numbers.specs.Readers.{list_of}
 use Rattle.col_index.specs.Offsets.{is_start_list}
 use Rattle.col_index.proofs.StartLemmas.{rest_rises}
 use Rattle.col_index.proofs.multivalued_index_v2.are_starts.Given as goal

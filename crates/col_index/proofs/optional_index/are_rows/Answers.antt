@@ -1,5 +1,5 @@
 use Rattle.std.proofs.Common.{sym, ◌∙◌, arith}
-use Rattle.col_codecs.specs.Readers.{list_of}
+use Rattle.col_numbers.specs.Readers.{list_of}
 use Rattle.col_index.proofs.SetLemmas.{rises_first, rises_fallen, rises_large, rises_more}
 use Rattle.col_index.proofs.optional_index.are_rows.Goals as goal
 use Rattle.col_index.proofs.optional_index.are_rows.Goals.{then-row-next-via-then-row-next, then-row-next-via-else-row-next+then-row-from}

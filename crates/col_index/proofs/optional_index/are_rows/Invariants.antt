@@ -1,5 +1,5 @@
 use Rattle.std.proofs.Common.{◌≡◌, drop}
-use Rattle.col_codecs.specs.Readers.{list_of}
+use Rattle.col_numbers.specs.Readers.{list_of}
 use Rattle.col_index.specs.Sets.{is_row_list}
 use Rattle.col_index.proofs.SetLemmas.{rest_rises}
 use Rattle.col_index.proofs.optional_index.are_rows.Given as goal

@@ -1,5 +1,5 @@
 use Rattle.std.proofs.Common.{arith}
-use Rattle.col_codecs.specs.Readers.{list_of}
+use Rattle.col_numbers.specs.Readers.{list_of}
 use Rattle.col_index.proofs.SearchLemmas.{middle, narrowed_done, narrowed_less, narrowed_not_less}
 use Rattle.col_index.proofs.search.narrow.Goals as goal
 

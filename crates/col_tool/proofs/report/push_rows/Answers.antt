@@ -1,5 +1,5 @@
 use Rattle.std.proofs.Common.{arith}
-use Rattle.col_codecs.specs.NumValues.{num_values_of}
+use Rattle.col_numbers.specs.NumValues.{num_values_of}
 use Rattle.col_tool.proofs.ReportLemmas.{Prints-none, rows-more, rows-all}
 use Rattle.col_tool.proofs.report.push_rows.Goals as goal
 

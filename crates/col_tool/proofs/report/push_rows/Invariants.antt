@@ -1,6 +1,6 @@
 use Rattle.std.proofs.Common.{map, take}
 use Rattle.std.specs.List.{enumerate_from}
-use Rattle.col_codecs.specs.NumValues.{num_values_of}
+use Rattle.col_numbers.specs.NumValues.{num_values_of}
 use Rattle.col_tool.specs.Reported.{Prints, number_line}
 use Rattle.col_tool.proofs.report.push_rows.Given as goal
 

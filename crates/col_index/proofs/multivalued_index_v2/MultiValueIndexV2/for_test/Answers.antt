@@ -2,7 +2,7 @@ use Rattle.std.proofs.Common.{◌≡◌, ◌<◌, ◌^◌, ◌++◌, length, sym
 use Rattle.col_model.specs.Ascending.{differences}
 use Rattle.col_model.specs.Index.{RowOffsets, offset_counts}
 use Rattle.col_model.specs.Positions.{rows_with_value, starts_of}
-use Rattle.col_codecs.specs.Readers.{list_of}
+use Rattle.col_numbers.specs.Readers.{list_of}
 use Rattle.col_index.specs.Offsets.{AreOffsets}
 use Rattle.col_index.specs.Sets.{AreRows}
 use Rattle.col_index.proofs.IndexedLaws.{set_of_counts, offsets_of_counts, counts-are_rows, counts-are_offset_counts}

@@ -1,6 +1,6 @@
 use Rattle.std.proofs.Common.{◌≡◌, sym, rules, Some, slice_get}
 use Rattle.std.proofs.lemmas.Option.{get_or_from_slice_get}
-use Rattle.col_codecs.specs.Readers.{list_of}
+use Rattle.col_numbers.specs.Readers.{list_of}
 use Rattle.col_index.proofs.StartLemmas.{start-fits}
 use Rattle.col_index.proofs.multivalued_index_v2.MultiValueIndexV2.start_at.Goals as goal
 

@@ -1,5 +1,5 @@
 use Rattle.std.proofs.Common.{sym, ap, subst, ◌∙◌}
-use Rattle.col_codecs.specs.Readers.{list_of}
+use Rattle.col_numbers.specs.Readers.{list_of}
 use Rattle.col_model.specs.Index.{RowOffsets}
 use Rattle.col_index.specs.Offsets.{AreOffsets}
 use Rattle.col_index.proofs.CountLaws.{offset_counts-starts}

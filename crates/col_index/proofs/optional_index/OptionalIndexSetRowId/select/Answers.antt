@@ -1,5 +1,5 @@
 use Rattle.std.proofs.Common.{arith}
-use Rattle.col_codecs.specs.Readers.{list_of}
+use Rattle.col_numbers.specs.Readers.{list_of}
 use Rattle.col_index.proofs.SetLemmas.{row_below}
 use Rattle.col_index.proofs.optional_index.OptionalIndexSetRowId.select.Goals as goal
 

@@ -1,4 +1,4 @@
-use Rattle.col_codecs.specs.Readers.{list_of}
+use Rattle.col_numbers.specs.Readers.{list_of}
 use Rattle.col_index.proofs.SearchLemmas.{rank_of_zero}
 use Rattle.col_index.proofs.search.Place.first.Goals as goal
 

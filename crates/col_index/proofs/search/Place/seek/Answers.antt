@@ -1,5 +1,5 @@
 use Rattle.std.proofs.Common.{◌≤◌, arith}
-use Rattle.col_codecs.specs.Readers.{list_of}
+use Rattle.col_numbers.specs.Readers.{list_of}
 use Rattle.col_index.proofs.SearchLemmas.{narrowed_from, rank_kept}
 use Rattle.col_index.proofs.search.Place.seek.Goals as goal
 

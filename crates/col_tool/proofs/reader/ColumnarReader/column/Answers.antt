@@ -1,5 +1,5 @@
 use Rattle.std.proofs.Common.{ap, sym, ◌∙◌, find, bytes_eq, string_bytes, option_map}
-use Rattle.col_codecs.specs.NumValues.{num_values_of}
+use Rattle.col_numbers.specs.NumValues.{num_values_of}
 use Rattle.col_tool.specs.Opened.{numbers_named}
 use Rattle.col_tool.proofs.SearchLemmas.{numbers_named-opened}
 use Rattle.col_tool.proofs.reader.ColumnarReader.column.Goals as goal

@@ -1,0 +1,4 @@
+pub mod ChoiceLemmas
+pub mod CollectingLemmas
+pub mod ImageLemmas
+pub mod WrittenLemmas

@@ -1,0 +1,5 @@
+pub mod CodecTypes
+pub mod Estimators
+pub mod Readers
+pub mod NumValues
+pub mod Written

@@ -1,0 +1,3 @@
+//! Lists of numbers under any codec, by examples.
+
+mod choice;
