@@ -2,7 +2,7 @@
 
 use crate::{
     Buffer, ColumnarError, FileHandle, HandleError, MemHandle, MemSource, Sink, VecSink,
-    read_to_limit, serialize_bytes,
+    cut_by_first, cut_rest, read_to_limit, serialize_bytes, split_by_second, u32_at,
 };
 use bytes::Bytes;
 use std::test::Fail;
@@ -53,5 +53,22 @@ fn a_file_in_memory_gives_its_parts(rt: HostRuntime) -> Result<(), Fail> {
     assert_eq!(rt; file.read(alloc, 2, 5)?.as_slice(), b"cde".as_slice());
     assert!(rt; file.read(alloc, 0, 6).is_err());
     assert_eq!(rt; file.read(alloc, 6, 6)?.len(), 0);
+    Ok(())
+}
+
+#[test]
+fn parts_of_bytes_are_cut(rt: HostRuntime) -> Result<(), Fail> {
+    let alloc = rt.alloc();
+    let bytes = Bytes::copy_from_slice(alloc, b"abc\x02\x00\x00\x00\x00\x00\x00\x00")?;
+    let (number, rest) = u32_at(bytes.as_slice()).unwrap_or((0, b""));
+    assert_eq!(rt; number, 0x0263_6261);
+    assert_eq!(rt; rest.len(), 7);
+    let (front, back) = split_by_second(bytes.as_slice()).unwrap_or((b"", b""));
+    assert_eq!(rt; front, b"a".as_slice());
+    assert_eq!(rt; back, b"bc".as_slice());
+    let (first, second) = cut_by_first(bytes)?;
+    assert_eq!(rt; first.as_slice(), b"ab".as_slice());
+    assert_eq!(rt; cut_rest(first, 1).as_slice(), b"b".as_slice());
+    assert_eq!(rt; second.as_slice(), b"c".as_slice());
     Ok(())
 }
