@@ -2,13 +2,13 @@
 ghost use Rattle.std.specs.Prelude.{◌≡◌, ◌^◌, ◌<◌, length, Some, IfOk};
 ghost use Rattle.col_common.specs.Serializing.{Serializes};
 ghost use Rattle.col_model.specs.Index.{row_set};
-ghost use Rattle.col_codecs.specs.Written.{done};
+ghost use Rattle.col_numbers.specs.Written.{done};
 ghost use Rattle.col_index.specs.Versions.{cardinality_of};
 ghost use Rattle.col_indexer.specs.RowViews.{rows_of};
 ghost use Rattle.col_indexer.specs.Spelling.{list_bytes, row_set_bytes, AreRowsOf32};
 
 use crate::{RowIds, StartOffsets, indexes_are_read_back};
-use col_codecs::{CodecType, serialize_estimated_values};
+use col_numbers::{CodecType, serialize_estimated_values};
 use col_common::{ColumnarError, Iterable, RowId, Sink, VInt};
 use col_index::{Cardinality, OptionalIndex};
 use std::alloc::Global;

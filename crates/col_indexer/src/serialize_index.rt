@@ -2,7 +2,7 @@
 ghost use Rattle.std.specs.Prelude.{◌≡◌, length, Some, IfOk};
 ghost use Rattle.col_common.specs.Serializing.{Serializes};
 ghost use Rattle.col_model.specs.Index.{row_offsets, shape};
-ghost use Rattle.col_codecs.specs.Written.{done};
+ghost use Rattle.col_numbers.specs.Written.{done};
 ghost use Rattle.col_indexer.specs.Spelling.{offsets_by_rows, row_offsets_bytes, body_bytes};
 ghost use Rattle.col_indexer.specs.Spelling.{index_bytes, index_shape, AreOffsetsOf32, IsWritable};
 ghost use Rattle.col_indexer.specs.Written.{row_offsets_of, index_of};

@@ -2,14 +2,14 @@
 ghost use Rattle.std.specs.Prelude.{◌≡◌, ◌≤◌, ◌<◌, ◌^◌, length, sum, slice_get};
 ghost use Rattle.std.specs.List.{range_with_len};
 ghost use Rattle.col_model.specs.Positions.{rows_with_value, starts_of};
-ghost use Rattle.col_codecs.specs.Readers.{list_of};
+ghost use Rattle.col_numbers.specs.Readers.{list_of};
 ghost use Rattle.col_indexer.specs.Counted.{counts_in};
 ghost use Rattle.col_index.specs.Indexes.{shape_of};
 ghost use Rattle.col_common.specs.Walks.{IsNext};
 ghost use Rattle.col_indexer.specs.Stacks.{AreSegments, segments_of, AreOf32};
 ghost use Rattle.col_indexer.specs.Stacks.{StandsAtRow, rows_left, StandsAtOffset, offsets_left};
 
-use col_codecs::U64Values;
+use col_numbers::U64Values;
 use col_common::{Iterable, RowId, Walk};
 use col_index::{ColumnIndex, NonNullDocs};
 use col_order::StackMergeOrder;
