@@ -1,4 +1,5 @@
 pub mod Sets
+pub mod Appending
 pub mod Search
 pub mod Places
 pub mod Versions

@@ -18,7 +18,7 @@ use crate::multivalued_index::MultiValueIndex;
 use crate::multivalued_index_v2::MultiValueIndexV2;
 use crate::optional_index::OptionalIndex;
 use bytes::Bytes;
-use col_common::{ColumnarError, RowId, read_vint};
+use col_common::{ColumnarError, InvalidData, RowId, read_vint};
 use col_numbers::load_u64_values;
 use std::alloc::Global;
 
@@ -88,8 +88,8 @@ fn open_as(
     bytes: Bytes,
     format_version: Version,
 ) -> Result<ColumnIndex, ColumnarError>
-    ensures { Decodes shape_of result
-        (shape (cardinality_code (cardinality_of cardinality) ∷ bytes) (version_number format_version)) }
+    ensures { let code = cardinality_code (cardinality_of cardinality) in
+        Decodes shape_of result (shape (code ∷ bytes) (version_number format_version)) }
 {
     match cardinality {
         Cardinality::Full => {
@@ -109,13 +109,17 @@ fn open_as(
 
 // The cardinality of the first byte.
 fn first_cardinality(bytes: &[u8]) -> Option<Cardinality>
-    ensures code { IfSome result (λ c. bytes.now ≡ cardinality_code (cardinality_of c) ∷ drop 1 bytes.now) }
+    ensures code { IfSome result (λ c.
+        bytes.now ≡ cardinality_code (cardinality_of c) ∷ drop 1 bytes.now) }
     ensures none { IfNone result (first_byte_cardinality bytes.now ≡ None) }
 {
     let [code, ..] = bytes else {
         return None;
     };
-    Cardinality::try_from_code(*code)
+    match Cardinality::try_from_code(*code) {
+        Ok(cardinality) => Some(cardinality),
+        Err(InvalidData) => None,
+    }
 }
 
 // The row count at the front, and the bytes behind it.
@@ -156,7 +160,8 @@ fn split_parts(bytes: Bytes) -> Result<Option<(Bytes, Bytes)>, ColumnarError>
 
 // How many bytes the first of two parts takes, and how many both take.
 fn part_lens(bytes: &[u8]) -> Option<(usize, usize)>
-    ensures parts { option_map (λ r. (take r.0 (take r.1 bytes.now), drop r.0 (take r.1 bytes.now))) result
+    ensures parts { option_map
+        (λ r. (take r.0 (take r.1 bytes.now), drop r.0 (take r.1 bytes.now))) result
         ≡ parts_by_first w64 bytes.now }
     ensures within { IfSome result (λ r. (r.0 ≤ r.1) × (r.1 ≤ length bytes.now)) }
 {
