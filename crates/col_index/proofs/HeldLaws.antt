@@ -41,8 +41,10 @@ rank-holds xs t h e = ap (holds xs) (sym e) ∙ holds-at xs (rank xs t) h
 pub rows-ranked : (xs : List ℕ) → is_rising xs ≡ true → IsRanked (holds xs) (rank xs) (slice_get xs) (λ k. k < length xs)
 rows-ranked xs e = record {
   ranks = λ k el h. ap (rank xs) (sym (get_or_from_slice_get xs k el 0 h)) ∙ rank-at xs k e (slice_get_within xs k el h);
-  members = λ el. (λ h. let p = holds-rank xs el e h in slice_get-get_or xs (rank xs el) 0 p.0 ∙ ap Some p.1,
-      λ h. rank-holds xs el (slice_get_within xs (rank xs el) el h) (get_or_from_slice_get xs (rank xs el) el 0 h));
+  members = λ el. (
+    λ h. let p = holds-rank xs el e h in slice_get-get_or xs (rank xs el) 0 p.0 ∙ ap Some p.1,
+    λ h. rank-holds xs el (slice_get_within xs (rank xs el) el h) (get_or_from_slice_get xs (rank xs el) el 0 h),
+  );
   selects = λ k. (λ h. (get_or xs k 0, slice_get-get_or xs k 0 h), λ p. slice_get_within xs k p.0 p.1);
 }
 

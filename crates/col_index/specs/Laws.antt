@@ -1,7 +1,5 @@
 -- Laws about indexes: public calls ensure them, and have nothing else to do.
-use Rattle.std.specs.Prelude.{◌≡◌, ◌↔◌, ℕ, ◌==◌, Bool, true, List, Option, Some}
-use Rattle.std.specs.Ordering.{nat_cmp}
-use Rattle.std.specs.declared.cmp.Ordering.{Ordering}
+use Rattle.std.specs.Prelude.{◌≡◌, ◌↔◌, ℕ, Bool, true, Option, Some}
 use Rattle.col_model.specs.Index.{RowSet, RowOffsets, set_counts, offset_counts}
 use Rattle.col_model.specs.Positions.{rank, start_of, rows_with_value, starts_of}
 use Rattle.col_index.specs.Sets.{AreRows}
@@ -14,15 +12,6 @@ pub record IsRanked {T : Type 0} (holds : T → Bool) (rank_of : T → T) (at_ra
   pub ranks : (k el : T) → at_rank k ≡ Some el → rank_of el ≡ k
   pub members : (el : T) → (holds el ≡ true) ↔ (at_rank (rank_of el) ≡ Some el)
   pub selects : (k : T) → IsRank k ↔ ((el : T) × (at_rank k ≡ Some el))
-
--- Values are equal where their numbers are, ordered as these are, and equal ones hash alike.
-pub record AreComparedBy {T : Type 0} (number : T → ℕ) (eq : T → T → Bool)
-    (partial_cmp : T → T → Option Ordering) (cmp : T → T → Ordering)
-    (hash_input : T → List (List ℕ)) : Type 0 where
-  pub equal : (a b : T) → eq a b ≡ (number a == number b)
-  pub partly : (a b : T) → partial_cmp a b ≡ Some (nat_cmp (number a) (number b))
-  pub ordered : (a b : T) → cmp a b ≡ nat_cmp (number a) (number b)
-  pub hashed : (a b : T) → eq a b ≡ true → hash_input a ≡ hash_input b
 
 -- the counts of rows with a value have just these rows, and start where their offsets say
 pub record IndexesHaveCounts : Type 0 where

@@ -18,7 +18,9 @@ pub use cardinality::Cardinality;
 pub use col_order::{MergeRowOrder, ShuffleMergeOrder, StackMergeOrder};
 pub use column_index::ColumnIndex;
 pub use format_version::{CURRENT_VERSION, Version};
-pub use laws::{cardinalities_are_ordered, indexes_have_counts, versions_are_numbers};
+pub use laws::{
+    cardinalities_compare_as_their_codes, indexes_have_counts, versions_are_equal_as_their_numbers,
+};
 pub use multivalued_index::MultiValueIndex;
 pub use multivalued_index_v2::MultiValueIndexV2;
 pub use open::{open_column_index, open_multivalued_index, open_optional_index};

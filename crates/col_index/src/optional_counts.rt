@@ -1,7 +1,6 @@
 //! Optional indexes by how many values each row has.
-ghost use Rattle.std.specs.Prelude.{◌≡◌, ◌==◌, not, true, nat_lt, sum, slice_index};
-ghost use Rattle.std.specs.List.{list_all};
-ghost use Rattle.col_model.specs.Ascending.{is_rising};
+ghost use Rattle.std.specs.Prelude.{◌≡◌, ◌==◌, not, true, sum, slice_index};
+ghost use Rattle.col_model.specs.Ascending.{is_rising, are_below};
 ghost use Rattle.col_model.specs.Index.{set_counts, optional_shape};
 ghost use Rattle.col_model.specs.Positions.{start_of, rows_at};
 ghost use Rattle.col_index.specs.Offsets.{positions_of_rows, docs_of, positions_of};
@@ -48,8 +47,7 @@ impl OptionalIndex {
     /// Puts in the place of ascending positions the rows that have them.
     pub(crate) fn select_batch_in_place(&self, rank_ids: &mut Vec<RowId>)
         requires rising { is_rising rank_ids.old.items ≡ true }
-        requires inside { list_all (λ p. nat_lt p (sum (set_counts self.now)))
-            rank_ids.old.items ≡ true }
+        requires inside { are_below (sum (set_counts self.now)) rank_ids.old.items ≡ true }
         ensures { rank_ids.new.items ≡ rows_at (set_counts self.now) rank_ids.old.items }
     {
         self.rows_rise();

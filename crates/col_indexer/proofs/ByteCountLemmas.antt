@@ -4,6 +4,7 @@ use Rattle.std.proofs.lemmas.Bool.{cases_lt, lt-ltb, le-ltb}
 use Rattle.std.proofs.lemmas.Bool.Decides.{nat_tests}
 use Rattle.std.proofs.lemmas.Option.{same_Some, none-some}
 use Rattle.std.proofs.Math.Nat.{mul-le-mul_left}
+use Rattle.col_bits.proofs.PackedLemmas.{length-digits}
 use Rattle.col_common.specs.VInt.{group_bytes, vint_bytes}
 use Rattle.col_model.specs.Packed.{width, is_width, packed_bytes, number_of, digits}
 use Rattle.col_model.specs.Stats.{Stats, stats_of, steps_of, stats_bytes}
@@ -15,10 +16,6 @@ use Rattle.std.proofs.lemmas.List.{length-map}
 use Rattle.col_indexer.specs.Spelling.{index_codecs, list_bytes}
 
 -- ---- a body is as long as its estimate
-
-length-digits : (base k n : ℕ) → length (digits base k n) ≡ k
-length-digits base zero n = refl
-length-digits base (suc k) n = ap suc (length-digits base k (n / base))
 
 packed_bytes-length : (w : ℕ) (xs : List ℕ) → length (packed_bytes w xs) ≡ packed_len (length xs) w
 packed_bytes-length w xs = length-digits 256 (packed_len (length xs) w) (number_of (2 ^ w) xs)

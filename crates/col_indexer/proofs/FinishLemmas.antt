@@ -1,12 +1,11 @@
 -- The index of rows and offsets that builders recorded.
-use Rattle.std.proofs.Common.{◌≡◌, ℕ, ◌+◌, ◌<◌, ◌==◌, ◌&&◌, nat_lt, true, List, [], ◌∷◌, length, refl, sym, ap, ◌∙◌, arith, subst}
-use Rattle.std.specs.List.{list_all}
+use Rattle.std.proofs.Common.{◌≡◌, ℕ, ◌+◌, ◌<◌, ◌^◌, ◌==◌, ◌&&◌, true, List, [], ◌∷◌, length, refl, sym, ap, ◌∙◌, arith, subst}
 use Rattle.std.proofs.lemmas.Bool.{eq-eqb, and_from}
-use Rattle.col_model.specs.Ascending.{is_rising, differences}
+use Rattle.col_model.specs.Ascending.{is_rising, are_below, differences}
 use Rattle.col_model.specs.Index.{are_offsets, are_starts}
 use Rattle.col_model.specs.Positions.{starts_after, starts_of}
-use Rattle.col_indexer.specs.Builders.{Recorded, IsRecording, AllHaveValues, recorded_index, AreRowsBelow}
-use Rattle.col_indexer.specs.Spelling.{offsets_by_rows}
+use Rattle.col_indexer.specs.Builders.{Recorded, IsRecording, AllHaveValues, recorded_index}
+use Rattle.col_indexer.specs.Spelling.{offsets_by_rows, AreOffsetsOf32}
 use Rattle.col_index.specs.Offsets.{AreOffsets}
 use Rattle.col_indexer.proofs.RecordedLists.{starts-recorded, first_is_zero, rising-recorded}
 use Rattle.col_indexer.proofs.BuilderLemmas.{begun, shown_of}
@@ -29,14 +28,17 @@ recorded-index n rows offsets rows' starts shown r v a e b =
     first ∙ second ∙ ap (recorded_index n) v
 
 -- what was recorded is an index
-pub recorded-offsets : (n : ℕ) (rows offsets : List ℕ) (shown : Recorded) → IsRecording rows offsets → shown_of rows offsets ≡ shown → AreRowsBelow n shown.rows → AllHaveValues shown.counts → AreOffsets (recorded_index n shown)
-recorded-offsets n rows offsets shown r v below a =
-    let rows_below : AreRowsBelow n rows = subst (λ s. AreRowsBelow n s.rows) (sym v) below in
+pub recorded-offsets : (n : ℕ) (rows offsets : List ℕ) (shown : Recorded) → IsRecording rows offsets → shown_of rows offsets ≡ shown → n < 2 ^ 32 → are_below n shown.rows ≡ true → AllHaveValues shown.counts → AreOffsetsOf32 (recorded_index n shown)
+recorded-offsets n rows offsets shown r v fits below a =
+    let rows_below : are_below n rows ≡ true = subst (λ s. are_below n s.rows ≡ true) (sym v) below in
     let each : AllHaveValues (differences offsets) = subst (λ s. AllHaveValues s.counts) (sym v) a in
-    let is_set = and_from (is_rising rows) (list_all (λ q. nat_lt q n) rows) r.rise rows_below in
+    let is_set = and_from (is_rising rows) (are_below n rows) r.rise rows_below in
     let starts = recorded-starts rows offsets r each in
     let here : AreOffsets (offsets_by_rows n rows (begun offsets)) = record { rows = is_set; starts = by_case offsets r each } in
-    subst (λ s. AreOffsets (recorded_index n s)) v (subst (λ xs. AreOffsets (offsets_by_rows n rows xs)) starts here)
+    record {
+      offsets = subst (λ s. AreOffsets (recorded_index n s)) v (subst (λ xs. AreOffsets (offsets_by_rows n rows xs)) starts here);
+      fits = fits;
+    }
   where
     by_case : (os : List ℕ) → IsRecording rows os → AllHaveValues (differences os) → are_starts (offsets_by_rows n rows (begun os)) ≡ true
     by_case [] q each = subst (λ rs. are_starts (offsets_by_rows n rs (0 ∷ [])) ≡ true) (sym (q.none refl)) refl

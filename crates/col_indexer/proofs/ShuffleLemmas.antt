@@ -15,7 +15,7 @@ use Rattle.col_order.proofs.MarkedLemmas.{row_there}
 use Rattle.col_indexer.specs.Counted.{rows_behind, ends_behind}
 use Rattle.col_index.specs.Indexes.{shape_of}
 use Rattle.col_indexer.specs.Merged.{FitSegments}
-use Rattle.col_indexer.specs.Shuffles.{Picked, shuffled_counts}
+use Rattle.col_indexer.specs.Shuffles.{Picked, picked_of, shuffled_counts}
 use Rattle.col_index.specs.declared.column_index.ColumnIndex.{ColumnIndex}
 use Rattle.col_indexer.proofs.CountedLemmas.{rows_behind-none, rows_behind-some, ends_behind-none, ends_behind-some, starts_of-ends}
 use Rattle.col_indexer.proofs.SegmentLemmas.{length-fit}
@@ -24,10 +24,6 @@ use Rattle.col_indexer.proofs.SegmentLemmas.{length-fit}
 pub record AreOf (indexes : List ColumnIndex) (addrs : List RowAddr) (p : Picked) : Type 0 where
   pub shapes : map shape_of indexes ≡ p.shapes
   pub addresses : map address_of addrs ≡ p.order.addresses
-
--- an order over shapes
-abbrev pub picked_of : List Shape → Shuffle → Picked
-picked_of shapes order = record { shapes = shapes; order = order }
 
 -- they are what a walk sees
 pub are_of : (indexes : List ColumnIndex) (addrs : List RowAddr) (order : Shuffle) (p : Picked) → ◌≡◌ {A = Picked} (record { shapes = map shape_of indexes; order = order }) p → map address_of addrs ≡ order.addresses → AreOf indexes addrs p

@@ -1,8 +1,8 @@
 -- What is written of an index is read back.
-use Rattle.std.proofs.Common.{◌≡◌, ℕ, ◌+◌, ◌^◌, ◌<◌, ◌≤◌, ◌&&◌, nat_lt, true, List, [], ◌∷◌, length, Some, refl, ap, ◌∙◌, arith, lit≤, append_assoc, length-append}
+use Rattle.std.proofs.Common.{◌≡◌, ℕ, ◌+◌, ◌^◌, ◌<◌, ◌≤◌, ◌-◌, ◌==◌, ◌&&◌, nat_lt, nat_le, true, false, List, [], ◌∷◌, length, Some, refl, ap, ◌∙◌, arith, lit≤, append_assoc, length-append}
 use Rattle.std.specs.List.{AllByRecursion, list_all}
 use Rattle.std.specs.Int.{w64, to_le_bytes}
-use Rattle.std.proofs.lemmas.Bool.{and_parts, lt-ltb, ltb-true}
+use Rattle.std.proofs.lemmas.Bool.{and_parts, eqb-true, leb-false, lt-ltb, ltb-true}
 use Rattle.col_common.specs.VInt.{vint_bytes}
 use Rattle.col_common.proofs.VIntLemmas.{vint-vint_bytes}
 use Rattle.col_model.specs.Ascending.{is_rising}
@@ -11,7 +11,7 @@ use Rattle.col_model.specs.U64List.{values64}
 use Rattle.col_model.proofs.ChosenLaws.{values64-chosen}
 use Rattle.col_model.proofs.ReadingLaws.{parts_by_first-w64}
 use Rattle.col_index.specs.Sets.{AreRows}
-use Rattle.col_indexer.specs.Spelling.{Index, full_index, optional_index, multivalued_index, index_codecs, list_bytes, row_set_bytes, row_offsets_bytes, index_bytes, index_shape, AreRowsOf32, AreOffsetsOf32, IsWritable}
+use Rattle.col_indexer.specs.Spelling.{Index, full_index, optional_index, multivalued_index, index_codecs, list_bytes, row_set_bytes, row_offsets_bytes, index_bytes, index_shape, AreRowsOf32, AreOffsetsOf32, IsIndex, is_past_limit}
 use Rattle.col_indexer.proofs.ByteCountLemmas.{index_codec, list_bytes-picked, list_bytes-most, vint_bytes-most}
 
 -- numbers below one are below a greater one
@@ -54,27 +54,34 @@ row_set-back s a =
     let fits = a.fits in
     rw (vint-vint_bytes s.num_rows (list_bytes s.rows) (omega arith), rows-back s a, lt-ltb s.num_rows (2 ^ 32) fits, a.rows) refl
 
-starts-back : (o : RowOffsets) → AreOffsetsOf32 o → values64 (list_bytes o.starts) ≡ Some o.starts
-starts-back o a =
+-- one offset more than rows
+pub starts-few : (o : RowOffsets) → AreOffsetsOf32 o → nat_le (2 ^ 32 - 1) (length o.set.rows) ≡ false → length o.starts < 2 ^ 32
+starts-few o a few =
+    let long = eqb-true (length o.starts) (length o.set.rows + 1) (and_parts (are_offsets o.starts && is_rising o.starts) (length o.starts == length o.set.rows + 1) a.offsets.starts).1 in
+    let below = leb-false (2 ^ 32 - 1) (length o.set.rows) few in
+    omega arith
+
+starts-back : (o : RowOffsets) → AreOffsetsOf32 o → nat_le (2 ^ 32 - 1) (length o.set.rows) ≡ false → values64 (list_bytes o.starts) ≡ Some o.starts
+starts-back o a few =
     let offsets = (and_parts (are_offsets o.starts && is_rising o.starts) _ a.offsets.starts).0 in
     let below = (and_parts (are_offsets o.starts) (is_rising o.starts) offsets).0 in
-    list-back o.starts (all_below (2 ^ 32) (2 ^ 64) o.starts (lit≤ tt) (and_parts _ (list_all (λ s. nat_lt s (2 ^ 32)) o.starts) below).1) a.few
+    list-back o.starts (all_below (2 ^ 32) (2 ^ 64) o.starts (lit≤ tt) (and_parts _ (list_all (λ s. nat_lt s (2 ^ 32)) o.starts) below).1) (starts-few o a few)
 
 -- the bytes of rows are few enough that 64 bits say how many they are
 pub row_set_bytes-few : (s : RowSet) → AreRowsOf32 s → length (row_set_bytes s) < 2 ^ 36
 unfolding row_set_bytes
 row_set_bytes-few s a = omega (arith, length-append (vint_bytes s.num_rows) (list_bytes s.rows), vint_bytes-most s.num_rows, list_bytes-most s.rows, rows-few s a.rows, a.fits)
 
-pub row_offsets-back : (o : RowOffsets) → AreOffsetsOf32 o → row_offsets (row_offsets_bytes o) ≡ Some o
+pub row_offsets-back : (o : RowOffsets) → AreOffsetsOf32 o → nat_le (2 ^ 32 - 1) (length o.set.rows) ≡ false → row_offsets (row_offsets_bytes o) ≡ Some o
 unfolding row_offsets row_offsets_bytes
-row_offsets-back o a =
+row_offsets-back o a limit =
     let set : AreRowsOf32 o.set = record { rows = a.offsets.rows; fits = a.fits } in
     let few = row_set_bytes-few o.set set in
     let long : length (row_set_bytes o.set) < 2 ^ 64 = omega arith in
-    rw (← append_assoc (row_set_bytes o.set) (list_bytes o.starts) (to_le_bytes w64 (length (row_set_bytes o.set))), parts_by_first-w64 (row_set_bytes o.set) (list_bytes o.starts) long, row_set-back o.set set, starts-back o a, a.offsets.starts) refl
+    rw (← append_assoc (row_set_bytes o.set) (list_bytes o.starts) (to_le_bytes w64 (length (row_set_bytes o.set))), parts_by_first-w64 (row_set_bytes o.set) (list_bytes o.starts) long, row_set-back o.set set, starts-back o a limit, a.offsets.starts) refl
 
-pub index-back : (i : Index) → IsWritable i → shape (index_bytes i) 2 ≡ Some (index_shape i)
+pub index-back : (i : Index) → IsIndex i → is_past_limit i ≡ false → shape (index_bytes i) 2 ≡ Some (index_shape i)
 unfolding shape index_bytes
-index-back full_index a = refl
-index-back (optional_index s) a = rw (row_set-back s a) refl
-index-back (multivalued_index o) a = rw (row_offsets-back o a) refl
+index-back full_index a limit = refl
+index-back (optional_index s) a limit = rw (row_set-back s a) refl
+index-back (multivalued_index o) a limit = rw (row_offsets-back o a limit) refl

@@ -8,7 +8,7 @@ use Rattle.col_model.specs.Positions.{starts_of, starts_after}
 use Rattle.col_indexer.specs.Counted.{counts_in}
 use Rattle.col_index.specs.Indexes.{shape_of}
 use Rattle.col_indexer.specs.Merged.{FitSegments}
-use Rattle.col_indexer.specs.Stacks.{Segments, AreSegments, segments_of, segment_counts, counts_from, values_before, StandsAtOffset, offsets_left}
+use Rattle.col_indexer.specs.Stacks.{Segments, AreSegments, segments_of, segment_counts, counts_from, values_before, StandsAtOffset, stacked_offsets_to_give}
 use Rattle.col_index.specs.declared.column_index.ColumnIndex.{ColumnIndex}
 use Rattle.col_indexer.proofs.CountedLemmas.{length-rows_with_value}
 use Rattle.col_indexer.proofs.SegmentLemmas.{counts_from-first, counts_from-end, length-segment, values_before-more, rows_within, values_within}
@@ -39,7 +39,7 @@ module _ (s : Segments) (a b : Walk) (are : AreSegments s) (stands : StandsAtOff
       }
 
   -- it is the first that was left
-  pub first_given : a.place ≡ 0 → b.segment ≡ a.segment → b.place ≡ 1 → b.sum ≡ a.sum → offsets_left s a ≡ a.sum ∷ offsets_left s b
+  pub first_given : a.place ≡ 0 → b.segment ≡ a.segment → b.place ≡ 1 → b.sum ≡ a.sum → stacked_offsets_to_give s a ≡ a.sum ∷ stacked_offsets_to_give s b
   first_given z e f g =
       ap (λ n. drop n (starts_after a.sum (counts_from s a.segment))) z
       ∙ starts_after-first a.sum (counts_from s a.segment)
@@ -48,7 +48,7 @@ module _ (s : Segments) (a b : Walk) (are : AreSegments s) (stands : StandsAtOff
       ∙ ap (λ k. a.sum ∷ drop b.place (starts_after b.sum (counts_from s k))) (sym e)
 
   -- behind the last segment nothing is left but it
-  pub offsets_end : length s.counts ≤ a.segment → 0 < a.place → offsets_left s a ≡ []
+  pub offsets_end : length s.counts ≤ a.segment → 0 < a.place → stacked_offsets_to_give s a ≡ []
   offsets_end h p =
       ap (λ cs. drop a.place (starts_after a.sum cs)) (counts_from-end s a.segment are.fit h) ∙ drop_all a.place (a.sum ∷ []) (omega arith)
 
@@ -93,7 +93,7 @@ module _ (s : Segments) (a b : Walk) (are : AreSegments s) (stands : StandsAtOff
         }
 
     -- the start is the first that was left
-    pub start_given : b.segment ≡ a.segment → b.place ≡ a.place + 1 → b.sum ≡ a.sum → offsets_left s a ≡ (a.sum + start) ∷ offsets_left s b
+    pub start_given : b.segment ≡ a.segment → b.place ≡ a.place + 1 → b.sum ≡ a.sum → stacked_offsets_to_give s a ≡ (a.sum + start) ∷ stacked_offsets_to_give s b
     start_given e f g =
         item_of a.sum a.place start _ _ _ _ front_moved starts_split read
         ∙ ap (λ n. (a.sum + start) ∷ drop n (starts_after a.sum (counts_from s a.segment))) (sym f)
@@ -111,7 +111,7 @@ module _ (s : Segments) (a b : Walk) (are : AreSegments s) (stands : StandsAtOff
         }
 
     -- and has the same starts to give
-    pub starts_left : b.segment ≡ a.segment + 1 → b.place ≡ 1 → b.sum ≡ a.sum + sum (segment_counts s a.segment) → offsets_left s b ≡ offsets_left s a
+    pub starts_left : b.segment ≡ a.segment + 1 → b.place ≡ 1 → b.sum ≡ a.sum + sum (segment_counts s a.segment) → stacked_offsets_to_give s b ≡ stacked_offsets_to_give s a
     starts_left e f g =
         ap (λ n. drop n (starts_after b.sum (counts_from s b.segment))) f
         ∙ ap (λ n. drop 1 (starts_after n (counts_from s b.segment))) g

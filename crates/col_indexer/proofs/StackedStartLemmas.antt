@@ -5,7 +5,6 @@ use Rattle.std.proofs.lemmas.List.Sums.{sum_by-cons}
 use Rattle.std.proofs.lemmas.Option.{get_or_from_slice_get}
 use Rattle.col_common.specs.Walks.{IsNext}
 use Rattle.col_model.specs.Positions.{rows_with_value, starts_after, starts_of}
-use Rattle.col_indexer.specs.Stacks.{AreOf32}
 use Rattle.col_index.proofs.RowsLaws.{rows_from, rows_with_value-from}
 use Rattle.col_indexer.proofs.CountedLemmas.{rows_from-some, starts_after-some}
 
@@ -35,10 +34,6 @@ starts_after-le b (suc c ∷ cs) (suc k) = omega (arith, ap (λ xs. get_or xs (s
 pub starts-le : (cs : List ℕ) (k x : ℕ) → slice_get (starts_of cs) k ≡ Some x → x ≤ sum cs
 unfolding starts_of
 starts-le cs k x e = omega (arith, get_or_from_slice_get (starts_of cs) k x 0 e, starts_after-le 0 cs k)
-
--- starts of few values are small
-pub starts-fit : (cs : List ℕ) → sum cs < 2 ^ 32 → AreOf32 (starts_of cs)
-starts-fit cs h k x e = omega (arith, starts-le cs k x e)
 
 -- the last start is the number of values, behind so many
 starts_after-last : (b a : ℕ) (cs : List ℕ) → get_or (starts_after b cs) (length (rows_from a cs)) 0 ≡ b + sum cs

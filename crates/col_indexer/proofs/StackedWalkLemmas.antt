@@ -9,7 +9,7 @@ use Rattle.col_indexer.specs.Counted.{rows_behind, counts_in}
 use Rattle.col_index.specs.Indexes.{shape_of}
 use Rattle.col_indexer.specs.Merged.{FitSegments}
 use Rattle.col_index.specs.declared.column_index.ColumnIndex.{ColumnIndex}
-use Rattle.col_indexer.specs.Stacks.{Segments, AreSegments, segments_of, segment_counts, counts_from, StandsAtRow, rows_left}
+use Rattle.col_indexer.specs.Stacks.{Segments, AreSegments, segments_of, segment_counts, counts_from, StandsAtRow, stacked_rows_to_give}
 use Rattle.col_indexer.proofs.CountedLemmas.{rows_behind-append, length-rows_with_value, row-below}
 use Rattle.col_indexer.proofs.SegmentLemmas.{length-fit, counts_from-first, counts_from-end, length-segment, start_of-more, rows_within}
 use Rattle.col_indexer.proofs.StackedStartLemmas.{slice_get-none}
@@ -83,7 +83,7 @@ module _ (s : Segments) (a b : Walk) (are : AreSegments s) (stands : StandsAtRow
         }
 
     -- the row is the first that was left
-    pub row_given : b.segment ≡ a.segment → b.place ≡ a.place + 1 → b.sum ≡ a.sum → rows_left s a ≡ (a.sum + row) ∷ rows_left s b
+    pub row_given : b.segment ≡ a.segment → b.place ≡ a.place + 1 → b.sum ≡ a.sum → stacked_rows_to_give s a ≡ (a.sum + row) ∷ stacked_rows_to_give s b
     row_given e f g =
         item_of a.sum a.place row _ _ _ _ refl rows_split read
         ∙ ap (λ n. (a.sum + row) ∷ drop n (rows_behind a.sum (counts_from s a.segment))) (sym f)
@@ -101,7 +101,7 @@ module _ (s : Segments) (a b : Walk) (are : AreSegments s) (stands : StandsAtRow
         }
 
     -- and has the same rows to give
-    pub segment_left : b.segment ≡ a.segment + 1 → b.place ≡ 0 → b.sum ≡ a.sum + get_or s.counts a.segment 0 → rows_left s b ≡ rows_left s a
+    pub segment_left : b.segment ≡ a.segment + 1 → b.place ≡ 0 → b.sum ≡ a.sum + get_or s.counts a.segment 0 → stacked_rows_to_give s b ≡ stacked_rows_to_give s a
     segment_left e f g =
         ap (λ n. drop n (rows_behind b.sum (counts_from s b.segment))) f
         ∙ ap (λ n. rows_behind n (counts_from s b.segment)) g
@@ -109,6 +109,6 @@ module _ (s : Segments) (a b : Walk) (are : AreSegments s) (stands : StandsAtRow
         ∙ sym (none_of a.place _ _ _ _ (length-map (rows_with_value (segment_counts s a.segment)) (λ row. a.sum + row)) rows_split stands.place none)
 
 -- behind the last segment no row is left
-pub rows_end : (s : Segments) (a : Walk) → AreSegments s → length s.counts ≤ a.segment → rows_left s a ≡ []
+pub rows_end : (s : Segments) (a : Walk) → AreSegments s → length s.counts ≤ a.segment → stacked_rows_to_give s a ≡ []
 rows_end s a are h =
     ap (λ cs. drop a.place (rows_behind a.sum cs)) (counts_from-end s a.segment are.fit h) ∙ drop_all a.place [] (omega arith)

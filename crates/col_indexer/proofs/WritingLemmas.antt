@@ -1,5 +1,5 @@
 -- Lists of an index, as they are written.
-use Rattle.std.proofs.Common.{◌≡◌, ℕ, ◌+◌, ◌^◌, ◌<◌, List, [], ◌∷◌, ◌++◌, length, map, Some, Result, Ok, Err, refl, sym, ap, ◌∙◌, arith, subst, length-append}
+use Rattle.std.proofs.Common.{◌≡◌, ℕ, ◌+◌, ◌-◌, ◌^◌, ◌<◌, nat_le, false, List, [], ◌∷◌, ◌++◌, length, map, Some, Result, Ok, Err, refl, sym, ap, ◌∙◌, arith, subst, length-append}
 use Rattle.std.specs.Option.{IfSome}
 use Rattle.std.specs.Int.{w64, to_le_bytes}
 use Rattle.std.proofs.lemmas.List.{map-id}
@@ -12,10 +12,10 @@ use Rattle.col_common.proofs.SerializingLemmas.{serializes-then, serializes-stop
 use Rattle.col_model.specs.Table.{cardinality_code}
 use Rattle.col_model.specs.Index.{RowSet, RowOffsets}
 use Rattle.col_model.specs.Codecs.{chosen_codec, codec_bytes, estimate}
-use Rattle.col_indexer.specs.Spelling.{Index, full_index, optional_index, multivalued_index, index_codecs, list_bytes, row_set_bytes, row_offsets_bytes, body_bytes, index_bytes, AreRowsOf32, AreOffsetsOf32, IsWritable}
+use Rattle.col_indexer.specs.Spelling.{Index, full_index, optional_index, multivalued_index, index_codecs, list_bytes, row_set_bytes, row_offsets_bytes, body_bytes, index_bytes, AreRowsOf32, AreOffsetsOf32, IsIndex, is_past_limit}
 use Rattle.col_indexer.specs.Written.{cardinality_written}
 use Rattle.col_indexer.proofs.ByteCountLemmas.{index_codec, list_bytes-picked, list_bytes-most}
-use Rattle.col_indexer.proofs.SpellingLemmas.{row_set_bytes-few}
+use Rattle.col_indexer.proofs.SpellingLemmas.{row_set_bytes-few, starts-few}
 
 -- what is said of the codec that is chosen for a list
 at_picked : (P : ℕ → List ℕ → Type 0) (xs : List ℕ) → IfSome (chosen_codec (map (λ x. x) xs) index_codecs) (λ codec. P codec (map (λ x. x) xs)) → P (index_codec xs).0 xs
@@ -75,10 +75,10 @@ row_offsets-long front rest o f r =
     omega (arith, length-append (row_set_bytes o.set) (list_bytes o.starts ++ to_le_bytes w64 (length (row_set_bytes o.set))))
 
 -- 64 bits say how long they are
-pub row_offsets-fits : (front rest : ℕ) (o : RowOffsets) → AreOffsetsOf32 o → front ≡ length (row_set_bytes o.set) → rest ≡ length (list_bytes o.starts) → front + rest < 2 ^ 37
-row_offsets-fits front rest o a f r =
+pub row_offsets-fits : (front rest : ℕ) (o : RowOffsets) → AreOffsetsOf32 o → nat_le (2 ^ 32 - 1) (length o.set.rows) ≡ false → front ≡ length (row_set_bytes o.set) → rest ≡ length (list_bytes o.starts) → front + rest < 2 ^ 37
+row_offsets-fits front rest o a limit f r =
     let set : AreRowsOf32 o.set = record { rows = a.offsets.rows; fits = a.fits } in
-    omega (arith, row_set_bytes-few o.set set, list_bytes-most o.starts, a.few)
+    omega (arith, row_set_bytes-few o.set set, list_bytes-most o.starts, starts-few o a limit)
 
 -- ---- indexes
 
@@ -95,7 +95,7 @@ index-written a b d end result code i e front rest =
 pub index-long : (rest : ℕ) (i : Index) → rest ≡ length (body_bytes i) → 1 + rest ≡ length (index_bytes i)
 index-long rest i e = omega (arith, ap length (index_code i))
 
-pub index-fits : (rest : ℕ) (i : Index) → IsWritable i → rest ≡ length (body_bytes i) → 1 + rest < 2 ^ 64
-index-fits rest full_index a e = omega arith
-index-fits rest (optional_index s) a e = omega (arith, row_set_bytes-few s a)
-index-fits rest (multivalued_index o) a e = omega (arith, row_offsets-fits (length (row_set_bytes o.set)) (length (list_bytes o.starts)) o a refl refl, row_offsets-long (length (row_set_bytes o.set)) (length (list_bytes o.starts)) o refl refl)
+pub index-fits : (rest : ℕ) (i : Index) → IsIndex i → is_past_limit i ≡ false → rest ≡ length (body_bytes i) → 1 + rest < 2 ^ 64
+index-fits rest full_index a limit e = omega arith
+index-fits rest (optional_index s) a limit e = omega (arith, row_set_bytes-few s a)
+index-fits rest (multivalued_index o) a limit e = omega (arith, row_offsets-fits (length (row_set_bytes o.set)) (length (list_bytes o.starts)) o a limit refl refl, row_offsets-long (length (row_set_bytes o.set)) (length (list_bytes o.starts)) o refl refl)

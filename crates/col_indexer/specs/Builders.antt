@@ -1,13 +1,13 @@
 -- Rows as builders record them.
-use Rattle.std.specs.Prelude.{◌≡◌, ℕ, ◌+◌, ◌<◌, ◌==◌, not, nat_lt, true, List, [], ◌∷◌, length}
+use Rattle.std.specs.Prelude.{◌≡◌, ℕ, ◌+◌, ◌<◌, ◌==◌, not, true, List, [], ◌∷◌, length}
 use Rattle.std.specs.List.{list_all}
-use Rattle.col_model.specs.Ascending.{is_rising, is_never_falling}
+use Rattle.col_model.specs.Ascending.{is_rising, is_never_falling, are_below}
 use Rattle.col_model.specs.Index.{RowOffsets, are_offsets}
 use Rattle.col_model.specs.Positions.{starts_of}
 
 -- a row that comes after these rows
 abbrev pub IsAfter : List ℕ → ℕ → Type 0
-IsAfter rows row = list_all (λ r. nat_lt r row) rows ≡ true
+IsAfter rows row = are_below row rows ≡ true
 
 -- rows that were recorded, each with its number of values
 pub record Recorded : Type 0 where
@@ -36,10 +36,7 @@ pub record IsRecording (rows offsets : List ℕ) : Type 0 where
   pub offsets_are : (0 < length offsets) → are_offsets offsets ≡ true
   pub never_fall : is_never_falling offsets ≡ true
 
--- rows below a count
-abbrev pub AreRowsBelow : ℕ → List ℕ → Type 0
-AreRowsBelow n rows = list_all (λ r. nat_lt r n) rows ≡ true
-
 -- the index of rows that were recorded
 abbrev pub recorded_index : ℕ → Recorded → RowOffsets
-recorded_index n r = record { set = record { num_rows = n; rows = r.rows }; starts = starts_of r.counts }
+recorded_index n r =
+    record { set = record { num_rows = n; rows = r.rows }; starts = starts_of r.counts }

@@ -12,12 +12,15 @@ rows_behind before counts = map (λ row. before + row) (rows_with_value counts)
 -- where the values of each row with a value end, behind so many others
 unfoldable pub ends_behind : ℕ → List ℕ → List ℕ
 ends_behind before [] = []
-ends_behind before (c ∷ cs) = let later = ends_behind (before + c) cs in if c == 0 then later else (before + c) ∷ later
+ends_behind before (c ∷ cs) =
+    let later = ends_behind (before + c) cs in if c == 0 then later else (before + c) ∷ later
 
 -- Full where each row has one value, Optional where each has at most one, else Multivalued.
 abbrev pub tightest_of : List ℕ → Cardinality
 tightest_of counts =
-    if list_all (λ c. c == 1) counts then full else if list_all (λ c. nat_le c 1) counts then optional else multivalued
+    if list_all (λ c. c == 1) counts then full
+    else if list_all (λ c. nat_le c 1) counts then optional
+    else multivalued
 
 -- the counts of so many rows
 abbrev pub counts_in : ℕ → Shape → List ℕ

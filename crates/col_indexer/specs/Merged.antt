@@ -31,15 +31,19 @@ pub record FitOrder (order : Order) (shapes : List Shape) : Type 0 where
 abbrev pub stacked_cardinality_of : List Shape → Cardinality
 stacked_cardinality_of shapes = fold greater_cardinality full (map cardinality_in shapes)
 
--- The cardinality of a merged index: the greatest of the segments' in a stack, the tightest of the picked rows in a shuffle.
+-- The cardinality of a merged index: the greatest of the segments' in a stack, the tightest of the
+-- picked rows in a shuffle.
 abbrev pub merged_cardinality : Order → List Shape → Cardinality
 merged_cardinality (stack counts) shapes = stacked_cardinality_of shapes
 merged_cardinality (shuffle counts addresses) shapes = tightest_of (picked_counts shapes addresses)
 
 -- the counts of the picked rows
 abbrev pub merged_counts : Order → List Shape → Counts
-merged_counts order shapes = record { cardinality = merged_cardinality order shapes; of_rows = picked_counts shapes (picks_of order) }
+merged_counts order shapes =
+    let cs = picked_counts shapes (picks_of order) in
+    record { cardinality = merged_cardinality order shapes; of_rows = cs }
 
 -- an index counts the picked rows
 abbrev pub IsMerged : Order → List Shape → Index → Type 0
-IsMerged order shapes i = counts_over (length (picks_of order)) (index_shape i) ≡ Some (merged_counts order shapes)
+IsMerged order shapes i =
+    counts_over (length (picks_of order)) (index_shape i) ≡ Some (merged_counts order shapes)

@@ -3,8 +3,8 @@ use Rattle.std.specs.Prelude.{ℕ, ◌≤◌, List, drop, length}
 use Rattle.col_common.specs.declared.iterable.Walk.{Walk}
 use Rattle.col_model.specs.Positions.{starts_of}
 use Rattle.col_index.specs.MultiValues.{counts_of}
-use Rattle.col_indexer.specs.Stacks.{stacked_counts, StandsAtOffset, offsets_left}
-use Rattle.col_indexer.specs.Shuffles.{shuffled_counts, StandsAtSum, sums_left}
+use Rattle.col_indexer.specs.Stacks.{stacked_counts, StandsAtOffset, stacked_offsets_to_give}
+use Rattle.col_indexer.specs.Shuffles.{shuffled_counts, StandsAtSum, sums_to_give}
 use Rattle.col_indexer.specs.declared.start_offsets.StartOffsets.{StartOffsets}
 use Rattle.col_indexer.specs.declared.start_offsets.StartOffsets.TheVariants.{Slice, Index, Stacked, Shuffled}
 
@@ -23,8 +23,8 @@ OffsetsStand (Stacked s) w = StandsAtOffset s w
 OffsetsStand (Shuffled p) w = StandsAtSum p w
 
 -- those that it has still to give
-abbrev pub offsets_still : StartOffsets → Walk → List ℕ
-offsets_still (Slice s) w = drop w.place s.now
-offsets_still (Index i) w = drop w.place (starts_of (counts_of i.now))
-offsets_still (Stacked s) w = offsets_left s w
-offsets_still (Shuffled p) w = sums_left p w
+abbrev pub offsets_to_give : StartOffsets → Walk → List ℕ
+offsets_to_give (Slice s) w = drop w.place s.now
+offsets_to_give (Index i) w = drop w.place (starts_of (counts_of i.now))
+offsets_to_give (Stacked s) w = stacked_offsets_to_give s w
+offsets_to_give (Shuffled p) w = sums_to_give p w

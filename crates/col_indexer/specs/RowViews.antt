@@ -2,8 +2,8 @@
 use Rattle.std.specs.Prelude.{ℕ, ◌≤◌, List, drop, length}
 use Rattle.col_common.specs.declared.iterable.Walk.{Walk}
 use Rattle.col_model.specs.Positions.{rows_with_value}
-use Rattle.col_indexer.specs.Stacks.{stacked_counts, StandsAtRow, rows_left}
-use Rattle.col_indexer.specs.Shuffles.{shuffled_counts, StandsAtPick, picks_left}
+use Rattle.col_indexer.specs.Stacks.{stacked_counts, StandsAtRow, stacked_rows_to_give}
+use Rattle.col_indexer.specs.Shuffles.{shuffled_counts, StandsAtPick, picks_to_give}
 use Rattle.col_indexer.specs.declared.row_ids.RowIds.{RowIds}
 use Rattle.col_indexer.specs.declared.row_ids.RowIds.TheVariants.{Slice, Index, Stacked, Shuffled}
 
@@ -22,8 +22,8 @@ RowsStand (Stacked s) w = StandsAtRow s w
 RowsStand (Shuffled p) w = StandsAtPick p w
 
 -- those that it has still to give
-abbrev pub rows_still : RowIds → Walk → List ℕ
-rows_still (Slice s) w = drop w.place s.now
-rows_still (Index i) w = drop w.place i.now.rows
-rows_still (Stacked s) w = rows_left s w
-rows_still (Shuffled p) w = picks_left p w
+abbrev pub rows_to_give : RowIds → Walk → List ℕ
+rows_to_give (Slice s) w = drop w.place s.now
+rows_to_give (Index i) w = drop w.place i.now.rows
+rows_to_give (Stacked s) w = stacked_rows_to_give s w
+rows_to_give (Shuffled p) w = picks_to_give p w

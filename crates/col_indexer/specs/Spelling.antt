@@ -1,9 +1,10 @@
 -- The bytes of indexes. States docs/FORMAT.md, sections 7, 8 and 12.
-use Rattle.std.specs.Prelude.{ℕ, ◌<◌, ◌^◌, List, [], ◌∷◌, ◌++◌, length, unwrap_or}
+use Rattle.std.specs.Prelude.{ℕ, ◌-◌, ◌<◌, ◌^◌, nat_le, Bool, false, List, [], ◌∷◌, ◌++◌, length, unwrap_or}
 use Rattle.std.specs.Int.{w64, to_le_bytes}
 use Rattle.col_common.specs.VInt.{vint_bytes}
 use Rattle.col_model.specs.Codecs.{chosen_codec, codec_bytes}
-use Rattle.col_model.specs.Index.{RowSet, RowOffsets, Shape, full_shape, optional_shape, multivalued_shape, set_counts, offset_counts}
+use Rattle.col_model.specs.Index.{RowSet, RowOffsets, set_counts, offset_counts}
+use Rattle.col_model.specs.Index.{Shape, full_shape, optional_shape, multivalued_shape}
 use Rattle.col_index.specs.Sets.{AreRows}
 use Rattle.col_index.specs.Offsets.{AreOffsets}
 
@@ -21,13 +22,15 @@ row_set_bytes s = vint_bytes s.num_rows ++ list_bytes s.rows
 
 -- the rows with a value, their start offsets, and how many bytes the rows take
 unfoldable pub row_offsets_bytes : RowOffsets → List ℕ
-row_offsets_bytes o = row_set_bytes o.set ++ (list_bytes o.starts ++ to_le_bytes w64 (length (row_set_bytes o.set)))
+row_offsets_bytes o =
+    row_set_bytes o.set ++ (list_bytes o.starts ++ to_le_bytes w64 (length (row_set_bytes o.set)))
 
 -- rows of so many rows, and their start offsets
 abbrev pub offsets_by_rows : ℕ → List ℕ → List ℕ → RowOffsets
-offsets_by_rows n rows starts = record { set = record { num_rows = n; rows = rows }; starts = starts }
+offsets_by_rows n rows starts =
+    record { set = record { num_rows = n; rows = rows }; starts = starts }
 
--- an index that can be written
+-- an index on its way
 pub data Index : Type 0 where
   full_index : Index
   optional_index : RowSet → Index
@@ -56,20 +59,19 @@ pub record AreRowsOf32 (s : RowSet) : Type 0 where
   pub rows : AreRows s
   pub fits : s.num_rows < 2 ^ 32
 
--- the same with start offsets, fewer than 2 ^ 32 of them
+-- the same with start offsets
 pub record AreOffsetsOf32 (o : RowOffsets) : Type 0 where
   pub offsets : AreOffsets o
   pub fits : o.set.num_rows < 2 ^ 32
-  pub few : length o.starts < 2 ^ 32
 
--- rows and offsets are as the bytes of an index need them
-abbrev pub IsWritable : Index → Type 0
-IsWritable full_index = Unit {0}
-IsWritable (optional_index s) = AreRowsOf32 s
-IsWritable (multivalued_index o) = AreOffsetsOf32 o
-
--- rows rise and stay below their count, and offsets are theirs
+-- Rows rise and stay below their count of 32 bits, and offsets are theirs.
 abbrev pub IsIndex : Index → Type 0
 IsIndex full_index = Unit {0}
 IsIndex (optional_index s) = AreRowsOf32 s
-IsIndex (multivalued_index o) = AreOffsets o × (o.set.num_rows < 2 ^ 32)
+IsIndex (multivalued_index o) = AreOffsetsOf32 o
+
+-- It is Multivalued, and has more rows that aren't empty than may be.
+abbrev pub is_past_limit : Index → Bool
+is_past_limit full_index = false
+is_past_limit (optional_index s) = false
+is_past_limit (multivalued_index o) = nat_le (2 ^ 32 - 1) (length o.set.rows)

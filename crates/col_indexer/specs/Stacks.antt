@@ -1,5 +1,6 @@
--- Rows and offsets of indexes one behind another. A walk stands in a segment, at a place among its rows with a value; its sum is how many rows, or values, stand before the segment.
-use Rattle.std.specs.Prelude.{◌≡◌, ℕ, ◌≤◌, ◌<◌, ◌^◌, List, map, take, drop, length, sum, slice_index, slice_index_or, slice_get, Some}
+-- Rows and offsets of indexes one behind another. A walk stands in a segment, at a place among its
+-- rows with a value; its sum is how many rows, or values, stand before the segment.
+use Rattle.std.specs.Prelude.{◌≡◌, ℕ, ◌≤◌, ◌<◌, ◌^◌, List, map, take, drop, length, sum, slice_index, slice_index_or}
 use Rattle.col_common.specs.declared.iterable.Walk.{Walk}
 use Rattle.col_model.specs.Index.{Shape, empty_shape}
 use Rattle.col_model.specs.Order.{all_rows}
@@ -24,7 +25,8 @@ stacked_counts s = picked_counts s.shapes (all_rows s.counts)
 
 -- the counts of a segment's rows
 abbrev pub segment_counts : Segments → ℕ → List ℕ
-segment_counts s k = counts_in (slice_index s.counts k) (slice_index_or s.shapes k (empty_shape 0))
+segment_counts s k =
+    counts_in (slice_index s.counts k) (slice_index_or s.shapes k (empty_shape 0))
 
 -- the counts of the rows of the segments from one on
 abbrev pub counts_from : Segments → ℕ → List ℕ
@@ -40,10 +42,6 @@ pub record AreSegments (s : Segments) : Type 0 where
   pub few_rows : sum s.counts < 2 ^ 32
   pub few_values : sum (stacked_counts s) < 2 ^ 32
 
--- each number is below 2 ^ 32
-abbrev pub AreOf32 : List ℕ → Type 0
-AreOf32 xs = (k x : ℕ) → slice_get xs k ≡ Some x → x < 2 ^ 32
-
 -- a walk of rows: behind the last segment its place is 0
 pub record StandsAtRow (s : Segments) (w : Walk) : Type 0 where
   pub segment : w.segment ≤ length s.counts
@@ -51,15 +49,16 @@ pub record StandsAtRow (s : Segments) (w : Walk) : Type 0 where
   pub before : w.sum ≡ start_of s.counts w.segment
 
 -- the rows that it has still to give
-abbrev pub rows_left : Segments → Walk → List ℕ
-rows_left s w = drop w.place (rows_behind w.sum (counts_from s w.segment))
+abbrev pub stacked_rows_to_give : Segments → Walk → List ℕ
+stacked_rows_to_give s w = drop w.place (rows_behind w.sum (counts_from s w.segment))
 
--- A walk of offsets: its place is among the start offsets of the segment. The first of a segment is given once, at the front, so that behind the last segment the place is 0 or 1.
+-- A walk of offsets: its place is among the start offsets of the segment. The first of a segment is
+-- given once, at the front, so that behind the last segment the place is 0 or 1.
 pub record StandsAtOffset (s : Segments) (w : Walk) : Type 0 where
   pub segment : w.segment ≤ length s.counts
   pub place : w.place ≤ length (starts_of (segment_counts s w.segment))
   pub before : w.sum ≡ values_before s w.segment
 
 -- the offsets that it has still to give
-abbrev pub offsets_left : Segments → Walk → List ℕ
-offsets_left s w = drop w.place (starts_after w.sum (counts_from s w.segment))
+abbrev pub stacked_offsets_to_give : Segments → Walk → List ℕ
+stacked_offsets_to_give s w = drop w.place (starts_after w.sum (counts_from s w.segment))

@@ -15,7 +15,8 @@ set_of i = record { num_rows = i.num_rows; rows = rows_of i.non_null_row_ids }
 
 -- the rows with a value, and their start offsets
 abbrev pub row_offsets_of : SerializableMultivalueIndex → RowOffsets
-row_offsets_of i = record { set = set_of i.doc_ids_with_values; starts = offsets_of i.start_offsets }
+row_offsets_of i =
+    record { set = set_of i.doc_ids_with_values; starts = offsets_of i.start_offsets }
 
 -- the index
 abbrev pub index_of : SerializableColumnIndex → spelled.Index

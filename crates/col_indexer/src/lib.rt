@@ -1,5 +1,5 @@
-//! Builds, merges and writes indexes. Contracts see an index on its way as the rows with a value and
-//! their start offsets.
+//! Builds, merges and writes indexes. Contracts see an index on its way as the rows with a value
+//! and their start offsets.
 #![tactic(auto)]
 
 mod merge;

@@ -28,7 +28,8 @@ pub fn merge_column_index<'a>(
     merge_row_order: &'a MergeRowOrder,
 ) -> SerializableColumnIndex<'a>
     requires { FitOrder (order_of merge_row_order.now) (map shape_of column_indexes.now) }
-    ensures counts { IsMerged (order_of merge_row_order.now) (map shape_of column_indexes.now) (index_of result) }
+    ensures counts { let shapes = map shape_of column_indexes.now in
+        IsMerged (order_of merge_row_order.now) shapes (index_of result) }
     ensures index { IsIndex (index_of result) }
 {
     match merge_row_order {
@@ -91,13 +92,14 @@ pub fn merge_column_index_shuffled<'a>(
     cardinality_after_merge: Cardinality,
     shuffle_merge_order: &'a ShuffleMergeOrder,
 ) -> SerializableColumnIndex<'a>
-    requires fit { FitOrder (shuffle shuffle_merge_order.now.counts shuffle_merge_order.now.addresses)
-        (map shape_of column_indexes.now) }
-    requires cardinality { cardinality_of cardinality_after_merge
-        ≡ merged_cardinality (shuffle shuffle_merge_order.now.counts shuffle_merge_order.now.addresses)
-        (map shape_of column_indexes.now) }
-    ensures counts { IsMerged (shuffle shuffle_merge_order.now.counts shuffle_merge_order.now.addresses)
-        (map shape_of column_indexes.now) (index_of result) }
+    requires fit { let s = shuffle_merge_order.now in
+        FitOrder (shuffle s.counts s.addresses) (map shape_of column_indexes.now) }
+    requires cardinality { let s = shuffle_merge_order.now in
+        cardinality_of cardinality_after_merge
+        ≡ merged_cardinality (shuffle s.counts s.addresses) (map shape_of column_indexes.now) }
+    ensures counts { let order = shuffle_merge_order.now in
+        let shapes = map shape_of column_indexes.now in
+        IsMerged (shuffle order.counts order.addresses) shapes (index_of result) }
     ensures index { IsIndex (index_of result) }
 {
     shuffle_merge_order.rows_are_there();
@@ -152,8 +154,8 @@ fn shuffled_cardinality(
     column_indexes: &[ColumnIndex],
     shuffle_merge_order: &ShuffleMergeOrder,
 ) -> Cardinality
-    requires { FitOrder (shuffle shuffle_merge_order.now.counts shuffle_merge_order.now.addresses)
-        (map shape_of column_indexes.now) }
+    requires { let s = shuffle_merge_order.now in
+        FitOrder (shuffle s.counts s.addresses) (map shape_of column_indexes.now) }
     ensures { cardinality_of result ≡ tightest_of
         (picked_counts (map shape_of column_indexes.now) shuffle_merge_order.now.addresses) }
 {

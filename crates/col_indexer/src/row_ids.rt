@@ -14,13 +14,13 @@ pub enum RowIds<'a> {
 }
 
 impl Iterable<RowId> for RowIds<'_> {
-    ghost use Rattle.col_indexer.specs.RowViews.{rows_of, RowsStand, rows_still};
+    ghost use Rattle.col_indexer.specs.RowViews.{rows_of, RowsStand, rows_to_give};
 
     ghost items = { rows_of };
 
     ghost stands = { RowsStand };
 
-    ghost left = { rows_still };
+    ghost left = { rows_to_give };
 
     fn walk(&self) -> Walk {
         match self {

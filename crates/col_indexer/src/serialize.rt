@@ -1,16 +1,17 @@
 //! Writes indexes.
-ghost use Rattle.std.specs.Prelude.{◌≡◌, ◌^◌, ◌<◌, length, Some, IfOk};
+ghost use Rattle.std.specs.Prelude.{◌≡◌, ◌^◌, ◌<◌, nat_le, length, Some, IfOk};
 ghost use Rattle.col_common.specs.Serializing.{Serializes};
 ghost use Rattle.col_model.specs.Index.{row_set};
 ghost use Rattle.col_numbers.specs.Written.{done};
 ghost use Rattle.col_index.specs.Versions.{cardinality_of};
 ghost use Rattle.col_indexer.specs.RowViews.{rows_of};
 ghost use Rattle.col_indexer.specs.Spelling.{list_bytes, row_set_bytes, AreRowsOf32};
+ghost use Rattle.col_indexer.specs.Spelling.{optional_index, IsIndex};
 
 use crate::{RowIds, StartOffsets, indexes_are_read_back};
-use col_numbers::{CodecType, serialize_estimated_values};
 use col_common::{ColumnarError, Iterable, RowId, Sink, VInt};
 use col_index::{Cardinality, OptionalIndex};
+use col_numbers::{CodecType, serialize_estimated_values};
 use std::alloc::Global;
 
 // The codecs that the lists of an index are offered.
@@ -51,7 +52,27 @@ impl<'a> From<&'a OptionalIndex> for SerializableOptionalIndex<'a> {
     }
 }
 
+impl SerializableMultivalueIndex<'_> {
+    ghost use Rattle.std.specs.Prelude.{◌-◌};
+    ghost use Rattle.col_indexer.specs.Spelling.{multivalued_index};
+    ghost use Rattle.col_indexer.specs.Written.{row_offsets_of};
+
+    /// Whether more rows have a value than may be.
+    pub fn is_past_limit(&self) -> bool
+        requires { IsIndex (multivalued_index (row_offsets_of self.now)) }
+        ensures { result ≡ nat_le (2 ^ 32 - 1) (length (row_offsets_of self.now).set.rows) }
+    {
+        let rows = &self.doc_ids_with_values;
+        // The rows need no count where there are fewer of them.
+        if rows.num_rows < RowId::MAX {
+            return false;
+        }
+        has_so_many(&rows.non_null_row_ids, u64::from(RowId::MAX))
+    }
+}
+
 impl SerializableColumnIndex<'_> {
+    ghost use Rattle.col_indexer.specs.Spelling.{is_past_limit};
     ghost use Rattle.col_indexer.specs.Written.{index_of, cardinality_written};
 
     /// The cardinality.
@@ -64,6 +85,30 @@ impl SerializableColumnIndex<'_> {
             SerializableColumnIndex::Multivalued(_) => Cardinality::Multivalued,
         }
     }
+
+    /// Whether it is Multivalued and can't be written, since more rows have a value than may be.
+    pub fn is_past_limit(&self) -> bool
+        requires { IsIndex (index_of self.now) }
+        ensures { result ≡ is_past_limit (index_of self.now) }
+    {
+        match self {
+            SerializableColumnIndex::Full | SerializableColumnIndex::Optional(_) => false,
+            SerializableColumnIndex::Multivalued(index) => index.is_past_limit(),
+        }
+    }
+}
+
+// Whether a list has so many items.
+fn has_so_many<I: Iterable<RowId>>(list: &I, count: u64) -> bool
+    ensures { result ≡ nat_le count (length (I.items list.now)) }
+{
+    let mut at = list.walk();
+    for _found in 0..count {
+        let Some(_item) = list.next(&mut at) else {
+            return false;
+        };
+    }
+    true
 }
 
 /// Writes rows with a value, which rise, of so many rows.
@@ -73,7 +118,8 @@ pub fn serialize_optional_index<K: Sink>(
     num_rows: RowId,
     sink: &mut K,
 ) -> Result<(), ColumnarError>
-    requires { AreRowsOf32 (record { num_rows = num_rows; rows = rows_of non_null_row_ids.now }) }
+    requires { IsIndex (optional_index
+        (record { num_rows = num_rows; rows = rows_of non_null_row_ids.now })) }
     ensures ok { Serializes (K.seen sink.old) (K.seen sink.new) result
         (row_set_bytes (record { num_rows = num_rows; rows = rows_of non_null_row_ids.now })) }
     // What was written stands for the rows.

@@ -1,10 +1,11 @@
 //! Writes indexes of any cardinality.
-ghost use Rattle.std.specs.Prelude.{◌≡◌, length, Some, IfOk};
+ghost use Rattle.std.specs.Prelude.{◌≡◌, ◌-◌, ◌^◌, nat_le, false, length, Some, IfOk};
 ghost use Rattle.col_common.specs.Serializing.{Serializes};
 ghost use Rattle.col_model.specs.Index.{row_offsets, shape};
 ghost use Rattle.col_numbers.specs.Written.{done};
 ghost use Rattle.col_indexer.specs.Spelling.{offsets_by_rows, row_offsets_bytes, body_bytes};
-ghost use Rattle.col_indexer.specs.Spelling.{index_bytes, index_shape, AreOffsetsOf32, IsWritable};
+ghost use Rattle.col_indexer.specs.Spelling.{index_bytes, index_shape, multivalued_index};
+ghost use Rattle.col_indexer.specs.Spelling.{IsIndex, is_past_limit};
 ghost use Rattle.col_indexer.specs.Written.{row_offsets_of, index_of};
 
 use crate::indexes_are_read_back;
@@ -20,7 +21,9 @@ pub fn serialize_multivalued_index<K: Sink>(
     multivalued_index: &SerializableMultivalueIndex<'_>,
     sink: &mut K,
 ) -> Result<(), ColumnarError>
-    requires { AreOffsetsOf32 (row_offsets_of multivalued_index.now) }
+    requires index { IsIndex (multivalued_index (row_offsets_of multivalued_index.now)) }
+    requires limit { is_past_limit
+        (multivalued_index (row_offsets_of multivalued_index.now)) ≡ false }
     ensures ok { Serializes (K.seen sink.old) (K.seen sink.new) result
         (row_offsets_bytes (row_offsets_of multivalued_index.now)) }
     // What was written stands for the rows and offsets.
@@ -47,7 +50,9 @@ fn serialize_row_offsets<R: Iterable<RowId>, S: Iterable<RowId>, K: Sink>(
     starts: &S,
     sink: &mut K,
 ) -> Result<u64, ColumnarError>
-    requires { AreOffsetsOf32 (offsets_by_rows num_rows (R.items rows.now) (S.items starts.now)) }
+    requires index { IsIndex (multivalued_index
+        (offsets_by_rows num_rows (R.items rows.now) (S.items starts.now))) }
+    requires limit { nat_le (2 ^ 32 - 1) (length (R.items rows.now)) ≡ false }
     ensures ok { Serializes (K.seen sink.old) (K.seen sink.new) (done result)
         (row_offsets_bytes (offsets_by_rows num_rows (R.items rows.now) (S.items starts.now))) }
     ensures length { IfOk result (λ n.
@@ -67,7 +72,8 @@ pub fn serialize_column_index<K: Sink>(
     column_index: SerializableColumnIndex<'_>,
     sink: &mut K,
 ) -> Result<u64, ColumnarError>
-    requires { IsWritable (index_of column_index) }
+    requires index { IsIndex (index_of column_index) }
+    requires limit { is_past_limit (index_of column_index) ≡ false }
     ensures ok { Serializes (K.seen sink.old) (K.seen sink.new) (done result)
         (index_bytes (index_of column_index.entry)) }
     ensures length { IfOk result (λ n. n ≡ length (index_bytes (index_of column_index.entry))) }
@@ -87,7 +93,8 @@ fn serialize_body<K: Sink>(
     column_index: &SerializableColumnIndex<'_>,
     sink: &mut K,
 ) -> Result<u64, ColumnarError>
-    requires { IsWritable (index_of column_index.now) }
+    requires index { IsIndex (index_of column_index.now) }
+    requires limit { is_past_limit (index_of column_index.now) ≡ false }
     ensures ok { Serializes (K.seen sink.old) (K.seen sink.new) (done result)
         (body_bytes (index_of column_index.now)) }
     ensures length { IfOk result (λ n. n ≡ length (body_bytes (index_of column_index.now))) }

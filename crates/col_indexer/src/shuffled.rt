@@ -9,8 +9,8 @@ use col_index::ColumnIndex;
 use col_order::ShuffleMergeOrder;
 use std::marker::Model;
 
-/// The new rows with a value, of rows that are picked from indexes. Contracts see the indexes' shapes
-/// and the order.
+/// The new rows with a value, of rows that are picked from indexes. Contracts see the indexes'
+/// shapes and the order.
 #[derive(Drop)]
 pub struct ShuffledRowIds<'a> {
     column_indexes: &'a [ColumnIndex],
@@ -20,13 +20,14 @@ pub struct ShuffledRowIds<'a> {
 impl<'a> Model for ShuffledRowIds<'a> {
     ghost use Rattle.std.specs.Prelude.{map};
     ghost use Rattle.col_index.specs.Indexes.{shape_of};
-    ghost use Rattle.col_indexer.specs.Shuffles.{Picked, ArePicked};
+    ghost use Rattle.col_indexer.specs.Shuffles.{Picked, ArePicked, picked_of};
 
     ghost Value = { Picked };
 
-    ghost view = { λ s. record { shapes = map shape_of s.column_indexes.now; order = s.order.now } };
+    ghost view = { λ s. picked_of (map shape_of s.column_indexes.now) s.order.now };
 
-    ghost invariant = { λ s. ArePicked (record { shapes = map shape_of s.column_indexes.now; order = s.order.now }) };
+    ghost invariant = { λ s.
+        ArePicked (picked_of (map shape_of s.column_indexes.now) s.order.now) };
 }
 
 /// The start offsets of rows that are picked from indexes. Contracts see the same.
@@ -39,25 +40,26 @@ pub struct ShuffledStartOffsets<'a> {
 impl<'a> Model for ShuffledStartOffsets<'a> {
     ghost use Rattle.std.specs.Prelude.{map};
     ghost use Rattle.col_index.specs.Indexes.{shape_of};
-    ghost use Rattle.col_indexer.specs.Shuffles.{Picked, ArePicked};
+    ghost use Rattle.col_indexer.specs.Shuffles.{Picked, ArePicked, picked_of};
 
     ghost Value = { Picked };
 
-    ghost view = { λ s. record { shapes = map shape_of s.column_indexes.now; order = s.order.now } };
+    ghost view = { λ s. picked_of (map shape_of s.column_indexes.now) s.order.now };
 
-    ghost invariant = { λ s. ArePicked (record { shapes = map shape_of s.column_indexes.now; order = s.order.now }) };
+    ghost invariant = { λ s.
+        ArePicked (picked_of (map shape_of s.column_indexes.now) s.order.now) };
 }
 
 impl<'a> ShuffledRowIds<'a> {
-    ghost use Rattle.col_indexer.specs.Shuffles.{ArePicked};
+    ghost use Rattle.col_indexer.specs.Shuffles.{ArePicked, picked_of};
 
     /// The new rows of an order over indexes.
     pub fn new(
         column_indexes: &'a [ColumnIndex],
         order: &'a ShuffleMergeOrder,
     ) -> ShuffledRowIds<'a>
-        requires { ArePicked (record { shapes = map shape_of column_indexes.now; order = order.now }) }
-        ensures { result ≡ record { shapes = map shape_of column_indexes.now; order = order.now } }
+        requires { ArePicked (picked_of (map shape_of column_indexes.now) order.now) }
+        ensures { result ≡ picked_of (map shape_of column_indexes.now) order.now }
     {
         ShuffledRowIds {
             column_indexes,
@@ -67,15 +69,15 @@ impl<'a> ShuffledRowIds<'a> {
 }
 
 impl<'a> ShuffledStartOffsets<'a> {
-    ghost use Rattle.col_indexer.specs.Shuffles.{ArePicked};
+    ghost use Rattle.col_indexer.specs.Shuffles.{ArePicked, picked_of};
 
     /// The start offsets of an order over indexes.
     pub fn new(
         column_indexes: &'a [ColumnIndex],
         order: &'a ShuffleMergeOrder,
     ) -> ShuffledStartOffsets<'a>
-        requires { ArePicked (record { shapes = map shape_of column_indexes.now; order = order.now }) }
-        ensures { result ≡ record { shapes = map shape_of column_indexes.now; order = order.now } }
+        requires { ArePicked (picked_of (map shape_of column_indexes.now) order.now) }
+        ensures { result ≡ picked_of (map shape_of column_indexes.now) order.now }
     {
         ShuffledStartOffsets {
             column_indexes,
@@ -86,13 +88,13 @@ impl<'a> ShuffledStartOffsets<'a> {
 
 impl Iterable<RowId> for ShuffledRowIds<'_> {
     ghost use Rattle.col_model.specs.Positions.{rows_with_value};
-    ghost use Rattle.col_indexer.specs.Shuffles.{shuffled_counts, StandsAtPick, picks_left};
+    ghost use Rattle.col_indexer.specs.Shuffles.{shuffled_counts, StandsAtPick, picks_to_give};
 
     ghost items = { λ p. rows_with_value (shuffled_counts p) };
 
     ghost stands = { λ p w. StandsAtPick p w };
 
-    ghost left = { λ p w. picks_left p w };
+    ghost left = { λ p w. picks_to_give p w };
 
     fn walk(&self) -> Walk {
         Walk::default()
@@ -114,13 +116,13 @@ impl Iterable<RowId> for ShuffledRowIds<'_> {
 
 impl Iterable<RowId> for ShuffledStartOffsets<'_> {
     ghost use Rattle.col_model.specs.Positions.{starts_of};
-    ghost use Rattle.col_indexer.specs.Shuffles.{shuffled_counts, StandsAtSum, sums_left};
+    ghost use Rattle.col_indexer.specs.Shuffles.{shuffled_counts, StandsAtSum, sums_to_give};
 
     ghost items = { λ p. starts_of (shuffled_counts p) };
 
     ghost stands = { λ p w. StandsAtSum p w };
 
-    ghost left = { λ p w. sums_left p w };
+    ghost left = { λ p w. sums_to_give p w };
 
     fn walk(&self) -> Walk {
         Walk::default()
@@ -148,8 +150,9 @@ impl Iterable<RowId> for ShuffledStartOffsets<'_> {
 // Whether the row that an address names has a value.
 fn has_value_at(column_indexes: &[ColumnIndex], addr: RowAddr) -> bool
     requires { addr.segment_ord < length column_indexes.now }
-    ensures { result ≡ not (count_in
-        (slice_index_or (map shape_of column_indexes.now) addr.segment_ord (empty_shape 0)) addr.row_id == 0) }
+    ensures { let shapes = map shape_of column_indexes.now in
+        let shape = slice_index_or shapes addr.segment_ord (empty_shape 0) in
+        result ≡ not (count_in shape addr.row_id == 0) }
 {
     column_indexes[addr.segment_ord as usize].has_value(addr.row_id)
 }
@@ -157,8 +160,9 @@ fn has_value_at(column_indexes: &[ColumnIndex], addr: RowAddr) -> bool
 /// How many values the row has that an address names.
 pub(crate) fn values_at(column_indexes: &[ColumnIndex], addr: RowAddr) -> RowId
     requires { addr.segment_ord < length column_indexes.now }
-    ensures { result ≡ count_in
-        (slice_index_or (map shape_of column_indexes.now) addr.segment_ord (empty_shape 0)) addr.row_id }
+    ensures { let shapes = map shape_of column_indexes.now in
+        let shape = slice_index_or shapes addr.segment_ord (empty_shape 0) in
+        result ≡ count_in shape addr.row_id }
 {
     num_values(&column_indexes[addr.segment_ord as usize], addr.row_id)
 }

@@ -6,12 +6,13 @@ ghost use Rattle.col_numbers.specs.Readers.{list_of};
 ghost use Rattle.col_indexer.specs.Counted.{counts_in};
 ghost use Rattle.col_index.specs.Indexes.{shape_of};
 ghost use Rattle.col_common.specs.Walks.{IsNext};
-ghost use Rattle.col_indexer.specs.Stacks.{AreSegments, segments_of, AreOf32};
-ghost use Rattle.col_indexer.specs.Stacks.{StandsAtRow, rows_left, StandsAtOffset, offsets_left};
+ghost use Rattle.col_values.specs.Values.{AreBelow};
+ghost use Rattle.col_indexer.specs.Stacks.{AreSegments, segments_of};
+ghost use Rattle.col_indexer.specs.Stacks.{StandsAtRow, stacked_rows_to_give, StandsAtOffset, stacked_offsets_to_give};
 
-use col_numbers::U64Values;
 use col_common::{Iterable, RowId, Walk};
 use col_index::{ColumnIndex, NonNullDocs};
+use col_numbers::U64Values;
 use col_order::StackMergeOrder;
 use col_values::ColumnValues;
 use std::marker::Model;
@@ -87,7 +88,7 @@ impl Iterable<RowId> for StackedRowIds<'_> {
 
     ghost stands = { λ s w. StandsAtRow s w };
 
-    ghost left = { λ s w. rows_left s w };
+    ghost left = { λ s w. stacked_rows_to_give s w };
 
     fn walk(&self) -> Walk {
         Walk::default()
@@ -106,7 +107,7 @@ impl Iterable<RowId> for StackedStartOffsets<'_> {
 
     ghost stands = { λ s w. StandsAtOffset s w };
 
-    ghost left = { λ s w. offsets_left s w };
+    ghost left = { λ s w. stacked_offsets_to_give s w };
 
     fn walk(&self) -> Walk {
         Walk::default()
@@ -185,7 +186,7 @@ fn start_at(column_index: &ColumnIndex, num_rows: RowId, place: u64) -> Option<R
 // The value at a place; none past the last.
 #[inline(always)]
 fn value_at(values: &U64Values, place: u64) -> Option<RowId>
-    requires { AreOf32 (list_of values.now) }
+    requires { AreBelow (list_of values.now) (2 ^ 32) }
     ensures { result ≡ slice_get (list_of values.now) place }
 {
     if place < u64::from(values.num_vals()) {
@@ -220,8 +221,8 @@ fn next_row(column_indexes: &[ColumnIndex], order: &StackMergeOrder, at: &mut Wa
     requires segments { AreSegments (segments_of column_indexes.now order.now) }
     requires stands { StandsAtRow (segments_of column_indexes.now order.now) at.old }
     ensures stands { StandsAtRow (segments_of column_indexes.now order.now) at.new }
-    ensures value { let segments = segments_of column_indexes.now order.now in
-        IsNext (rows_left segments at.old) result (rows_left segments at.new) }
+    ensures value { let left = stacked_rows_to_give (segments_of column_indexes.now order.now) in
+        IsNext (left at.old) result (left at.new) }
 {
     let num_segments = order.num_segments() as u64;
     while at.segment < num_segments {
@@ -252,8 +253,8 @@ fn next_start(
     requires segments { AreSegments (segments_of column_indexes.now order.now) }
     requires stands { StandsAtOffset (segments_of column_indexes.now order.now) at.old }
     ensures stands { StandsAtOffset (segments_of column_indexes.now order.now) at.new }
-    ensures value { let segments = segments_of column_indexes.now order.now in
-        IsNext (offsets_left segments at.old) result (offsets_left segments at.new) }
+    ensures value { let left = stacked_offsets_to_give (segments_of column_indexes.now order.now) in
+        IsNext (left at.old) result (left at.new) }
 {
     if at.place == 0 {
         at.place = 1;

@@ -19,13 +19,13 @@ pub enum StartOffsets<'a> {
 }
 
 impl Iterable<RowId> for StartOffsets<'_> {
-    ghost use Rattle.col_indexer.specs.OffsetViews.{offsets_of, OffsetsStand, offsets_still};
+    ghost use Rattle.col_indexer.specs.OffsetViews.{offsets_of, OffsetsStand, offsets_to_give};
 
     ghost items = { offsets_of };
 
     ghost stands = { OffsetsStand };
 
-    ghost left = { offsets_still };
+    ghost left = { offsets_to_give };
 
     fn walk(&self) -> Walk {
         match self {

@@ -1,11 +1,11 @@
 //! Builders of indexes.
-ghost use Rattle.std.specs.Prelude.{◌≡◌, [], ℕ, IfErr, OnOk};
+ghost use Rattle.std.specs.Prelude.{◌≡◌, [], ℕ, true, IfErr, OnOk};
 ghost use Rattle.col_common.specs.declared.error.ColumnarError.TheVariants as refusals;
-ghost use Rattle.col_indexer.specs.Builders.{AllHaveValues, AreRowsBelow};
+ghost use Rattle.col_model.specs.Ascending.{are_below};
+ghost use Rattle.col_indexer.specs.Builders.{AllHaveValues};
 ghost use Rattle.col_indexer.specs.Builders.{nothing_recorded, recorded_index};
-ghost use Rattle.col_index.specs.Offsets.{AreOffsets};
+ghost use Rattle.col_indexer.specs.Spelling.{optional_index, multivalued_index, IsIndex};
 ghost use Rattle.col_indexer.specs.RowViews.{rows_of};
-ghost use Rattle.col_index.specs.Sets.{AreRows};
 
 use crate::serialize::{SerializableMultivalueIndex, SerializableOptionalIndex};
 use crate::{RowIds, StartOffsets};
@@ -98,9 +98,9 @@ impl OptionalIndexBuilder {
 
     /// The rows, of a table with more rows than the last one's number.
     pub fn finish(&self, num_rows: RowId) -> RowIds<'_>
-        requires { AreRowsBelow num_rows self.now }
+        requires { are_below num_rows self.now ≡ true }
         ensures rows { rows_of result ≡ self.now }
-        ensures index { AreRows (record { num_rows = num_rows; rows = self.now }) }
+        ensures index { IsIndex (optional_index (record { num_rows = num_rows; rows = self.now })) }
     {
         RowIds::Slice(&self.docs)
     }
@@ -172,10 +172,10 @@ impl MultivaluedIndexBuilder {
 
     /// The index of a table with more rows than the last one's number.
     pub fn finish(&self, num_docs: RowId) -> SerializableMultivalueIndex<'_>
-        requires below { AreRowsBelow num_docs self.now.rows }
+        requires below { are_below num_docs self.now.rows ≡ true }
         requires values { AllHaveValues self.now.counts }
         ensures rows { row_offsets_of result ≡ recorded_index num_docs self.now }
-        ensures index { AreOffsets (recorded_index num_docs self.now) }
+        ensures index { IsIndex (multivalued_index (recorded_index num_docs self.now)) }
     {
         let starts = if self.start_offsets.is_empty() {
             NO_ROWS.as_slice()

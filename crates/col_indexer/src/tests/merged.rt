@@ -2,10 +2,7 @@
 ghost use Rattle.std.specs.Prelude.{◌≡◌, map, IfOk};
 ghost use Rattle.col_order.specs.Orders.{address_of};
 
-use crate::{
-    SerializableColumnIndex, merge_column_index, merge_column_index_shuffled,
-    merge_column_index_stacked,
-};
+use crate::{SerializableColumnIndex, merge_column_index, merge_column_index_shuffled};
 use col_common::{ColumnarError, Iterable, RowAddr, RowId};
 use col_index::{Cardinality, ColumnIndex, MultiValueIndex, OptionalIndex};
 use col_order::{MergeRowOrder, ShuffleMergeOrder, StackMergeOrder};
@@ -26,7 +23,7 @@ fn addresses(alloc: Global, rows: &[(u32, RowId)]) -> Result<Vec<RowAddr>, Colum
     Ok(addresses)
 }
 
-fn assert_items<I: Iterable<RowId>>(rt: &impl Abort, list: &I, items: &[RowId]) {
+pub(crate) fn assert_items<I: Iterable<RowId>>(rt: &impl Abort, list: &I, items: &[RowId]) {
     let mut at = list.walk();
     for item in items {
         assert_eq!(rt; list.next(&mut at), Some(*item));
@@ -64,11 +61,8 @@ fn a_shuffle_has_the_tightest_cardinality_of_its_rows(rt: HostRuntime) -> Result
     let rows = addresses(alloc, &[(0, 1), (1, 0)])?;
     let order = ShuffleMergeOrder::for_test(alloc, &[2, 1], rows)?;
     let indexes = [ColumnIndex::Optional(optional), ColumnIndex::Full];
-    let clones = [indexes[0].try_clone(alloc)?, indexes[1].try_clone(alloc)?];
-    let merged = merge_column_index_shuffled(&clones, Cardinality::Optional, &order);
+    let merged = merge_column_index_shuffled(&indexes, Cardinality::Optional, &order);
     assert_index(&rt, &merged, 2, &[1], &[]);
-    let order = MergeRowOrder::from(order);
-    assert_index(&rt, &merge_column_index(&indexes, &order), 2, &[1], &[]);
     Ok(())
 }
 
@@ -97,17 +91,5 @@ fn a_stack_has_the_greatest_cardinality_of_its_segments(rt: HostRuntime) -> Resu
     let order = MergeRowOrder::from(stack);
     let merged = merge_column_index(&indexes, &order);
     assert_index(&rt, &merged, 8, &[2, 4, 5, 7], &[0, 1, 2, 4, 5]);
-    Ok(())
-}
-
-#[test]
-fn segments_without_rows_leave_a_stack_full(rt: HostRuntime) -> Result<(), Fail> {
-    let none = StackMergeOrder::stack_for_test(rt.alloc(), &[])?;
-    let merged = merge_column_index_stacked(&[], Cardinality::Full, &none);
-    assert!(rt; matches!(merged, SerializableColumnIndex::Full));
-    let order = MergeRowOrder::from(StackMergeOrder::stack_for_test(rt.alloc(), &[0, 1])?);
-    let indexes = [ColumnIndex::Empty { num_docs: 0 }, ColumnIndex::Full];
-    let merged = merge_column_index(&indexes, &order);
-    assert!(rt; matches!(merged, SerializableColumnIndex::Full));
     Ok(())
 }

@@ -1,11 +1,11 @@
 //! Written indexes and their builders by examples.
-ghost use Rattle.std.specs.Prelude.{OnOk};
-ghost use Rattle.col_indexer.specs.Spelling.{AreOffsetsOf32};
+ghost use Rattle.std.specs.Prelude.{◌≡◌, false, OnOk};
+ghost use Rattle.col_indexer.specs.Spelling.{multivalued_index, IsIndex, is_past_limit};
 ghost use Rattle.col_indexer.specs.Written.{row_offsets_of};
 
-use crate::tests::merged::assert_index;
+use crate::tests::merged::{assert_index, assert_items};
 use crate::{
-    IndexBuilder, MultivaluedIndexBuilder, OptionalIndexBuilder, PreallocatedIndexBuilders, RowIds,
+    IndexBuilder, MultivaluedIndexBuilder, PreallocatedIndexBuilders, RowIds,
     SerializableColumnIndex, SerializableMultivalueIndex, SerializableOptionalIndex, StartOffsets,
     serialize_column_index, serialize_multivalued_index, serialize_optional_index,
 };
@@ -28,7 +28,8 @@ const WRITTEN: [u8; 23] = [
 const NUM_ROW_BYTES: usize = 7;
 
 fn two_documents() -> SerializableMultivalueIndex<'static>
-    ensures { AreOffsetsOf32 (row_offsets_of result) }
+    ensures index { IsIndex (multivalued_index (row_offsets_of result)) }
+    ensures limit { is_past_limit (multivalued_index (row_offsets_of result)) ≡ false }
 {
     SerializableMultivalueIndex {
         doc_ids_with_values: SerializableOptionalIndex {
@@ -49,6 +50,7 @@ fn rows_with_many_values_are_written_with_their_offsets(rt: HostRuntime) -> Resu
     let mut sink = empty_sink(alloc);
     let index = SerializableColumnIndex::Multivalued(two_documents());
     assert_eq!(rt; index.get_cardinality(), Cardinality::Multivalued);
+    assert!(rt; !index.is_past_limit());
     let len = serialize_column_index(alloc, index, &mut sink)?;
     assert_eq!(rt; len, 23);
     assert_eq!(rt; sink.bytes(), WRITTEN.as_slice());
@@ -66,27 +68,6 @@ fn parts_of_an_index_are_written_as_in_the_whole(rt: HostRuntime) -> Result<(), 
     let mut sink = empty_sink(alloc);
     serialize_optional_index(alloc, &index.non_null_row_ids, index.num_rows, &mut sink)?;
     assert_eq!(rt; sink.bytes(), &WRITTEN[1..=NUM_ROW_BYTES]);
-    Ok(())
-}
-
-#[test]
-fn a_full_index_is_one_byte(rt: HostRuntime) -> Result<(), Fail> {
-    let alloc = rt.alloc();
-    let mut sink = empty_sink(alloc);
-    let len = serialize_column_index(alloc, SerializableColumnIndex::Full, &mut sink)?;
-    assert_eq!(rt; len, 1);
-    assert_eq!(rt; sink.bytes(), [0].as_slice());
-    Ok(())
-}
-
-#[test]
-fn a_write_that_fails_ends_the_index(rt: HostRuntime) -> Result<(), Fail> {
-    let alloc = rt.alloc();
-    let mut sink = VecSink::new(Vec::new(alloc), vec![in alloc; 1]?);
-    let index = SerializableColumnIndex::Multivalued(two_documents());
-    let written = serialize_column_index(alloc, index, &mut sink);
-    assert_eq!(rt; written.err(), Some(ColumnarError::WriteFault));
-    assert_eq!(rt; sink.bytes(), &WRITTEN[..1]);
     Ok(())
 }
 
@@ -118,24 +99,14 @@ fn record<B: IndexBuilder>(builder: &mut B, row: RowId) -> Result<(), ColumnarEr
 }
 
 #[test]
-fn recorded_rows_are_finished_in_their_order(rt: HostRuntime) -> Result<(), Fail> {
-    let mut builder = OptionalIndexBuilder::new(rt.alloc());
-    record(&mut builder, 1)?;
-    let index = SerializableColumnIndex::Optional(SerializableOptionalIndex {
-        non_null_row_ids: builder.finish(2),
-        num_rows: 2,
-    });
-    assert_index(&rt, &index, 2, &[1], &[]);
-    Ok(())
-}
-
-#[test]
 #[tactic(auto, unfolding(crate::specs::Builders::with_value))]
 fn builders_are_lent_empty(rt: HostRuntime) -> Result<(), Fail> {
     let mut builders = PreallocatedIndexBuilders::new(rt.alloc());
     record(builders.borrow_required_index_builder(), 0)?;
     record(builders.borrow_optional_index_builder(), 5)?;
-    record(builders.borrow_optional_index_builder(), 1)?;
+    let rows = builders.borrow_optional_index_builder();
+    record(rows, 1)?;
+    assert_items(&rt, &rows.finish(2), &[1]);
     record(builders.borrow_multivalued_index_builder(), 5)?;
     let again = builders.borrow_multivalued_index_builder();
     record(again, 1)?;

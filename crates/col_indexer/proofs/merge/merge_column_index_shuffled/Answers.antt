@@ -2,10 +2,10 @@ use Rattle.std.proofs.Common.{◌∙◌, length, map, sym, ap}
 use Rattle.col_model.specs.Positions.{rows_with_value, starts_of}
 use Rattle.col_indexer.specs.Counted.{tightest_of}
 use Rattle.col_index.specs.Indexes.{shape_of}
-use Rattle.col_indexer.specs.Shuffles.{shuffled_counts}
+use Rattle.col_indexer.specs.Shuffles.{shuffled_counts, picked_of}
 use Rattle.col_index.specs.Versions.{cardinality_of}
 use Rattle.col_indexer.proofs.MergeLemmas.{tightest-full, tightest-optional, merged-full, merged-optional, merged-multivalued, merged-rows, merged-offsets}
-use Rattle.col_indexer.proofs.ShuffleLemmas.{picked_of, length-shuffled}
+use Rattle.col_indexer.proofs.ShuffleLemmas.{length-shuffled}
 use Rattle.col_indexer.proofs.merge.merge_column_index_shuffled.Goals as goal
 
 pub returns-in-Full-clause-counts : goal.returns-in-Full-clause-counts
@@ -50,4 +50,4 @@ returns-in-Multivalued-clause-index c =
     let long = sym (length-shuffled p) in
     let rows = ap (λ q. rows_with_value (shuffled_counts q)) c.new-in-Multivalued.ensures in
     let starts = ap (λ q. starts_of (shuffled_counts q)) c.new-in-Multivalued-2.ensures in
-    (merged-offsets (shuffled_counts p) _ _ c.num_rows-num_rows.result (c.num_rows-num_rows.ensures ∙ long) rows starts c.requires.fit.few, c.num_rows-num_rows.type_inv)
+    record { offsets = merged-offsets (shuffled_counts p) _ _ c.num_rows-num_rows.result (c.num_rows-num_rows.ensures ∙ long) rows starts c.requires.fit.few; fits = c.num_rows-num_rows.type_inv }

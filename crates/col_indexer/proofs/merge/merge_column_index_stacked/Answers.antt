@@ -51,4 +51,4 @@ returns-in-Multivalued-clause-index c =
     let many = c.num_rows-num_rows.ensures ∙ sym (length-all_rows counts) ∙ length-stacked counts indexes c.requires.fit.segments in
     let rows = ap (λ s. rows_with_value (stacked_counts s)) c.new-in-Multivalued.ensures in
     let starts = ap (λ s. starts_of (stacked_counts s)) c.new-in-Multivalued-2.ensures in
-    (merged-offsets (stacked_counts (segments_of indexes counts)) _ _ c.num_rows-num_rows.result many rows starts c.requires.fit.few, c.num_rows-num_rows.type_inv)
+    record { offsets = merged-offsets (stacked_counts (segments_of indexes counts)) _ _ c.num_rows-num_rows.result many rows starts c.requires.fit.few; fits = c.num_rows-num_rows.type_inv }

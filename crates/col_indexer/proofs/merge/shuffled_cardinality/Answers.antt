@@ -4,9 +4,10 @@ use Rattle.std.proofs.lemmas.List.{take_all}
 use Rattle.col_model.specs.Order.{has_row}
 use Rattle.col_model.specs.Positions.{picked_counts}
 use Rattle.col_indexer.specs.Counted.{tightest_of}
+use Rattle.col_indexer.specs.Shuffles.{picked_of}
 use Rattle.col_index.specs.Indexes.{shape_of}
 use Rattle.col_index.specs.Versions.{cardinality_of}
-use Rattle.col_indexer.proofs.ShuffleLemmas.{picked_of, AreOf, segment-there, length-walked, count-there}
+use Rattle.col_indexer.proofs.ShuffleLemmas.{AreOf, segment-there, length-walked, count-there}
 use Rattle.col_indexer.proofs.TightestLemmas.{tightest-many, tightest-none, tightest-one}
 use Rattle.col_indexer.proofs.merge.shuffled_cardinality.Goals as goal
 use Rattle.col_indexer.proofs.merge.shuffled_cardinality.Goals.{then-count-eq0, else-count-eq0}

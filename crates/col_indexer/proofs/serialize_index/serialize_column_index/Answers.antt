@@ -10,7 +10,7 @@ returns-in_err-len-clause-ok g c =
     rw (p.1, p.2) (index-written _ _ _ _ _ _ _ (c.to_code.ensures ∙ ap cardinality_code c.get_cardinality.ensures) c.in_ok-serialize_bytes.ensures c.in_err-len.ensures.ok)
 
 pub overflow_add-result : goal.overflow_add-result
-overflow_add-result g c = let fits = index-fits _ _ c.requires c.in_ok-len.ensures.length in omega arith
+overflow_add-result g c = let fits = index-fits _ _ c.requires.index c.requires.limit c.in_ok-len.ensures.length in omega arith
 
 pub returns-clause-ok : goal.returns-clause-ok
 returns-clause-ok g c = index-written _ _ _ _ _ _ _ (c.to_code.ensures ∙ ap cardinality_code c.get_cardinality.ensures) c.in_ok-serialize_bytes.ensures c.in_ok-len.ensures.ok

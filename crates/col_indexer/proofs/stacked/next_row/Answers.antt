@@ -1,6 +1,6 @@
 use Rattle.std.proofs.Common.{◌+◌, sym, ap, refl, ◌∙◌, ◌∷◌, arith}
 use Rattle.col_common.specs.declared.iterable.Walk.{Walk}
-use Rattle.col_indexer.specs.Stacks.{segments_of, rows_left}
+use Rattle.col_indexer.specs.Stacks.{segments_of, stacked_rows_to_give}
 use Rattle.col_indexer.proofs.StackedWalkLemmas.{row_read, row_fits, row_stands, row_given, segment_stands, segment_left, rows_end}
 use Rattle.col_indexer.proofs.stacked.next_row.Goals as goal
 
@@ -27,7 +27,7 @@ returns-in-Some-clause-value c =
     let after : Walk = record { segment = c.loop-at.at.segment; place = c.loop-at.at.place + 1; inner = c.loop-at.at.inner; sum = c.loop-at.at.sum } in
     sym c.loop-at.invariant.left
     ∙ row_given (segments_of c.args.column_indexes.now c.args.order.now) c.loop-at.at after c.requires.segments c.loop-at.invariant.stands (omega arith) c.in-Some.row read refl refl refl
-    ∙ ap (λ row. (c.loop-at.at.sum + row) ∷ rows_left (segments_of c.args.column_indexes.now c.args.order.now) after) (sym c.from.ensures)
+    ∙ ap (λ row. (c.loop-at.at.sum + row) ∷ stacked_rows_to_give (segments_of c.args.column_indexes.now c.args.order.now) after) (sym c.from.ensures)
 
 pub loop-at-preserved : goal.loop-at-preserved
 loop-at-preserved c =

@@ -1,6 +1,6 @@
 use Rattle.std.proofs.Common.{◌+◌, sym, ap, refl, ◌∙◌, ◌∷◌, arith}
 use Rattle.col_common.specs.declared.iterable.Walk.{Walk}
-use Rattle.col_indexer.specs.Stacks.{segments_of, offsets_left}
+use Rattle.col_indexer.specs.Stacks.{segments_of, stacked_offsets_to_give}
 use Rattle.col_indexer.proofs.StackedOffsetLemmas.{start_read, sum_read, sum_fits, first_stands, first_given, offsets_end, start_fits, start_stands, start_given, starts_stand, starts_left}
 use Rattle.col_indexer.proofs.stacked.next_start.Goals as goal
 
@@ -38,7 +38,7 @@ returns-in-Some-clause-value c =
     let after : Walk = record { segment = c.loop-at.at.segment; place = c.loop-at.at.place + 1; inner = c.loop-at.at.inner; sum = c.loop-at.at.sum } in
     sym c.loop-at.invariant.left
     ∙ start_given (segments_of c.args.column_indexes.now c.args.order.now) c.loop-at.at after c.requires.segments c.loop-at.invariant.stands (omega arith) c.in-Some.start read refl refl refl
-    ∙ ap (λ start. (c.loop-at.at.sum + start) ∷ offsets_left (segments_of c.args.column_indexes.now c.args.order.now) after) (sym c.from.ensures)
+    ∙ ap (λ start. (c.loop-at.at.sum + start) ∷ stacked_offsets_to_give (segments_of c.args.column_indexes.now c.args.order.now) after) (sym c.from.ensures)
 
 pub num_values-requires : goal.num_values-requires
 num_values-requires c =

@@ -3,20 +3,13 @@ use Rattle.std.specs.List.{range_with_len, sum}
 use Rattle.col_model.specs.Positions.{starts_of}
 use Rattle.col_indexer.specs.Counted.{counts_in}
 use Rattle.col_index.specs.Indexes.{shape_of}
-use Rattle.col_index.specs.MultiValues.{counts_of}
 use Rattle.col_index.specs.declared.column_index.ColumnIndex.{ColumnIndex}
-use Rattle.col_indexer.proofs.StackedStartLemmas.{starts-fit}
 use Rattle.col_indexer.proofs.UniformLemmas.{starts-zeros, starts-ones, starts-set}
 use Rattle.col_indexer.proofs.stacked.start_at.Goals as goal
 
 -- the starts of a segment, by what its index is
 starts_as : (n : ℕ) (index made : ColumnIndex) (starts : List ℕ) → index ≡ made → starts_of (counts_in n (shape_of made)) ≡ starts → starts_of (counts_in n (shape_of index)) ≡ starts
 starts_as n index made starts e f = ap (λ i. starts_of (counts_in n (shape_of i))) e ∙ f
-
-pub value_at-requires : goal.value_at-requires
-value_at-requires c k x e =
-    let few = starts-fit (counts_of c.in-Multivalued.index) (omega (arith, c.requires, ap (λ i. sum (counts_in c.args.num_rows (shape_of i))) c.in-Multivalued.is)) in
-    few k x (sym (ap (λ xs. slice_get xs k) c.get_start_index_column.ensures.counts) ∙ e)
 
 pub returns-in-Empty : goal.returns-in-Empty
 returns-in-Empty c =
