@@ -4,7 +4,8 @@ ghost use Rattle.col_common.specs.Serializing.{Serializes};
 ghost use Rattle.col_model.specs.Index.{row_offsets, shape};
 ghost use Rattle.col_numbers.specs.Written.{done};
 ghost use Rattle.col_indexer.specs.Spelling.{offsets_by_rows, row_offsets_bytes, body_bytes};
-ghost use Rattle.col_indexer.specs.Spelling.{index_bytes, index_shape, multivalued_index};
+ghost use Rattle.col_indexer.specs.Spelling as spelled;
+ghost use Rattle.col_indexer.specs.Spelling.{index_bytes, index_shape};
 ghost use Rattle.col_indexer.specs.Spelling.{IsIndex, is_past_limit};
 ghost use Rattle.col_indexer.specs.Written.{row_offsets_of, index_of};
 
@@ -21,9 +22,9 @@ pub fn serialize_multivalued_index<K: Sink>(
     multivalued_index: &SerializableMultivalueIndex<'_>,
     sink: &mut K,
 ) -> Result<(), ColumnarError>
-    requires index { IsIndex (multivalued_index (row_offsets_of multivalued_index.now)) }
+    requires index { IsIndex (spelled.multivalued_index (row_offsets_of multivalued_index.now)) }
     requires limit { is_past_limit
-        (multivalued_index (row_offsets_of multivalued_index.now)) ≡ false }
+        (spelled.multivalued_index (row_offsets_of multivalued_index.now)) ≡ false }
     ensures ok { Serializes (K.seen sink.old) (K.seen sink.new) result
         (row_offsets_bytes (row_offsets_of multivalued_index.now)) }
     // What was written stands for the rows and offsets.
@@ -50,7 +51,7 @@ fn serialize_row_offsets<R: Iterable<RowId>, S: Iterable<RowId>, K: Sink>(
     starts: &S,
     sink: &mut K,
 ) -> Result<u64, ColumnarError>
-    requires index { IsIndex (multivalued_index
+    requires index { IsIndex (spelled.multivalued_index
         (offsets_by_rows num_rows (R.items rows.now) (S.items starts.now))) }
     requires limit { nat_le (2 ^ 32 - 1) (length (R.items rows.now)) ≡ false }
     ensures ok { Serializes (K.seen sink.old) (K.seen sink.new) (done result)

@@ -19,4 +19,4 @@ pub returns-clause-rows : goal.returns-clause-rows
 returns-clause-rows c = recorded-index c.args.num_docs _ _ _ _ _ c.self.invariant c.self.view_is c.requires.values c.deref.ensures.value (starts_begun c)
 
 pub returns-clause-index : goal.returns-clause-index
-returns-clause-index c = recorded-offsets c.args.num_docs _ _ _ c.self.invariant c.self.view_is c.type_inv.num_docs c.requires.below c.requires.values
+returns-clause-index c = recorded-offsets c.args.num_docs _ _ _ c.self.invariant c.self.view_is c.ranges.num_docs.fits c.requires.below c.requires.values
