@@ -6,6 +6,7 @@ use Rattle.std.proofs.lemmas.List.Sums.{sum_by-cons}
 use Rattle.col_model.specs.Ascending.{is_rising, is_never_falling, differences}
 use Rattle.col_model.specs.Positions.{starts_after}
 use Rattle.col_index.specs.Offsets.{is_start_list}
+use Rattle.col_model.proofs.ListLaws.{length-differences}
 use Rattle.col_index.proofs.StartLemmas.{start_list-parts}
 
 -- what rises never falls
@@ -16,10 +17,6 @@ never_falls (x ∷ y ∷ zs) e =
     let parts = and_parts (nat_lt x y) (is_rising (y ∷ zs)) e in
     let up = ltb-true x y parts.0 in
     and_from (nat_le x y) (is_never_falling (y ∷ zs)) (le-leb x y (omega arith)) (never_falls (y ∷ zs) parts.1)
-
-pub length-differences : (x : ℕ) (xs : List ℕ) → length (differences (x ∷ xs)) ≡ length xs
-length-differences x [] = refl
-length-differences x (y ∷ zs) = ap suc (length-differences y zs)
 
 pub get_or-differences : (xs : List ℕ) (k : ℕ) → suc k < length xs → get_or (differences xs) k 0 ≡ get_or xs (suc k) 0 - get_or xs k 0
 get_or-differences [] k h = absurd (omega arith)

@@ -1,10 +1,13 @@
 -- Rows that are in a rising list.
 use Rattle.std.proofs.Common.{◌≡◌, ℕ, zero, suc, ◌+◌, ◌<◌, ◌≤◌, ◌||◌, nat_eq, true, false, cond, List, [], ◌∷◌, length, get_or, refl, sym, ap, ◌∙◌, inl, inr, arith}
 use Rattle.std.specs.List.{AllByRecursion}
+use Rattle.std.specs.Prelude.{slice_get, Some}
+use Rattle.std.proofs.lemmas.Option.{slice_get-get_or, slice_get_within, get_or_from_slice_get}
 use Rattle.std.proofs.lemmas.Bool.{eq-eqb, eqb-true, ne_eqb, cases_order, or_cases, or_left, or_right, or_from, true≢false}
 use Rattle.col_model.specs.Ascending.{is_rising}
 use Rattle.col_model.specs.Positions.{rank}
 use Rattle.col_index.proofs.RankLaws.{rank-cons_below, rank-cons_above, tail_rises, rising_from, rank-none, rank-monotone, rank-at}
+use Rattle.col_index.specs.Laws.{IsRanked}
 use Rattle.col_index.specs.Sets.{holds}
 
 pub holds-at : (xs : List ℕ) (k : ℕ) → k < length xs → holds xs (get_or xs k 0) ≡ true
@@ -33,6 +36,17 @@ holds-rank xs t e h =
 
 pub rank-holds : (xs : List ℕ) (t : ℕ) → rank xs t < length xs → get_or xs (rank xs t) 0 ≡ t → holds xs t ≡ true
 rank-holds xs t h e = ap (holds xs) (sym e) ∙ holds-at xs (rank xs t) h
+
+-- rows that rise are a set with ranks
+pub rows-ranked : (xs : List ℕ) → is_rising xs ≡ true → IsRanked (holds xs) (rank xs) (slice_get xs) (λ k. k < length xs)
+rows-ranked xs e = record {
+  ranks = λ k el h. ap (rank xs) (sym (get_or_from_slice_get xs k el 0 h)) ∙ rank-at xs k e (slice_get_within xs k el h);
+  members = λ el. (
+    λ h. let p = holds-rank xs el e h in slice_get-get_or xs (rank xs el) 0 p.0 ∙ ap Some p.1,
+    λ h. rank-holds xs el (slice_get_within xs (rank xs el) el h) (get_or_from_slice_get xs (rank xs el) el 0 h),
+  );
+  selects = λ k. (λ h. (get_or xs k 0, slice_get-get_or xs k 0 h), λ p. slice_get_within xs k p.0 p.1);
+}
 
 -- the next number's rank counts the row too
 pub rank-next : (xs : List ℕ) (t : ℕ) → is_rising xs ≡ true → rank xs (t + 1) ≡ rank xs t + cond (holds xs t) 1 0

@@ -7,7 +7,8 @@ use Rattle.col_model.specs.Ascending.{is_never_falling, differences}
 use Rattle.col_model.specs.Index.{RowSet}
 use Rattle.col_model.specs.Positions.{rows_with_value, starts_of}
 use Rattle.col_index.specs.Offsets.{AreOffsets, AreOldOffsets}
-use Rattle.col_index.proofs.DifferenceLaws.{length-differences, sum-differences}
+use Rattle.col_model.proofs.ListLaws.{length-differences}
+use Rattle.col_index.proofs.DifferenceLaws.{sum-differences}
 use Rattle.col_index.proofs.IndexedLaws.{set_of_counts, offsets_of_counts, counts-are_offsets}
 use Rattle.col_index.proofs.StartLemmas.{start_list-parts, passes_at}
 use Rattle.col_index.proofs.SetLemmas.{few_rows}

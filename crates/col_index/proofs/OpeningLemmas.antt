@@ -27,40 +27,6 @@ vint-behind bytes rest n b e =
 pub row_count-fits : (bytes rest : List ℕ) (n : ℕ) → n ≤ 4294967295 → vint bytes ≡ Some (n, rest) → Some (n, rest) ≡ row_count bytes
 row_count-fits bytes rest n h e = rw (e, lt-ltb n (2 ^ 32) (omega arith)) refl
 
--- what is cut in two is joined again
-front-joined : (n : ℕ) (xs a b : List ℕ) → front n xs ≡ Some (a, b) → xs ≡ a ++ b
-front-joined n xs a b e =
-    let cut = (cond_some (nat_le n (length xs)) (take n xs, drop n xs) (a, b) e).1 in
-    sym (take-append-drop n xs) ∙ ap (λ p. p.0 ++ p.1) cut
-
-back-joined : (n : ℕ) (xs a b : List ℕ) → back n xs ≡ Some (a, b) → xs ≡ a ++ b
-back-joined n xs a b e =
-    let at = length xs - n in
-    let cut = (cond_some (nat_le n (length xs)) (take at xs, drop at xs) (a, b) e).1 in
-    sym (take-append-drop at xs) ∙ ap (λ p. p.0 ++ p.1) cut
-
--- two parts stand one behind the other, and before the length of the first
-pub parts-in_front : (bytes a b : List ℕ) → parts_by_first w64 bytes ≡ Some (a, b) → (length : List ℕ) × (bytes ≡ (a ++ b) ++ length)
-unfolding parts_by_first
-parts-in_front bytes a b e =
-    option_and_then_some (λ p. front (from_le_bytes w64 p.1) p.0) (back 8 bytes) (a, b) e (λ p f g.
-    (p.1, back-joined 8 bytes p.0 p.1 f ∙ ap (λ both. both ++ p.1) (front-joined (from_le_bytes w64 p.1) p.0 a b g)))
-
--- where two parts end
-pub parts-end : (bytes a b : List ℕ) → parts_by_first w64 bytes ≡ Some (a, b) → length a + length b ≤ length bytes
-parts-end bytes a b e =
-    let found = parts-in_front bytes a b e in
-    let long : length bytes ≡ length ((a ++ b) ++ found.0) = ap length found.1 in
-    omega (arith, long, length-append (a ++ b) found.0, length-append a b)
-
--- two parts as cuts of the bytes
-pub parts-cut : (bytes a b : List ℕ) → parts_by_first w64 bytes ≡ Some (a, b) → Some (take (length a) (take (length a + length b) bytes), drop (length a) (take (length a + length b) bytes)) ≡ parts_by_first w64 bytes
-parts-cut bytes a b e =
-    let found = parts-in_front bytes a b e in
-    let both : take (length a + length b) bytes ≡ a ++ b =
-    ap (λ n. take n bytes) (sym (length-append a b)) ∙ ap (take (length (a ++ b))) found.1 ∙ take-append_seam (a ++ b) found.0 in
-    rw (both, take-append_seam a b, drop-append_seam a b) (sym e)
-
 -- the rows, where their count passed the test and they are a set
 abbrev tested : Bool → ℕ → List ℕ → Option RowSet
 tested fits n rows = only_if (fits && is_row_list n rows) (record { num_rows = n; rows = rows })

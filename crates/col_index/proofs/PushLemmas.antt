@@ -6,7 +6,7 @@ use Rattle.col_common.specs.declared.error.ColumnarError.TheVariants as refusals
 use Rattle.col_model.specs.Index.{multivalued_shape}
 use Rattle.col_model.specs.Positions.{values_in}
 use Rattle.col_index.specs.Offsets.{run, docs_of, positions_of, positions_of_rows, row_positions}
-use Rattle.col_index.specs.Sets.{BeginsWith}
+use Rattle.col_index.specs.Appending.{BeginsWith, PushesBoth}
 use Rattle.col_index.proofs.ValueLemmas.{run-more}
 
 -- ---- what a refusal leaves
@@ -19,15 +19,15 @@ begins-same new found front more n e = (more, n ∙ e)
 pub begins-more : (new found front more later : List ℕ) → new ≡ found ++ later → found ≡ front ++ more → BeginsWith new front
 begins-more new found front more later n e = (more ++ later, n ∙ ap (λ xs. xs ++ later) e ∙ append_assoc front more later)
 
--- want of memory, and two facts
-pub out_of_memory : {T : Type 0} (r : Result T ColumnarError) (P Q : Type 0) → IsErrAnd r (λ e. e ≡ refusals.OutOfMemory) → P → Q → IfErr r (λ e. (e ≡ refusals.OutOfMemory) × P × Q)
-out_of_memory (Ok v) P Q h p q = tt
-out_of_memory (Err e) P Q h p q = (h, p, q)
+-- want of memory
+pub pushes-stopped : {docs_old docs_new rows_old rows_new docs rows : List ℕ} (r : Result (Unit {0}) ColumnarError) → IsErrAnd r (λ e. e ≡ refusals.OutOfMemory) → BeginsWith docs_new docs_old → BeginsWith rows_new rows_old → PushesBoth docs_old docs_new rows_old rows_new r docs rows
+pushes-stopped (Ok v) h p q = absurd h
+pushes-stopped (Err e) h p q = record { docs = tt; rows = tt; err = (h, p, q) }
 
--- the same of a refusal that is passed on
-pub passed_on : {T : Type 0} (r : Result T ColumnarError) (x : ColumnarError) (P Q : Type 0) → IsErrAnd r (λ e. e ≡ x) → x ≡ refusals.OutOfMemory → P → Q → IfErr r (λ e. (e ≡ refusals.OutOfMemory) × P × Q)
-passed_on (Ok v) x P Q h o p q = tt
-passed_on (Err e) x P Q h o p q = (h ∙ o, p, q)
+-- a refusal that is passed on
+pub pushes-refused : {docs_old docs_new rows_old rows_new docs rows : List ℕ} (r : Result (Unit {0}) ColumnarError) (x : ColumnarError) → IsErrAnd r (λ e. e ≡ x) → x ≡ refusals.OutOfMemory → BeginsWith docs_new docs_old → BeginsWith rows_new rows_old → PushesBoth docs_old docs_new rows_old rows_new r docs rows
+pushes-refused (Ok v) x h o p q = absurd h
+pushes-refused (Err e) x h o p q = record { docs = tt; rows = tt; err = (h ∙ o, p, q) }
 
 -- ---- a run, one position after another
 

@@ -103,10 +103,3 @@ module _ (offsets : List ℕ) (row : ℕ) (more : row < length offsets - 1) wher
 pub runs-none : (offsets : List ℕ) → get_or offsets 0 0 ≡ 0 → (rows_left offsets 0 ≡ rows_with_value (differences offsets)) × (starts_left offsets 0 ≡ starts_of (differences offsets))
 unfolding starts_of
 runs-none offsets e = (sym (rows_with_value-from (differences offsets)), ap (λ n. starts_after n (differences offsets)) e)
-
--- at the last offset only this
-pub runs-all : (offsets : List ℕ) (last : ℕ) → length offsets ≡ last + 1 → (rows_left offsets last ≡ []) × (starts_left offsets last ≡ get_or offsets last 0 ∷ [])
-runs-all offsets last e =
-    let h : last < length offsets = omega arith in
-    let one : drop last offsets ≡ get_or offsets last 0 ∷ [] = drop-cons offsets last 0 h ∙ ap (λ xs. get_or offsets last 0 ∷ xs) (drop_all (suc last) offsets (omega arith)) in
-    (ap (λ xs. rows_from last (differences xs)) one, ap (λ xs. starts_after (get_or offsets last 0) (differences xs)) one)

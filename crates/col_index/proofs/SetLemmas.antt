@@ -8,7 +8,8 @@ use Rattle.std.proofs.lemmas.Option.{get_or_from_slice_get, slice_get_within, sl
 use Rattle.col_model.specs.Ascending.{is_rising}
 use Rattle.col_model.specs.Index.{RowSet}
 use Rattle.col_model.specs.Positions.{rank}
-use Rattle.col_index.specs.Sets.{AreRows, holds, is_row_list, BeginsWith}
+use Rattle.col_index.specs.Appending.{BeginsWith}
+use Rattle.col_index.specs.Sets.{AreRows, holds, is_row_list}
 use Rattle.col_index.proofs.RankLaws.{tail_rises}
 use Rattle.col_index.proofs.CountLaws.{rows_below}
 use Rattle.col_index.proofs.RangeLemmas.{past-free, other-free, same-held}

@@ -77,14 +77,6 @@ rises-first n [] e z = absurd (omega arith)
 rises-first n (zero ∷ ss) e z = rw (eq-eqb (length (zero ∷ ss)) (n + 1) e, and-true) (rises-behind zero ss)
 rises-first n (suc s ∷ ss) e z = absurd (omega arith)
 
--- another count
-pub rises-uncounted : (n : ℕ) (starts : List ℕ) → (length starts ≡ n + 1 → ⊥) → is_start_list n starts ≡ false
-rises-uncounted n starts e = and_right _ _ (ne_eqb (length starts) (n + 1) e)
-
--- another first offset
-pub rises-off_zero : (n : ℕ) (starts : List ℕ) → (slice_index starts 0 ≡ 0 → ⊥) → is_start_list n starts ≡ false
-rises-off_zero n starts e = false_from_ne_true _ (λ h. e (start_list-parts n starts h).zeroth)
-
 -- one more offset
 module _ (starts : List ℕ) (last at start : ℕ) (read : slice_get starts at ≡ Some start) where
   behind : rest_rises last (drop at starts) ≡ (nat_lt last start && nat_lt start (2 ^ 32) && rest_rises start (drop (at + 1) starts))

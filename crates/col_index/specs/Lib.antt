@@ -1,4 +1,5 @@
 pub mod Sets
+pub mod Appending
 pub mod Search
 pub mod Places
 pub mod Versions
@@ -7,13 +8,3 @@ pub mod MultiValues
 pub mod Indexes
 pub mod Opening
 pub mod Laws
-pub mod Spelling
-pub mod Counted
-pub mod Merged
-pub mod Stacks
-pub mod Shuffles
-pub mod RowViews
-pub mod OffsetViews
-pub mod Written
-pub mod Builders
-pub mod WritingLaws

@@ -1,8 +1,8 @@
 -- Rows with a value and where their values start.
-use Rattle.std.specs.Prelude.{◌≡◌, ℕ, ◌+◌, ◌-◌, ◌^◌, ◌==◌, ◌≤◌, ◌&&◌, nat_lt, Bool, true, List, length, map, flat_map, sum, Option, if◌then◌else◌}
-use Rattle.std.specs.List.{list_all, range_with_len}
+use Rattle.std.specs.Prelude.{◌≡◌, ℕ, ◌+◌, ◌-◌, ◌^◌, ◌==◌, ◌≤◌, ◌&&◌, Bool, true, List, length, map, flat_map, sum, Option, if◌then◌else◌}
+use Rattle.std.specs.List.{range_with_len}
 use Rattle.col_common.specs.Reading.{only_if}
-use Rattle.col_model.specs.Ascending.{is_rising, is_never_falling}
+use Rattle.col_model.specs.Ascending.{is_rising, is_never_falling, are_below}
 use Rattle.col_model.specs.Index.{RowSet, RowOffsets, Shape, empty_shape, full_shape, optional_shape, multivalued_shape, are_starts, are_offsets}
 use Rattle.col_model.specs.Positions.{values_in}
 use Rattle.col_model.specs.Table as tables
@@ -19,7 +19,8 @@ is_start_list n starts = are_offsets starts && is_rising starts && (length start
 
 -- the set with these offsets, where they are its own
 abbrev pub offsets_by : RowSet → List ℕ → Option RowOffsets
-offsets_by set starts = only_if (is_start_list (length set.rows) starts) (record { set = set; starts = starts })
+offsets_by set starts =
+    only_if (is_start_list (length set.rows) starts) (record { set = set; starts = starts })
 
 -- one start offset more than rows, from 0 on, which never fall; at most 2 ^ 32 - 1 of them
 pub record AreOldOffsets (starts : List ℕ) : Type 0 where
@@ -57,5 +58,5 @@ cardinality_in (multivalued_shape cs) = tables.multivalued
 abbrev pub AreInside : Shape → List ℕ → Type 0
 AreInside (empty_shape n) positions = length positions ≡ 0
 AreInside full_shape positions = Unit {0}
-AreInside (optional_shape cs) positions = list_all (λ p. nat_lt p (sum cs)) positions ≡ true
-AreInside (multivalued_shape cs) positions = list_all (λ p. nat_lt p (sum cs)) positions ≡ true
+AreInside (optional_shape cs) positions = are_below (sum cs) positions ≡ true
+AreInside (multivalued_shape cs) positions = are_below (sum cs) positions ≡ true

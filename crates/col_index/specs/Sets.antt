@@ -27,7 +27,3 @@ is_row_list n rows = are_rows (record { num_rows = n; rows = rows })
 -- the rows as a set of so many rows, where they are one
 abbrev pub set_by : ℕ → List ℕ → Option RowSet
 set_by n rows = only_if (is_row_list n rows) (record { num_rows = n; rows = rows })
-
--- the list has another one in front
-abbrev pub BeginsWith : List ℕ → List ℕ → Type 0
-BeginsWith xs front = (more : List ℕ) × (xs ≡ front ++ more)

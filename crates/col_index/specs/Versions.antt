@@ -1,4 +1,5 @@
--- Cardinalities and versions, by the numbers that a file has for them. States docs/FORMAT.md, sections 8 and 11.
+-- Cardinalities and versions, by the numbers that a file has for them. States docs/FORMAT.md,
+-- sections 8 and 11.
 use Rattle.std.specs.Prelude.{ℕ}
 use Rattle.col_model.specs.Table as tables
 use Rattle.col_index.specs.declared.cardinality.Cardinality.{Cardinality}
@@ -11,6 +12,10 @@ abbrev pub cardinality_of : Cardinality → tables.Cardinality
 cardinality_of Full = tables.full
 cardinality_of Optional = tables.optional
 cardinality_of Multivalued = tables.multivalued
+
+-- the code of a cardinality
+abbrev pub code_of : Cardinality → ℕ
+code_of c = tables.cardinality_code (cardinality_of c)
 
 -- the number of a version
 abbrev pub version_number : Version → ℕ

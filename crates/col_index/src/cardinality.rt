@@ -1,7 +1,8 @@
 //! How many values a row may have.
-ghost use Rattle.std.specs.Prelude.{◌≡◌, ◌==◌, option_map};
+ghost use Rattle.std.specs.Prelude.{◌≡◌, ◌==◌, Some, None, IfOk, IfErr};
 ghost use Rattle.col_model.specs.Table.{cardinality_code, cardinality_of_code};
 
+use col_common::InvalidData;
 use std::fmt;
 
 /// How many values a row may have; a later one allows more.
@@ -52,14 +53,15 @@ impl Cardinality {
     }
 
     /// The cardinality of a code.
-    pub fn try_from_code(code: u8) -> Option<Cardinality>
-        ensures { option_map cardinality_of result ≡ cardinality_of_code code }
+    pub fn try_from_code(code: u8) -> Result<Cardinality, InvalidData>
+        ensures ok { IfOk result (λ c. cardinality_of_code code ≡ Some (cardinality_of c)) }
+        ensures invalid_data { IfErr result (λ _. cardinality_of_code code ≡ None) }
     {
         match code {
-            0 => Some(Cardinality::Full),
-            1 => Some(Cardinality::Optional),
-            2 => Some(Cardinality::Multivalued),
-            _ => None,
+            0 => Ok(Cardinality::Full),
+            1 => Ok(Cardinality::Optional),
+            2 => Ok(Cardinality::Multivalued),
+            _ => Err(InvalidData),
         }
     }
 }

@@ -1,12 +1,12 @@
 //! How many values each row of a column has.
-ghost use Rattle.std.specs.Prelude.{◌≡◌, ◌++◌, ◌<◌, ◌-◌, ◌^◌, ◌==◌, true, not, nat_le, max, IfOk, IfErr, OnOk};
+ghost use Rattle.std.specs.Prelude.{◌≡◌, ◌<◌, ◌-◌, ◌^◌, ◌==◌, true, not, nat_le, max, IfOk, IfErr};
 ghost use Rattle.std.specs.List.{list_all};
 ghost use Rattle.col_common.specs.declared.error.ColumnarError.TheVariants as refusals;
 ghost use Rattle.col_model.specs.Ascending.{is_rising};
 ghost use Rattle.col_model.specs.Index.{set_counts, optional_shape, multivalued_shape, full_shape};
 ghost use Rattle.col_model.specs.Positions.{count_in, start_in, positions_in, rows_in};
 ghost use Rattle.col_index.specs.Versions.{cardinality_of};
-ghost use Rattle.col_index.specs.Sets.{BeginsWith};
+ghost use Rattle.col_index.specs.Appending.{AppendsBoth, PushesBoth};
 ghost use Rattle.col_index.specs.Offsets.{cardinality_in, positions_of_rows, docs_of, positions_of, AreInside};
 ghost use Rattle.col_index.specs.MultiValues.{counts_of};
 
@@ -18,7 +18,7 @@ use std::alloc::Global;
 use std::ops::Range;
 
 /// How many values each row of a column has.
-#[derive(Drop)]
+#[derive(Debug, Drop)]
 pub enum ColumnIndex {
     /// No row has a value.
     Empty { num_docs: u32 },
@@ -113,13 +113,10 @@ impl ColumnIndex {
         doc_ids_out: &mut Vec<DocId>,
         row_ids: &mut Vec<RowId>,
     ) -> Result<(), ColumnarError>
-        ensures docs { OnOk result (doc_ids_out.new.items ≡ doc_ids_out.old.items
-            ++ docs_of (positions_of_rows (shape_of self.now) doc_ids.now)) }
-        ensures rows { OnOk result (row_ids.new.items ≡ row_ids.old.items
-            ++ positions_of (positions_of_rows (shape_of self.now) doc_ids.now)) }
-        // Want of memory leaves both lists as they were.
-        ensures err { IfErr result (λ e. (e ≡ refusals.OutOfMemory)
-            × (doc_ids_out.new.items ≡ doc_ids_out.old.items) × (row_ids.new.items ≡ row_ids.old.items)) }
+        ensures { AppendsBoth doc_ids_out.old.items doc_ids_out.new.items
+            row_ids.old.items row_ids.new.items result
+            (docs_of (positions_of_rows (shape_of self.now) doc_ids.now))
+            (positions_of (positions_of_rows (shape_of self.now) doc_ids.now)) }
     {
         let num_docs = doc_ids_out.len();
         let num_rows = row_ids.len();
@@ -138,13 +135,10 @@ impl ColumnIndex {
         doc_ids_out: &mut Vec<DocId>,
         row_ids: &mut Vec<RowId>,
     ) -> Result<(), ColumnarError>
-        ensures docs { OnOk result (doc_ids_out.new.items ≡ doc_ids_out.old.items
-            ++ docs_of (positions_of_rows (shape_of self.now) doc_ids.now)) }
-        ensures rows { OnOk result (row_ids.new.items ≡ row_ids.old.items
-            ++ positions_of (positions_of_rows (shape_of self.now) doc_ids.now)) }
-        ensures err { IfErr result (λ e. (e ≡ refusals.OutOfMemory)
-            × BeginsWith doc_ids_out.new.items doc_ids_out.old.items
-            × BeginsWith row_ids.new.items row_ids.old.items) }
+        ensures { PushesBoth doc_ids_out.old.items doc_ids_out.new.items
+            row_ids.old.items row_ids.new.items result
+            (docs_of (positions_of_rows (shape_of self.now) doc_ids.now))
+            (positions_of (positions_of_rows (shape_of self.now) doc_ids.now)) }
     {
         match self {
             ColumnIndex::Empty { .. } => Ok(()),
@@ -158,10 +152,11 @@ impl ColumnIndex {
         }
     }
 
-    /// The positions of the values of a range of rows; a range that ends before its start holds none.
+    /// The positions of the values of a range of rows; one that ends before its start holds none.
     pub fn docid_range_to_rowids(&self, doc_id_range: Range<DocId>) -> Range<RowId>
         ensures start { result.start ≡ start_in (shape_of self.now) doc_id_range.start }
-        ensures end { result.end ≡ start_in (shape_of self.now) (max doc_id_range.start doc_id_range.end) }
+        ensures end { result.end
+            ≡ start_in (shape_of self.now) (max doc_id_range.start doc_id_range.end) }
     {
         let end = doc_id_range.end.max(doc_id_range.start);
         self.start_of(doc_id_range.start)..self.start_of(end)
@@ -184,7 +179,8 @@ impl ColumnIndex {
     pub fn select_batch_in_place(&self, doc_id_start: DocId, rank_ids: &mut Vec<RowId>)
         requires rising { is_rising rank_ids.old.items ≡ true }
         requires inside { AreInside (shape_of self.now) rank_ids.old.items }
-        requires start { list_all (λ p. nat_le (start_in (shape_of self.now) doc_id_start) p) rank_ids.old.items ≡ true }
+        requires start { list_all (λ p. nat_le (start_in (shape_of self.now) doc_id_start) p)
+            rank_ids.old.items ≡ true }
         ensures { rank_ids.new.items ≡ rows_in (shape_of self.now) rank_ids.old.items }
     {
         match self {

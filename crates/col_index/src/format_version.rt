@@ -1,6 +1,7 @@
 //! Versions of files.
-ghost use Rattle.std.specs.Prelude.{◌≡◌, ◌==◌, false, IfOk, IfErr};
+ghost use Rattle.std.specs.Prelude.{◌≡◌, false, IfOk, IfErr};
 ghost use Rattle.std.specs.Int.{w32, to_le_bytes, from_le_bytes};
+ghost use Rattle.col_model.specs.Version.{is_version};
 
 use col_common::InvalidData;
 use std::fmt;
@@ -29,7 +30,7 @@ impl Version {
     /// The version of four bytes.
     pub fn try_from_bytes(bytes: [u8; 4]) -> Result<Version, InvalidData>
         ensures ok { IfOk result (λ version. version_number version ≡ from_le_bytes w32 bytes) }
-        ensures invalid_data { IfErr result (λ _. (from_le_bytes w32 bytes == 2) ≡ false) }
+        ensures invalid_data { IfErr result (λ _. is_version (from_le_bytes w32 bytes) ≡ false) }
     {
         match u32::from_le_bytes(bytes) {
             2 => Ok(Version::V2),

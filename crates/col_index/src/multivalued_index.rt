@@ -1,5 +1,6 @@
 //! Rows that have any number of values.
-ghost use Rattle.std.specs.Prelude.{◌≡◌, ◌^◌, ◌++◌, ◌==◌, not, true, nat_le, length, sum, slice_index, IfOk, IfErr, OnOk};
+ghost use Rattle.std.specs.Prelude.{◌≡◌, ◌^◌, ◌==◌, not, true, nat_le, length, sum, slice_index};
+ghost use Rattle.std.specs.Prelude.{IfOk, IfErr};
 ghost use Rattle.std.specs.List.{list_all};
 ghost use Rattle.col_common.specs.declared.error.ColumnarError.TheVariants as refusals;
 ghost use Rattle.col_model.specs.Ascending.{is_rising, differences};
@@ -7,13 +8,15 @@ ghost use Rattle.col_model.specs.Positions.{start_of, index_range, rows_with_val
 ghost use Rattle.col_numbers.specs.Readers.{list_of};
 ghost use Rattle.col_values.specs.Values.{AreBelow};
 ghost use Rattle.col_index.specs.Offsets.{AreOldOffsets, row_positions, docs_of, positions_of};
-ghost use Rattle.col_index.specs.Sets.{BeginsWith};
+ghost use Rattle.col_index.specs.Appending.{PushesBoth};
 
 use crate::multivalued_index_v2::MultiValueIndexV2;
 use crate::optional_index::NonNullDocs;
 use col_common::{ColumnarError, DocId, RowId};
 use col_numbers::U64Values;
+use col_values::ColumnValues;
 use std::alloc::Global;
+use std::fmt;
 use std::ops::Range;
 
 /// How many values each row has.
@@ -122,12 +125,10 @@ impl MultiValueIndex {
         docs_out: &mut Vec<DocId>,
         rows_out: &mut Vec<RowId>,
     ) -> Result<(), ColumnarError>
-        ensures docs { OnOk result (docs_out.new.items ≡ docs_out.old.items
-            ++ docs_of (row_positions (counts_of self.now) docs.now)) }
-        ensures rows { OnOk result (rows_out.new.items ≡ rows_out.old.items
-            ++ positions_of (row_positions (counts_of self.now) docs.now)) }
-        ensures err { IfErr result (λ e. (e ≡ refusals.OutOfMemory)
-            × BeginsWith docs_out.new.items docs_out.old.items × BeginsWith rows_out.new.items rows_out.old.items) }
+        ensures { PushesBoth docs_out.old.items docs_out.new.items
+            rows_out.old.items rows_out.new.items result
+            (docs_of (row_positions (counts_of self.now) docs.now))
+            (positions_of (row_positions (counts_of self.now) docs.now)) }
     {
         match self {
             MultiValueIndex::MultiValueIndexV2(index) => {
@@ -141,7 +142,8 @@ impl MultiValueIndex {
     pub fn select_batch_in_place(&self, doc_id_start: DocId, ranks: &mut Vec<RowId>)
         requires rising { is_rising ranks.old.items ≡ true }
         requires below { AreBelow ranks.old.items (sum (counts_of self.now)) }
-        requires start { list_all (λ p. nat_le (start_of (counts_of self.now) doc_id_start) p) ranks.old.items ≡ true }
+        requires start { list_all (λ p. nat_le (start_of (counts_of self.now) doc_id_start) p)
+            ranks.old.items ≡ true }
         ensures { ranks.new.items ≡ rows_at (counts_of self.now) ranks.old.items }
     {
         match self {
@@ -149,5 +151,13 @@ impl MultiValueIndex {
                 index.select_batch_in_place(doc_id_start, ranks)
             }
         }
+    }
+}
+
+impl fmt::Debug for MultiValueIndex {
+    fn fmt<W: fmt::Write>(&self, f: &mut fmt::Formatter<W>) -> fmt::Result {
+        f.debug_struct("MultiValuedIndex")
+            .field("num_rows", &self.get_start_index_column().num_vals())
+            .finish_non_exhaustive()
     }
 }

@@ -1,5 +1,6 @@
 //! Rows that have any number of values, in version 2.
-ghost use Rattle.std.specs.Prelude.{◌≡◌, ◌≤◌, ◌-◌, ◌^◌, ◌++◌, ◌==◌, not, true, length, take, sum, slice_index, IfOk, IfErr, OnOk};
+ghost use Rattle.std.specs.Prelude.{◌≡◌, ◌≤◌, ◌-◌, ◌^◌, ◌==◌, not, true, length, take, sum, slice_index, OnOk};
+ghost use Rattle.std.specs.Prelude.{◌++◌, IfOk, IfErr};
 ghost use Rattle.col_common.specs.declared.error.ColumnarError.TheVariants as refusals;
 ghost use Rattle.col_model.specs.Ascending.{is_rising, differences};
 ghost use Rattle.col_model.specs.Index.{offset_counts};
@@ -7,7 +8,7 @@ ghost use Rattle.col_model.specs.Positions.{start_of, index_range, rows_with_val
 ghost use Rattle.col_numbers.specs.Readers.{list_of};
 ghost use Rattle.col_values.specs.Values.{AreBelow};
 ghost use Rattle.col_index.specs.Offsets.{AreOldOffsets, row_positions, docs_of, positions_of, is_start_list, offsets_by, run};
-ghost use Rattle.col_index.specs.Sets.{BeginsWith};
+ghost use Rattle.col_index.specs.Appending.{PushesBoth};
 
 use crate::optional_index::{NonNullDocs, OptionalIndex, load_numbers};
 use crate::search::Place;
@@ -178,13 +179,10 @@ impl MultiValueIndexV2 {
         docs_out: &mut Vec<DocId>,
         rows_out: &mut Vec<RowId>,
     ) -> Result<(), ColumnarError>
-        ensures docs { OnOk result (docs_out.new.items ≡ docs_out.old.items
-            ++ docs_of (row_positions (offset_counts self.now) docs.now)) }
-        ensures rows { OnOk result (rows_out.new.items ≡ rows_out.old.items
-            ++ positions_of (row_positions (offset_counts self.now) docs.now)) }
-        ensures err { IfErr result (λ e. (e ≡ refusals.OutOfMemory)
-            × BeginsWith docs_out.new.items docs_out.old.items
-            × BeginsWith rows_out.new.items rows_out.old.items) }
+        ensures { PushesBoth docs_out.old.items docs_out.new.items
+            rows_out.old.items rows_out.new.items result
+            (docs_of (row_positions (offset_counts self.now) docs.now))
+            (positions_of (row_positions (offset_counts self.now) docs.now)) }
     {
         let mut place = self.optional_index.first_place();
         for doc in docs {
@@ -239,13 +237,9 @@ fn push_run(
     docs_out: &mut Vec<DocId>,
     rows_out: &mut Vec<RowId>,
 ) -> Result<(), ColumnarError>
-    ensures docs { OnOk result (docs_out.new.items ≡ docs_out.old.items
-        ++ docs_of (run doc start (end - start))) }
-    ensures rows { OnOk result (rows_out.new.items ≡ rows_out.old.items
-        ++ positions_of (run doc start (end - start))) }
-    ensures err { IfErr result (λ e. (e ≡ refusals.OutOfMemory)
-        × BeginsWith docs_out.new.items docs_out.old.items
-        × BeginsWith rows_out.new.items rows_out.old.items) }
+    ensures { PushesBoth docs_out.old.items docs_out.new.items
+        rows_out.old.items rows_out.new.items result
+        (docs_of (run doc start (end - start))) (positions_of (run doc start (end - start))) }
 {
     for position in start..end {
         docs_out.push(doc)?;

@@ -1,12 +1,10 @@
 //! Optional indexes by how many values each row has.
-ghost use Rattle.std.specs.Prelude.{◌≡◌, ◌++◌, ◌==◌, not, true, nat_lt, sum, slice_index, IfErr, OnOk};
-ghost use Rattle.std.specs.List.{list_all};
-ghost use Rattle.col_common.specs.declared.error.ColumnarError.TheVariants as refusals;
-ghost use Rattle.col_model.specs.Ascending.{is_rising};
+ghost use Rattle.std.specs.Prelude.{◌≡◌, ◌==◌, not, true, sum, slice_index};
+ghost use Rattle.col_model.specs.Ascending.{is_rising, are_below};
 ghost use Rattle.col_model.specs.Index.{set_counts, optional_shape};
 ghost use Rattle.col_model.specs.Positions.{start_of, rows_at};
 ghost use Rattle.col_index.specs.Offsets.{positions_of_rows, docs_of, positions_of};
-ghost use Rattle.col_index.specs.Sets.{BeginsWith};
+ghost use Rattle.col_index.specs.Appending.{PushesBoth};
 
 use crate::optional_index::OptionalIndex;
 use crate::set::Set;
@@ -37,12 +35,10 @@ impl OptionalIndex {
         docs_out: &mut Vec<DocId>,
         rows_out: &mut Vec<RowId>,
     ) -> Result<(), ColumnarError>
-        ensures docs { OnOk result (docs_out.new.items ≡ docs_out.old.items
-            ++ docs_of (positions_of_rows (optional_shape (set_counts self.now)) docs.now)) }
-        ensures rows { OnOk result (rows_out.new.items ≡ rows_out.old.items
-            ++ positions_of (positions_of_rows (optional_shape (set_counts self.now)) docs.now)) }
-        ensures err { IfErr result (λ e. (e ≡ refusals.OutOfMemory)
-            × BeginsWith docs_out.new.items docs_out.old.items × BeginsWith rows_out.new.items rows_out.old.items) }
+        ensures { PushesBoth docs_out.old.items docs_out.new.items
+            rows_out.old.items rows_out.new.items result
+            (docs_of (positions_of_rows (optional_shape (set_counts self.now)) docs.now))
+            (positions_of (positions_of_rows (optional_shape (set_counts self.now)) docs.now)) }
     {
         self.rows_rise();
         self.push_ranks(docs, docs_out, rows_out)
@@ -51,7 +47,7 @@ impl OptionalIndex {
     /// Puts in the place of ascending positions the rows that have them.
     pub(crate) fn select_batch_in_place(&self, rank_ids: &mut Vec<RowId>)
         requires rising { is_rising rank_ids.old.items ≡ true }
-        requires inside { list_all (λ p. nat_lt p (sum (set_counts self.now))) rank_ids.old.items ≡ true }
+        requires inside { are_below (sum (set_counts self.now)) rank_ids.old.items ≡ true }
         ensures { rank_ids.new.items ≡ rows_at (set_counts self.now) rank_ids.old.items }
     {
         self.rows_rise();

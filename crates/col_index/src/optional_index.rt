@@ -1,10 +1,12 @@
 //! Rows that have at most one value.
-ghost use Rattle.std.specs.Prelude.{◌≡◌, [], ◌∷◌, ◌++◌, ◌^◌, ◌<◌, length, map, slice_get, Some, IfOk, IfErr, OnOk};
+ghost use Rattle.std.specs.Prelude.{◌≡◌, [], ◌∷◌, ◌^◌, ◌<◌, length, map, slice_get, Some};
+ghost use Rattle.std.specs.Prelude.{IfOk, IfErr};
 ghost use Rattle.col_common.specs.declared.error.ColumnarError.TheVariants as refusals;
 ghost use Rattle.col_model.specs.Index.{RowSet, set_counts};
 ghost use Rattle.col_model.specs.Positions.{rank, next_row, index_range};
 ghost use Rattle.col_values.specs.Values.{AreBelow};
-ghost use Rattle.col_index.specs.Sets.{AreRows, BeginsWith, holds, held, held_ranks, is_row_list, set_by};
+ghost use Rattle.col_index.specs.Appending.{AppendsBoth, PushesBoth};
+ghost use Rattle.col_index.specs.Sets.{AreRows, holds, held, held_ranks, is_row_list, set_by};
 ghost use Rattle.col_numbers.specs.Readers.{list_of};
 
 use crate::search::{Place, rank_in};
@@ -13,6 +15,7 @@ use col_common::{ColumnarError, DocId, Iterable, RowId, Walk};
 use col_numbers::{CodecType, U64Values, serialize_and_load_u64_values};
 use col_values::ColumnValues;
 use std::alloc::Global;
+use std::fmt;
 use std::marker::Model;
 use std::ops::Range;
 
@@ -43,7 +46,8 @@ impl OptionalIndex {
         row_ids: &[RowId],
     ) -> Result<OptionalIndex, ColumnarError>
         requires { AreRows (record { num_rows = num_rows; rows = row_ids.now }) }
-        ensures ok { IfOk result (λ index. index ≡ record { num_rows = num_rows; rows = row_ids.now }) }
+        ensures ok { IfOk result (λ index.
+            index ≡ record { num_rows = num_rows; rows = row_ids.now }) }
         ensures err { IfErr result (λ e. e ≡ refusals.OutOfMemory) }
     {
         let rows = load_numbers(alloc, row_ids)?;
@@ -120,10 +124,9 @@ impl OptionalIndex {
         docs_out: &mut Vec<DocId>,
         rows_out: &mut Vec<RowId>,
     ) -> Result<(), ColumnarError>
-        ensures docs { OnOk result (docs_out.new.items ≡ docs_out.old.items ++ held self.now.rows docs.now) }
-        ensures rows { OnOk result (rows_out.new.items ≡ rows_out.old.items ++ held_ranks self.now.rows docs.now) }
-        ensures err { IfErr result (λ e. (e ≡ refusals.OutOfMemory)
-            × (docs_out.new.items ≡ docs_out.old.items) × (rows_out.new.items ≡ rows_out.old.items)) }
+        ensures { AppendsBoth docs_out.old.items docs_out.new.items
+            rows_out.old.items rows_out.new.items result
+            (held self.now.rows docs.now) (held_ranks self.now.rows docs.now) }
     {
         let num_docs = docs_out.len();
         let num_rows = rows_out.len();
@@ -189,6 +192,19 @@ impl Set<RowId> for OptionalIndex {
         let _num_rows = self.num_rows;
         self.rows.get_val(rank) as RowId
     }
+
+    fn ranks_are_undone(&self) {
+        self.rows_rise();
+    }
+}
+
+impl fmt::Debug for OptionalIndex {
+    fn fmt<W: fmt::Write>(&self, f: &mut fmt::Formatter<W>) -> fmt::Result {
+        f.debug_struct("OptionalIndex")
+            .field("num_docs", &self.num_docs())
+            .field("num_non_null_docs", &self.num_non_nulls())
+            .finish_non_exhaustive()
+    }
 }
 
 /// A reader of rows by their ranks. Contracts see the rows.
@@ -218,7 +234,8 @@ impl SelectCursor<RowId> for OptionalIndexSelectCursor<'_> {
     }
 }
 
-/// The rows with a value, ascending; `place` of a walk is the rank of the next. Contracts see the rows.
+/// The rows with a value, ascending; `place` of a walk is the rank of the next. Contracts see the
+/// rows.
 #[derive(Drop)]
 pub struct NonNullDocs<'a> {
     index: &'a OptionalIndex,
@@ -321,10 +338,9 @@ impl OptionalIndex {
         docs_out: &mut Vec<DocId>,
         rows_out: &mut Vec<RowId>,
     ) -> Result<(), ColumnarError>
-        ensures docs { OnOk result (docs_out.new.items ≡ docs_out.old.items ++ held self.now.rows docs.now) }
-        ensures rows { OnOk result (rows_out.new.items ≡ rows_out.old.items ++ held_ranks self.now.rows docs.now) }
-        ensures err { IfErr result (λ e. (e ≡ refusals.OutOfMemory)
-            × BeginsWith docs_out.new.items docs_out.old.items × BeginsWith rows_out.new.items rows_out.old.items) }
+        ensures { PushesBoth docs_out.old.items docs_out.new.items
+            rows_out.old.items rows_out.new.items result
+            (held self.now.rows docs.now) (held_ranks self.now.rows docs.now) }
     {
         let mut place = self.first_place();
         for doc in docs {
@@ -346,10 +362,8 @@ pub(crate) fn push_pair(
     doc: DocId,
     row: RowId,
 ) -> Result<(), ColumnarError>
-    ensures docs { OnOk result (docs_out.new.items ≡ docs_out.old.items ++ doc ∷ []) }
-    ensures rows { OnOk result (rows_out.new.items ≡ rows_out.old.items ++ row ∷ []) }
-    ensures err { IfErr result (λ e. (e ≡ refusals.OutOfMemory)
-        × BeginsWith docs_out.new.items docs_out.old.items × BeginsWith rows_out.new.items rows_out.old.items) }
+    ensures { PushesBoth docs_out.old.items docs_out.new.items
+        rows_out.old.items rows_out.new.items result (doc ∷ []) (row ∷ []) }
 {
     docs_out.push(doc)?;
     rows_out.push(row)?;

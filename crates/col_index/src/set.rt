@@ -1,6 +1,7 @@
 //! Sets of numbers, with ranks.
 ghost use Rattle.std.specs.Prelude.{◌≡◌, Bool, Option, Some};
 ghost use Rattle.col_common.specs.Reading.{only_if};
+ghost use Rattle.col_index.specs.Laws.{IsRanked};
 
 /// A set of numbers in order; the rank of a number is how many of the set are below it.
 pub trait Set<T> {
@@ -32,6 +33,11 @@ pub trait Set<T> {
     fn select(&self, rank: T) -> T
         requires { IsRank self.now rank }
         ensures { at_rank self.now rank ≡ Some result };
+
+    /// The law of a set, as a call that does nothing: ranks and what they select undo each other.
+    fn ranks_are_undone(&self)
+        ensures { IsRanked (holds self.now) (rank_of self.now) (at_rank self.now)
+            (IsRank self.now) };
 }
 
 /// A reader of the numbers of a set by their ranks.

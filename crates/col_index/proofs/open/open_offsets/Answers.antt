@@ -1,5 +1,7 @@
 use Rattle.std.proofs.Common.{sym, ◌∙◌}
 use Rattle.std.proofs.lemmas.Result.{err_from_is_err_and}
+use Rattle.std.specs.Int.{w64}
+use Rattle.col_common.specs.Reading.{parts_by_first}
 use Rattle.col_model.specs.Index.{row_set, row_offsets}
 use Rattle.col_model.specs.U64List.{values64}
 use Rattle.col_numbers.specs.Readers.{list_of}
@@ -7,27 +9,27 @@ use Rattle.col_codecs.proofs.BlockReaderLemmas.{refuses-list}
 use Rattle.col_index.proofs.OpeningLemmas.{row_offsets-unparted, row_offsets-unset, row_offsets-unread, row_offsets-read}
 use Rattle.col_index.proofs.open.open_offsets.Goals as goal
 
-pub returns-in_default : goal.returns-in_default
-returns-in_default c = row_offsets-unparted c.args.bytes (sym c.in_ok-rows.ensures.ok ∙ c.in_default.is)
+pub returns-in_err-rows : goal.returns-in_err-rows
+returns-in_err-rows c =
+    let p = err_from_is_err_and c.from_residual.result c.from_residual.ensures.1 in
+    rw (p.1, p.2) (refuses-list c.in_err-rows.field-0.0 (parts_by_first w64 c.args.bytes) (row_offsets c.args.bytes) (row_offsets-unparted c.args.bytes) c.in_err-rows.ensures)
 
 pub returns-in_err-optional_index : goal.returns-in_err-optional_index
 returns-in_err-optional_index c =
     let p = err_from_is_err_and c.from_residual-in_err-optional_index.result c.from_residual-in_err-optional_index.ensures.1 in
-    let parts = sym c.in_ok-rows.ensures.ok ∙ c.in-Some.is in
-    rw (p.1, p.2) (refuses-list c.in_err-optional_index.field-0.0 (row_set c.in-Some.rows) (row_offsets c.args.bytes) (row_offsets-unset c.args.bytes c.in-Some.rows c.in-Some.starts parts) c.in_err-optional_index.ensures)
+    rw (p.1, p.2) (refuses-list c.in_err-optional_index.field-0.0 (row_set c.in_ok-rows.rows) (row_offsets c.args.bytes) (row_offsets-unset c.args.bytes c.in_ok-rows.rows c.in_ok-rows.starts c.in_ok-rows.ensures) c.in_err-optional_index.ensures)
 
 pub returns-in_err-load_u64_values : goal.returns-in_err-load_u64_values
 returns-in_err-load_u64_values c =
     let p = err_from_is_err_and c.from_residual-in_err-load_u64_values.result c.from_residual-in_err-load_u64_values.ensures.1 in
-    let parts = sym c.in_ok-rows.ensures.ok ∙ c.in-Some.is in
-    rw (p.1, p.2) (refuses-list c.in_err-load_u64_values.field-0.0 (values64 c.in-Some.starts) (row_offsets c.args.bytes) (row_offsets-unread c.args.bytes c.in-Some.rows c.in-Some.starts c.in_ok-optional_index.optional_index parts c.in_ok-optional_index.ensures) c.in_err-load_u64_values.ensures)
+    rw (p.1, p.2) (refuses-list c.in_err-load_u64_values.field-0.0 (values64 c.in_ok-rows.starts) (row_offsets c.args.bytes) (row_offsets-unread c.args.bytes c.in_ok-rows.rows c.in_ok-rows.starts c.in_ok-optional_index.optional_index c.in_ok-rows.ensures c.in_ok-optional_index.ensures) c.in_err-load_u64_values.ensures)
 
-pub returns-in-Some-from_parts : goal.returns-in-Some-from_parts
-returns-in-Some-from_parts c =
-    row_offsets-read c.args.bytes c.in-Some.rows c.in-Some.starts (list_of c.in_ok-load_u64_values.field-0) c.in_ok-optional_index.optional_index (sym c.in_ok-rows.ensures.ok ∙ c.in-Some.is) c.in_ok-optional_index.ensures c.in_ok-load_u64_values.ensures
-    ∙ sym c.in-Some-from_parts.ensures
+pub returns-in-Some : goal.returns-in-Some
+returns-in-Some c =
+    row_offsets-read c.args.bytes c.in_ok-rows.rows c.in_ok-rows.starts (list_of c.in_ok-load_u64_values.field-0) c.in_ok-optional_index.optional_index c.in_ok-rows.ensures c.in_ok-optional_index.ensures c.in_ok-load_u64_values.ensures
+    ∙ sym c.in-Some.ensures
 
 pub returns-in-None : goal.returns-in-None
 returns-in-None c =
-    row_offsets-read c.args.bytes c.in-Some.rows c.in-Some.starts (list_of c.in_ok-load_u64_values.field-0) c.in_ok-optional_index.optional_index (sym c.in_ok-rows.ensures.ok ∙ c.in-Some.is) c.in_ok-optional_index.ensures c.in_ok-load_u64_values.ensures
+    row_offsets-read c.args.bytes c.in_ok-rows.rows c.in_ok-rows.starts (list_of c.in_ok-load_u64_values.field-0) c.in_ok-optional_index.optional_index c.in_ok-rows.ensures c.in_ok-optional_index.ensures c.in_ok-load_u64_values.ensures
     ∙ sym c.in-None.ensures

@@ -5,7 +5,7 @@ use Rattle.col_index.specs.Offsets.{AreOffsets, docs_of, positions_of, run}
 use Rattle.col_index.specs.Places.{IsPlace}
 use Rattle.col_index.specs.Sets.{holds}
 use Rattle.col_index.proofs.RankLaws.{rows_rise}
-use Rattle.col_index.proofs.PushLemmas.{passed_on, visited, visited-free, visited-none}
+use Rattle.col_index.proofs.PushLemmas.{pushes-refused, visited, visited-free, visited-none}
 use Rattle.col_index.proofs.SetLemmas.{begins_later}
 use Rattle.col_index.proofs.ValueLemmas.{place-free, place-held, place-inside, values-free, values-held, few_held}
 use Rattle.col_index.proofs.multivalued_index_v2.MultiValueIndexV2.push_positions.Goals as goal
@@ -44,9 +44,9 @@ overflow_add-place c =
     let fits : c.seek-place.result.at + 1 < 2 ^ 32 = omega (arith, inside, few) in
     search rules
 
-pub returns-in_err-push_run-clause-err : goal.returns-in_err-push_run-clause-err
-returns-in_err-push_run-clause-err c =
-    passed_on c.from_residual.result c.in_err-push_run.field-0.0 _ _ c.from_residual.ensures.1 c.in_err-push_run.ensures.err.0
+pub returns-in_err-push_run : goal.returns-in_err-push_run
+returns-in_err-push_run c =
+    pushes-refused c.from_residual.result c.in_err-push_run.field-0.0 c.from_residual.ensures.1 c.in_err-push_run.ensures.err.0
     (begins_later _ _ _ _ c.loop-doc.invariant.docs c.in_err-push_run.ensures.err.1)
     (begins_later _ _ _ _ c.loop-doc.invariant.rows c.in_err-push_run.ensures.err.2)
 

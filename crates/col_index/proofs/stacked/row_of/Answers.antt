@@ -1,5 +1,0 @@
-use Rattle.col_index.proofs.StackedStartLemmas.{next-is}
-use Rattle.col_index.proofs.stacked.row_of.Goals as goal
-
-pub returns : goal.returns
-returns c = next-is c.args.rows.now c.args.rank c.next.result _ c.next.ensures.value

@@ -1,5 +1,0 @@
-use Rattle.std.proofs.Common.{refl, lit<}
-use Rattle.col_index.proofs.tests_written.two_documents.Goals as goal
-
-pub returns : goal.returns
-returns c = record { offsets = record { rows = refl; starts = refl }; fits = lit< tt; few = lit< tt }

@@ -1,5 +1,0 @@
-use Rattle.col_index.proofs.SpellingLemmas.{row_set-back, row_offsets-back, index-back}
-use Rattle.col_index.proofs.writing_laws.indexes_are_read_back.Goals as goal
-
-pub returns : goal.returns
-returns c = record { rows = row_set-back; offsets = row_offsets-back; index = index-back }

@@ -1,0 +1,10 @@
+pub mod Spelling
+pub mod Counted
+pub mod Merged
+pub mod Stacks
+pub mod Shuffles
+pub mod RowViews
+pub mod OffsetViews
+pub mod Written
+pub mod Builders
+pub mod WritingLaws

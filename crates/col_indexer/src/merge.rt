@@ -1,0 +1,174 @@
+//! Merged indexes.
+ghost use Rattle.std.specs.Prelude.{◌≡◌, map};
+ghost use Rattle.col_model.specs.Merge.{greater_cardinality};
+ghost use Rattle.col_model.specs.Order.{stack, shuffle};
+ghost use Rattle.col_order.specs.RowOrders.{order_of};
+ghost use Rattle.col_index.specs.Versions.{cardinality_of};
+ghost use Rattle.col_index.specs.Indexes.{shape_of};
+ghost use Rattle.col_indexer.specs.Spelling.{IsIndex};
+ghost use Rattle.col_indexer.specs.Merged.{FitOrder, IsMerged};
+ghost use Rattle.col_indexer.specs.Merged.{merged_cardinality, stacked_cardinality_of};
+ghost use Rattle.col_indexer.specs.Counted.{tightest_of};
+ghost use Rattle.col_indexer.specs.Written.{index_of};
+ghost use Rattle.col_model.specs.Positions.{picked_counts};
+
+use crate::serialize::{
+    SerializableColumnIndex, SerializableMultivalueIndex, SerializableOptionalIndex,
+};
+use crate::shuffled::values_at;
+use crate::{
+    RowIds, ShuffledRowIds, ShuffledStartOffsets, StackedRowIds, StackedStartOffsets, StartOffsets,
+};
+use col_index::{Cardinality, ColumnIndex};
+use col_order::{MergeRowOrder, ShuffleMergeOrder, StackMergeOrder};
+
+/// The index of the rows that an order picks from indexes. It holds no list.
+pub fn merge_column_index<'a>(
+    column_indexes: &'a [ColumnIndex],
+    merge_row_order: &'a MergeRowOrder,
+) -> SerializableColumnIndex<'a>
+    requires { FitOrder (order_of merge_row_order.now) (map shape_of column_indexes.now) }
+    ensures counts { let shapes = map shape_of column_indexes.now in
+        IsMerged (order_of merge_row_order.now) shapes (index_of result) }
+    ensures index { IsIndex (index_of result) }
+{
+    match merge_row_order {
+        MergeRowOrder::Stack(order) => {
+            merge_column_index_stacked(column_indexes, stacked_cardinality(column_indexes), order)
+        }
+        MergeRowOrder::Shuffled(order) => merge_column_index_shuffled(
+            column_indexes,
+            shuffled_cardinality(column_indexes, order),
+            order,
+        ),
+    }
+}
+
+/// The index of all rows, segment after segment, of the cardinality that is the greatest of the
+/// segments'.
+pub fn merge_column_index_stacked<'a>(
+    column_indexes: &'a [ColumnIndex],
+    cardinality_after_merge: Cardinality,
+    stack_merge_order: &'a StackMergeOrder,
+) -> SerializableColumnIndex<'a>
+    requires fit { FitOrder (stack stack_merge_order.now) (map shape_of column_indexes.now) }
+    requires cardinality { cardinality_of cardinality_after_merge
+        ≡ merged_cardinality (stack stack_merge_order.now) (map shape_of column_indexes.now) }
+    ensures counts { let shapes = map shape_of column_indexes.now in
+        IsMerged (stack stack_merge_order.now) shapes (index_of result) }
+    ensures index { IsIndex (index_of result) }
+{
+    let num_rows = stack_merge_order.num_rows();
+    match cardinality_after_merge {
+        Cardinality::Full => SerializableColumnIndex::Full,
+        Cardinality::Optional => SerializableColumnIndex::Optional(SerializableOptionalIndex {
+            non_null_row_ids: RowIds::Stacked(StackedRowIds::new(
+                column_indexes,
+                stack_merge_order,
+            )),
+            num_rows,
+        }),
+        Cardinality::Multivalued => {
+            SerializableColumnIndex::Multivalued(SerializableMultivalueIndex {
+                doc_ids_with_values: SerializableOptionalIndex {
+                    non_null_row_ids: RowIds::Stacked(StackedRowIds::new(
+                        column_indexes,
+                        stack_merge_order,
+                    )),
+                    num_rows,
+                },
+                start_offsets: StartOffsets::Stacked(StackedStartOffsets::new(
+                    column_indexes,
+                    stack_merge_order,
+                )),
+            })
+        }
+    }
+}
+
+/// The index of rows that are named one by one, of their tightest cardinality.
+pub fn merge_column_index_shuffled<'a>(
+    column_indexes: &'a [ColumnIndex],
+    cardinality_after_merge: Cardinality,
+    shuffle_merge_order: &'a ShuffleMergeOrder,
+) -> SerializableColumnIndex<'a>
+    requires fit { let s = shuffle_merge_order.now in
+        FitOrder (shuffle s.counts s.addresses) (map shape_of column_indexes.now) }
+    requires cardinality { let s = shuffle_merge_order.now in
+        cardinality_of cardinality_after_merge
+        ≡ merged_cardinality (shuffle s.counts s.addresses) (map shape_of column_indexes.now) }
+    ensures counts { let order = shuffle_merge_order.now in
+        let shapes = map shape_of column_indexes.now in
+        IsMerged (shuffle order.counts order.addresses) shapes (index_of result) }
+    ensures index { IsIndex (index_of result) }
+{
+    shuffle_merge_order.rows_are_there();
+    let num_rows = shuffle_merge_order.num_rows();
+    match cardinality_after_merge {
+        Cardinality::Full => SerializableColumnIndex::Full,
+        Cardinality::Optional => SerializableColumnIndex::Optional(SerializableOptionalIndex {
+            non_null_row_ids: RowIds::Shuffled(ShuffledRowIds::new(
+                column_indexes,
+                shuffle_merge_order,
+            )),
+            num_rows,
+        }),
+        Cardinality::Multivalued => {
+            SerializableColumnIndex::Multivalued(SerializableMultivalueIndex {
+                doc_ids_with_values: SerializableOptionalIndex {
+                    non_null_row_ids: RowIds::Shuffled(ShuffledRowIds::new(
+                        column_indexes,
+                        shuffle_merge_order,
+                    )),
+                    num_rows,
+                },
+                start_offsets: StartOffsets::Shuffled(ShuffledStartOffsets::new(
+                    column_indexes,
+                    shuffle_merge_order,
+                )),
+            })
+        }
+    }
+}
+
+// The greatest cardinality of the segments.
+fn stacked_cardinality(column_indexes: &[ColumnIndex]) -> Cardinality
+    ensures { cardinality_of result ≡ stacked_cardinality_of (map shape_of column_indexes.now) }
+{
+    let mut greatest = Cardinality::Full;
+    for index in column_indexes {
+        greatest = greater(greatest, index.get_cardinality());
+    }
+    greatest
+}
+
+// The one that allows more.
+fn greater(a: Cardinality, b: Cardinality) -> Cardinality
+    ensures { cardinality_of result ≡ greater_cardinality (cardinality_of a) (cardinality_of b) }
+{
+    if a.to_code() < b.to_code() { b } else { a }
+}
+
+// The tightest cardinality of the rows that are named.
+fn shuffled_cardinality(
+    column_indexes: &[ColumnIndex],
+    shuffle_merge_order: &ShuffleMergeOrder,
+) -> Cardinality
+    requires { let s = shuffle_merge_order.now in
+        FitOrder (shuffle s.counts s.addresses) (map shape_of column_indexes.now) }
+    ensures { cardinality_of result ≡ tightest_of
+        (picked_counts (map shape_of column_indexes.now) shuffle_merge_order.now.addresses) }
+{
+    shuffle_merge_order.rows_are_there();
+    let mut tightest = Cardinality::Full;
+    for addr in shuffle_merge_order.iter_new_to_old_row_addrs() {
+        let count = values_at(column_indexes, *addr);
+        if count > 1 {
+            return Cardinality::Multivalued;
+        }
+        if count == 0 {
+            tightest = Cardinality::Optional;
+        }
+    }
+    tightest
+}

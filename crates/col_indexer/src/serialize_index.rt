@@ -1,0 +1,116 @@
+//! Writes indexes of any cardinality.
+ghost use Rattle.std.specs.Prelude.{◌≡◌, ◌-◌, ◌^◌, nat_le, false, length, Some, IfOk};
+ghost use Rattle.col_common.specs.Serializing.{Serializes};
+ghost use Rattle.col_model.specs.Index.{row_offsets, shape};
+ghost use Rattle.col_numbers.specs.Written.{done};
+ghost use Rattle.col_indexer.specs.Spelling.{offsets_by_rows, row_offsets_bytes, body_bytes};
+ghost use Rattle.col_indexer.specs.Spelling as spelled;
+ghost use Rattle.col_indexer.specs.Spelling.{index_bytes, index_shape};
+ghost use Rattle.col_indexer.specs.Spelling.{IsIndex, is_past_limit};
+ghost use Rattle.col_indexer.specs.Written.{row_offsets_of, index_of};
+
+use crate::indexes_are_read_back;
+use crate::serialize::{
+    SerializableColumnIndex, SerializableMultivalueIndex, serialize_list, serialize_row_set,
+};
+use col_common::{ColumnarError, Iterable, RowId, Sink, serialize_bytes};
+use std::alloc::Global;
+
+/// Writes rows with a value, their start offsets, and how many bytes the rows take.
+pub fn serialize_multivalued_index<K: Sink>(
+    alloc: Global,
+    multivalued_index: &SerializableMultivalueIndex<'_>,
+    sink: &mut K,
+) -> Result<(), ColumnarError>
+    requires index { IsIndex (spelled.multivalued_index (row_offsets_of multivalued_index.now)) }
+    requires limit { is_past_limit
+        (spelled.multivalued_index (row_offsets_of multivalued_index.now)) ≡ false }
+    ensures ok { Serializes (K.seen sink.old) (K.seen sink.new) result
+        (row_offsets_bytes (row_offsets_of multivalued_index.now)) }
+    // What was written stands for the rows and offsets.
+    ensures again { row_offsets (row_offsets_bytes (row_offsets_of multivalued_index.now))
+        ≡ Some (row_offsets_of multivalued_index.now) }
+{
+    indexes_are_read_back();
+    let rows = &multivalued_index.doc_ids_with_values;
+    serialize_row_offsets(
+        alloc,
+        &rows.non_null_row_ids,
+        rows.num_rows,
+        &multivalued_index.start_offsets,
+        sink,
+    )?;
+    Ok(())
+}
+
+// Writes rows that rise, of so many rows, and start offsets, and tells how many bytes they take.
+fn serialize_row_offsets<R: Iterable<RowId>, S: Iterable<RowId>, K: Sink>(
+    alloc: Global,
+    rows: &R,
+    num_rows: RowId,
+    starts: &S,
+    sink: &mut K,
+) -> Result<u64, ColumnarError>
+    requires index { IsIndex (spelled.multivalued_index
+        (offsets_by_rows num_rows (R.items rows.now) (S.items starts.now))) }
+    requires limit { nat_le (2 ^ 32 - 1) (length (R.items rows.now)) ≡ false }
+    ensures ok { Serializes (K.seen sink.old) (K.seen sink.new) (done result)
+        (row_offsets_bytes (offsets_by_rows num_rows (R.items rows.now) (S.items starts.now))) }
+    ensures length { IfOk result (λ n.
+        n ≡ length
+        (row_offsets_bytes (offsets_by_rows num_rows (R.items rows.now) (S.items starts.now)))) }
+{
+    let rows_len = serialize_row_set(alloc, rows, num_rows, sink)?;
+    let starts_len = serialize_list(alloc, starts, sink)?;
+    let end = rows_len.to_le_bytes();
+    serialize_bytes(sink, &end)?;
+    Ok(rows_len + starts_len + end.len() as u64)
+}
+
+/// Writes an index, and tells how many bytes it takes.
+pub fn serialize_column_index<K: Sink>(
+    alloc: Global,
+    column_index: SerializableColumnIndex<'_>,
+    sink: &mut K,
+) -> Result<u64, ColumnarError>
+    requires index { IsIndex (index_of column_index) }
+    requires limit { is_past_limit (index_of column_index) ≡ false }
+    ensures ok { Serializes (K.seen sink.old) (K.seen sink.new) (done result)
+        (index_bytes (index_of column_index.entry)) }
+    ensures length { IfOk result (λ n. n ≡ length (index_bytes (index_of column_index.entry))) }
+    // What was written stands for the index.
+    ensures again { shape (index_bytes (index_of column_index.entry)) 2
+        ≡ Some (index_shape (index_of column_index.entry)) }
+{
+    indexes_are_read_back();
+    serialize_bytes(sink, &[column_index.get_cardinality().to_code()])?;
+    let len = serialize_body(alloc, &column_index, sink)?;
+    Ok(1 + len)
+}
+
+// Writes what stands behind the cardinality's code, and tells how many bytes it adds.
+fn serialize_body<K: Sink>(
+    alloc: Global,
+    column_index: &SerializableColumnIndex<'_>,
+    sink: &mut K,
+) -> Result<u64, ColumnarError>
+    requires index { IsIndex (index_of column_index.now) }
+    requires limit { is_past_limit (index_of column_index.now) ≡ false }
+    ensures ok { Serializes (K.seen sink.old) (K.seen sink.new) (done result)
+        (body_bytes (index_of column_index.now)) }
+    ensures length { IfOk result (λ n. n ≡ length (body_bytes (index_of column_index.now))) }
+{
+    match column_index {
+        SerializableColumnIndex::Full => Ok(0),
+        SerializableColumnIndex::Optional(rows) => {
+            serialize_row_set(alloc, &rows.non_null_row_ids, rows.num_rows, sink)
+        }
+        SerializableColumnIndex::Multivalued(index) => serialize_row_offsets(
+            alloc,
+            &index.doc_ids_with_values.non_null_row_ids,
+            index.doc_ids_with_values.num_rows,
+            &index.start_offsets,
+            sink,
+        ),
+    }
+}

@@ -1,0 +1,3 @@
+//! Indexes on their way, by examples.
+mod merged;
+mod written;
