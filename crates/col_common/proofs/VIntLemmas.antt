@@ -5,7 +5,7 @@ use native.Mathlib.Nat.{mod-add-div}
 use Rattle.std.proofs.lemmas.Bool.{lt-ltb, le-ltb, le-leb, ltb-true, leb-true, cases_lt}
 use Rattle.std.proofs.lemmas.Nat.{div_below}
 use Rattle.col_common.specs.Reading.{IsBytes, only_if}
-use Rattle.col_common.specs.VInt.{groups, group_bytes, vint, vint_bytes}
+use Rattle.col_common.specs.VInt.{groups, group_bytes, vint, vint_u128, vint_bytes}
 
 -- a byte from 128 on is the last
 pub groups-last : (b : ℕ) (bytes : List ℕ) → 128 ≤ b → groups (b ∷ bytes) ≡ Some (b - 128, bytes)
@@ -46,6 +46,10 @@ groups-group_bytes (suc k) n rest h =
 -- a number below 2 ^ 64 is read back from its form, whatever follows
 pub vint-vint_bytes : (n : ℕ) (rest : List ℕ) → n < 2 ^ 64 → vint (vint_bytes n ++ rest) ≡ Some (n, rest)
 vint-vint_bytes n rest h = rw (groups-group_bytes 18 n rest (omega arith), lt-ltb n (2 ^ 64) h)
+
+-- the same below 2 ^ 128
+pub vint_u128-vint_bytes : (n : ℕ) (rest : List ℕ) → n < 2 ^ 128 → vint_u128 (vint_bytes n ++ rest) ≡ Some (n, rest)
+vint_u128-vint_bytes n rest h = rw (groups-group_bytes 18 n rest (omega arith), lt-ltb n (2 ^ 128) h)
 
 -- what is read of a byte below 128
 pub more-parts : (c : ℕ) (bytes : List ℕ) (n : ℕ) (rest : List ℕ) → c < 128 → groups (c ∷ bytes) ≡ Some (n, rest) → (high : ℕ) × (0 < high) × (groups bytes ≡ Some (high, rest)) × (n ≡ c + 128 * high)

@@ -3,7 +3,7 @@ use Rattle.std.proofs.Common.{◌≡◌, ℕ, zero, suc, ◌+◌, ◌-◌, ◌*�
 use Rattle.std.proofs.lemmas.Option.{none-some}
 use Rattle.std.proofs.lemmas.Bool.{lt-ltb, le-ltb, cases_lt}
 use Rattle.std.proofs.lemmas.List.{take_rest}
-use Rattle.col_common.specs.VInt.{groups, vint, GoesOn}
+use Rattle.col_common.specs.VInt.{groups, vint_u128, GoesOn}
 use Rattle.col_common.proofs.VIntLemmas.{groups-last, groups-more, more-parts}
 
 -- from place i on the bytes have the number v, which isn't 0: then from the front on they have one that is no less
@@ -44,14 +44,14 @@ unfolding groups
 groups-endless [] on = refl
 groups-endless (b ∷ bytes) on = rw (lt-ltb b 128 (on 0 (omega arith)), groups-endless bytes (λ k q. on (suc k) (omega arith)))
 
-vint-some : (bytes : List ℕ) (n : ℕ) (rest : List ℕ) → n < 2 ^ 64 → groups bytes ≡ Some (n, rest) → vint bytes ≡ Some (n, rest)
-vint-some bytes n rest h e = rw (e, lt-ltb n (2 ^ 64) h)
+vint_u128-some : (bytes : List ℕ) (n : ℕ) (rest : List ℕ) → n < 2 ^ 128 → groups bytes ≡ Some (n, rest) → vint_u128 bytes ≡ Some (n, rest)
+vint_u128-some bytes n rest h e = rw (e, lt-ltb n (2 ^ 128) h)
 
-vint-too_large : (bytes : List ℕ) (n : ℕ) (rest : List ℕ) → 2 ^ 64 ≤ n → groups bytes ≡ Some (n, rest) → vint bytes ≡ None
-vint-too_large bytes n rest h e = rw (e, le-ltb n (2 ^ 64) h)
+vint_u128-too_large : (bytes : List ℕ) (n : ℕ) (rest : List ℕ) → 2 ^ 128 ≤ n → groups bytes ≡ Some (n, rest) → vint_u128 bytes ≡ None
+vint_u128-too_large bytes n rest h e = rw (e, le-ltb n (2 ^ 128) h)
 
-vint-none : (bytes : List ℕ) → groups bytes ≡ None → vint bytes ≡ None
-vint-none bytes e = rw e
+vint_u128-none : (bytes : List ℕ) → groups bytes ≡ None → vint_u128 bytes ≡ None
+vint_u128-none bytes e = rw e
 
 -- a number whose first byte goes on isn't 0
 groups-positive : (bytes : List ℕ) (n : ℕ) (rest : List ℕ) → GoesOn bytes 1 → groups bytes ≡ Some (n, rest) → 0 < n
@@ -59,24 +59,24 @@ unfolding groups
 groups-positive [] n rest on e = absurd (none-some (n, rest) e)
 groups-positive (b ∷ bytes) n rest on e = let x = more-parts b bytes n rest (on 0 (omega arith)) e in omega (arith, x.1, x.3)
 
-long-case : (bytes : List ℕ) (o : Option (ℕ × List ℕ)) → GoesOn bytes 10 → groups bytes ≡ o → vint bytes ≡ None
-long-case bytes None on e = vint-none bytes e
+long-case : (bytes : List ℕ) (o : Option (ℕ × List ℕ)) → GoesOn bytes 19 → groups bytes ≡ o → vint_u128 bytes ≡ None
+long-case bytes None on e = vint_u128-none bytes e
 long-case bytes (Some x) on e =
     let positive = groups-positive bytes x.0 x.1 (λ k q. on k (omega arith)) e in
-    vint-too_large bytes x.0 x.1 (omega (arith, groups-long bytes 10 x.0 x.1 on positive e)) e
+    vint_u128-too_large bytes x.0 x.1 (omega (arith, groups-long bytes 19 x.0 x.1 on positive e)) e
 
--- ten bytes that go on are too many
-pub vint-long : (bytes : List ℕ) → GoesOn bytes (min 10 (length bytes)) → vint bytes ≡ None
-vint-long bytes on =
-    elim (cases_lt (length bytes) 10) [
-      | inl p ↦ vint-none bytes (groups-endless bytes (λ k q. on k (omega arith)))
+-- nineteen bytes that go on are too many
+pub vint_u128-long : (bytes : List ℕ) → GoesOn bytes (min 19 (length bytes)) → vint_u128 bytes ≡ None
+vint_u128-long bytes on =
+    elim (cases_lt (length bytes) 19) [
+      | inl p ↦ vint_u128-none bytes (groups-endless bytes (λ k q. on k (omega arith)))
       | inr p ↦ long-case bytes (groups bytes) (λ k q. on k (omega arith)) refl
     ]
 
 -- groups that stand for 0 behind others are no form
-pub vint-zero_behind : (bytes : List ℕ) (i : ℕ) → 0 < i → i < length bytes → GoesOn bytes i → slice_index bytes i ≡ 128 → vint bytes ≡ None
-vint-zero_behind bytes zero p h on e = absurd (omega arith)
-vint-zero_behind bytes (suc i) p h on e = vint-none bytes (groups-zero bytes i (drop (suc i + 1) bytes) (omega arith) on (groups-at_last bytes (suc i) h (omega arith) ∙ ap (λ n. Some (n, drop (suc i + 1) bytes)) (omega arith)))
+pub vint_u128-zero_behind : (bytes : List ℕ) (i : ℕ) → 0 < i → i < length bytes → GoesOn bytes i → slice_index bytes i ≡ 128 → vint_u128 bytes ≡ None
+vint_u128-zero_behind bytes zero p h on e = absurd (omega arith)
+vint_u128-zero_behind bytes (suc i) p h on e = vint_u128-none bytes (groups-zero bytes i (drop (suc i + 1) bytes) (omega arith) on (groups-at_last bytes (suc i) h (omega arith) ∙ ap (λ n. Some (n, drop (suc i + 1) bytes)) (omega arith)))
 
 -- from the index on the bytes up to the last group have the value, which isn't 0 unless it has one byte
 pub record IsRead (bytes : List ℕ) (last index value : ℕ) : Type 0 where
@@ -101,13 +101,13 @@ read-more bytes last i j value more e h on sum so =
       so_far = groups-at_more bytes i value (drop (last + 1) bytes) (omega (arith, so.within)) (on i (omega (arith, so.within))) positive behind ∙ ap (λ n. Some (n, drop (last + 1) bytes)) (omega arith);
     }
 
--- a number past 2 ^ 64 at a place is one at the front
-pub read-past : (bytes : List ℕ) (last i j value : ℕ) → i + 1 ≡ j → last < length bytes → GoesOn bytes last → 2 ^ 64 ≤ value * 128 + slice_index bytes i → IsRead bytes last j value → vint bytes ≡ None
+-- a number past 2 ^ 128 at a place is one at the front
+pub read-past : (bytes : List ℕ) (last i j value : ℕ) → i + 1 ≡ j → last < length bytes → GoesOn bytes last → 2 ^ 128 ≤ value * 128 + slice_index bytes i → IsRead bytes last j value → vint_u128 bytes ≡ None
 read-past bytes last i j value e h on p so =
     let more = read-more bytes last i j value _ e h on refl so in
     let front = groups-front bytes i _ _ (omega (arith, more.within)) (λ k q. on k (omega (arith, more.within))) (omega arith) more.so_far in
-    vint-too_large bytes front.0 _ (omega (arith, front.1)) front.2
+    vint_u128-too_large bytes front.0 _ (omega (arith, front.1)) front.2
 
 -- the number at the front
-pub read-whole : (bytes : List ℕ) (last i value : ℕ) → i ≡ 0 → value < 2 ^ 64 → IsRead bytes last i value → vint bytes ≡ Some (value, take (length bytes - (last + 1)) (drop (last + 1) bytes))
-read-whole bytes last i value e h so = rw (take_rest bytes (last + 1)) (vint-some bytes value (drop (last + 1) bytes) h (rw e at so.so_far))
+pub read-whole : (bytes : List ℕ) (last i value : ℕ) → i ≡ 0 → value < 2 ^ 128 → IsRead bytes last i value → vint_u128 bytes ≡ Some (value, take (length bytes - (last + 1)) (drop (last + 1) bytes))
+read-whole bytes last i value e h so = rw (take_rest bytes (last + 1)) (vint_u128-some bytes value (drop (last + 1) bytes) h (rw e at so.so_far))

@@ -17,13 +17,13 @@ only-group m k n e p = rw (← e, add-one) (group_bytes-short k n p)
 
 -- the groups that len bytes hold in front, with those of the rest
 pub record IsSpelled (len rest : ℕ) (bytes all : List ℕ) : Type 0 where
-  pub within : len < 10
-  pub few : rest < 128 ^ (10 - len)
+  pub within : len < 19
+  pub few : rest < 128 ^ (19 - len)
   pub so_far : take len bytes ++ group_bytes (19 - len) rest ≡ all
 
-pub spelled-more : (len rest : ℕ) (bytes all : List ℕ) → length bytes ≡ 10 → 128 ≤ rest → IsSpelled len rest bytes all → IsSpelled (len + 1) (rest / 128) (set bytes len (rest % 128)) all
+pub spelled-more : (len rest : ℕ) (bytes all : List ℕ) → length bytes ≡ 19 → 128 ≤ rest → IsSpelled len rest bytes all → IsSpelled (len + 1) (rest / 128) (set bytes len (rest % 128)) all
 spelled-more len rest bytes all long p so =
-    let fewer = fewer-groups (10 - len) (10 - (len + 1)) rest (omega (arith, so.within)) so.few p in
+    let fewer = fewer-groups (19 - len) (19 - (len + 1)) rest (omega (arith, so.within)) so.few p in
     let inside : len < length bytes = omega (arith, so.within) in
     record {
       within = omega (arith, fewer.0);
@@ -31,7 +31,7 @@ spelled-more len rest bytes all long p so =
       so_far = rw (take_more_set bytes len (rest % 128) inside, append_assoc) (rw (first-group (19 - len) (19 - (len + 1)) rest (omega (arith, so.within)) p) at so.so_far);
     }
 
-pub spelled-last : (len rest : ℕ) (bytes all : List ℕ) → length bytes ≡ 10 → rest < 128 → IsSpelled len rest bytes all → take (len + 1) (set bytes len (rest + 128)) ≡ all
+pub spelled-last : (len rest : ℕ) (bytes all : List ℕ) → length bytes ≡ 19 → rest < 128 → IsSpelled len rest bytes all → take (len + 1) (set bytes len (rest + 128)) ≡ all
 spelled-last len rest bytes all long p so =
     let inside : len < length bytes = omega (arith, so.within) in
     rw (take_more_set bytes len (rest + 128) inside) (rw (only-group (19 - len) (18 - len) rest (omega (arith, so.within)) p) at so.so_far)

@@ -1,13 +1,13 @@
 use Rattle.std.proofs.Common.{◌-◌, arith, sym}
-use Rattle.col_common.proofs.VIntReadingLemmas.{vint-long, vint-zero_behind, read-last, read-more, read-past, read-whole}
-use Rattle.col_common.proofs.vint.read_vint.Goals as goal
+use Rattle.col_common.proofs.VIntReadingLemmas.{vint_u128-long, vint_u128-zero_behind, read-last, read-more, read-past, read-whole}
+use Rattle.col_common.proofs.vint.read_vint_u128.Goals as goal
 
 pub returns-in_err-end : goal.returns-in_err-end
-returns-in_err-end c = rw c.from_residual.ensures (sym (vint-long c.args.bytes.now c.in_err-end.ensures.none))
+returns-in_err-end c = rw c.from_residual.ensures (sym (vint_u128-long c.args.bytes.now c.in_err-end.ensures.none))
 
 pub returns-then-value-eq0 : goal.returns-then-value-eq0
 returns-then-value-eq0 c = let known = c.in_ok-end.ensures in
-    sym (vint-zero_behind c.args.bytes.now c.in_ok-end.end c.if-end-gt0.true known.found known.before (omega (arith, known.last)))
+    sym (vint_u128-zero_behind c.args.bytes.now c.in_ok-end.end c.if-end-gt0.true known.found known.before (omega (arith, known.last)))
 
 pub loop-index-init : goal.loop-index-init
 loop-index-init c = let known = c.in_ok-end.ensures in
