@@ -1,0 +1,9 @@
+pub mod SpaceLemmas
+pub mod BuildLemmas
+pub mod SortedLemmas
+pub mod TrainedLemmas
+pub mod HitLemmas
+pub mod PlaceLemmas
+pub mod OrderLemmas
+pub mod RowLemmas
+pub mod WidthBound
