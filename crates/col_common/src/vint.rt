@@ -61,7 +61,7 @@ pub struct VIntU128(pub u128);
 impl VIntU128 {
     /// Adds the number's bytes.
     pub fn serialize<K: Sink>(&self, sink: &mut K) -> Result<(), ColumnarError>
-        ensures ok { Serializes (K.written sink.old) (K.written sink.new) (K.faults sink.old) (K.faults sink.new)
+        ensures ok { Serializes (K.seen sink.old) (K.seen sink.new)
             result (vint_bytes self.now.0) }
         // What was added reads back, whatever follows.
         ensures again { (rest : List ℕ) → vint_u128 (vint_bytes self.now.0 ++ rest) ≡ Some (self.now.0, rest) }
