@@ -7,3 +7,4 @@ pub mod PlaceLemmas
 pub mod OrderLemmas
 pub mod RowLemmas
 pub mod WidthBound
+pub mod ReadingLemmas
