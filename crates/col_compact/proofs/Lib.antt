@@ -8,3 +8,4 @@ pub mod OrderLemmas
 pub mod RowLemmas
 pub mod WidthBound
 pub mod ReadingLemmas
+pub mod ParamsLemmas
