@@ -1,12 +1,11 @@
--- What a refusal says of readings that go on.
-use Rattle.std.proofs.Common.{◌≡◌, Option, Some, None, ap}
-use Rattle.col_common.specs.Reading.{◌>>=◌}
+-- What a refusal says of another reading.
+use Rattle.std.proofs.Common.{◌≡◌, Option, None}
 use Rattle.col_common.specs.Decoding.{Refuses}
 use Rattle.col_common.specs.declared.error.ColumnarError.{ColumnarError}
 use Rattle.col_common.specs.declared.error.ColumnarError.TheVariants.{OutOfMemory, InvalidData}
 
--- a refusal of the first reading is one of both
-pub refuses-then : {A B : Type 0} (e : ColumnarError) (o : Option A) (f : A → Option B) → Refuses e o → Refuses e (o >>= f)
-refuses-then OutOfMemory o f h = tt
-refuses-then InvalidData o f h = ap (λ x. x >>= f) h
-refuses-then _ o f h = h
+-- a refusal of one reading is that of another which gives nothing where the first does
+pub refuses-as : {A B : Type 0} (e : ColumnarError) (x : Option A) (y : Option B) → (x ≡ None → y ≡ None) → Refuses e x → Refuses e y
+refuses-as OutOfMemory x y none h = tt
+refuses-as InvalidData x y none h = none h
+refuses-as _ x y none h = h

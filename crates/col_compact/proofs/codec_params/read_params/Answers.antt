@@ -1,10 +1,10 @@
 use Rattle.std.proofs.Common.{ℕ, List, Option, Some, None, ap, subst, sym, ◌∙◌}
 use Rattle.col_common.specs.Reading.{◌>>=◌}
 use Rattle.col_common.specs.Decoding.{Refuses}
-use Rattle.col_model.specs.AddressList.{AddressFooter, ranges_at}
+use Rattle.col_model.specs.AddressList.{ranges_at, address_footer_at}
 use Rattle.col_compact.specs.Heads.{head_seen}
 use Rattle.col_compact.proofs.ParamsLemmas.{footer-none, footer-head, footer-other, footer-some, count-fits, with_ranges}
-use Rattle.col_common.proofs.DecodingLemmas.{refuses-then}
+use Rattle.col_common.proofs.DecodingLemmas.{refuses-as}
 use Rattle.col_compact.proofs.codec_params.read_params.Goals as goal
 
 pub returns-in_default : goal.returns-in_default
@@ -24,5 +24,5 @@ returns-else-not-is_head_of c =
 
 pub returns-in-Err : goal.returns-in-Err
 returns-in-Err c =
-    subst (λ (o : Option (AddressFooter × List ℕ)). Refuses c.in-Err.refusal o) (sym (footer-head c.args.bytes.now c.in-Some.rest.now (head_seen c.in-Some.head) (sym c.in-Some.ensures.head)))
-    (refuses-then c.in-Err.refusal (ranges_at c.in-Some.rest.now) (with_ranges (head_seen c.in-Some.head)) c.in-Err.ensures)
+    refuses-as c.in-Err.refusal (ranges_at c.in-Some.rest.now) (address_footer_at c.args.bytes.now)
+    (λ e. footer-head c.args.bytes.now c.in-Some.rest.now (head_seen c.in-Some.head) (sym c.in-Some.ensures.head) ∙ ap (λ o. o >>= with_ranges (head_seen c.in-Some.head)) e) c.in-Err.ensures
