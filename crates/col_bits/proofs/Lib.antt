@@ -6,3 +6,4 @@ pub mod WriteLemmas
 pub mod PackingLemmas
 pub mod ExtremeLemmas
 pub mod ItemLemmas
+pub mod SpareLemmas

@@ -4,9 +4,11 @@
 
 mod bitpacker;
 mod extremes;
+mod spare;
 
 pub use bitpacker::{BitPacker, BitUnpacker, compute_num_bits};
 pub use extremes::minmax;
+pub use spare::is_packed;
 
 #[cfg(test)]
 mod tests;
