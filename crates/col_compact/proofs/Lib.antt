@@ -9,3 +9,10 @@ pub mod RowLemmas
 pub mod WidthBound
 pub mod ReadingLemmas
 pub mod ParamsLemmas
+pub mod SpelledLemmas
+pub mod ListLemmas
+pub mod WalkLemmas
+pub mod SpellingLemmas
+pub mod CollectLemmas
+pub mod PackLemmas
+pub mod WritingLemmas
