@@ -15,9 +15,9 @@ use Rattle.col_compact.specs.declared.compact_space.RangeMapping.{RangeMapping}
 use Rattle.col_compact.specs.Mapped.{IsSpace, ranges_of}
 use Rattle.col_compact.specs.Ranges.{code_of}
 use Rattle.col_compact.specs.Covers.{Trained, Represents, cover, is_in_ranges}
-use Rattle.col_compact.specs.Written.{footer_bytes, footer_of, codes_bytes, coded_bytes, list_bytes}
+use Rattle.col_compact.specs.Written.{footer_bytes, trained_footer, codes_bytes, coded_bytes, list_bytes}
 use Rattle.col_compact.proofs.SpaceLemmas.{space_has_code}
-use Rattle.col_compact.proofs.SpelledLemmas.{footer-again}
+use Rattle.col_compact.proofs.SpelledLemmas.{represented-bounds, footer-again}
 
 -- a number that a range has: its code, and back
 record IsCoded (rs : List (ℕ × ℕ)) (x : ℕ) : Type 0 where
@@ -65,17 +65,17 @@ module _ (ms : List RangeMapping) (space : IsSpace ms) where
         let long : n ≡ length (map (code_of (ranges_of ms)) xs) = is.counts ∙ sym (length-map xs (code_of (ranges_of ms))) in
         rw long (packed-packed_bytes (width (code_count (ranges_of ms))) (map (code_of (ranges_of ms)) xs) (codes-narrow xs is.covers))
 
-    footer-whole : address_footer (footer_bytes (footer_of (record { ranges = ranges_of ms; count = n }))) ≡ Some (footer_of (record { ranges = ranges_of ms; count = n }))
+    footer-whole : address_footer (footer_bytes (trained_footer (record { ranges = ranges_of ms; count = n }))) ≡ Some (trained_footer (record { ranges = ranges_of ms; count = n }))
     footer-whole =
-        let f : List ℕ = footer_bytes (footer_of (record { ranges = ranges_of ms; count = n })) in
-        rw (← append-nil f) (rw (footer-again ms space n xs is []) refl)
+        let f : List ℕ = footer_bytes (trained_footer (record { ranges = ranges_of ms; count = n })) in
+        rw (← append-nil f) (rw (footer-again ms space n (let c = is.counts in let few = is.few in omega (arith, c, few)) (represented-bounds (ranges_of ms) n xs is) []) refl)
 
     -- the packed codes with their footer stand for the numbers
-    pub coded-again : length (footer_bytes (footer_of (record { ranges = ranges_of ms; count = n }))) < 2 ^ 64 → coded_values (coded_bytes (record { ranges = ranges_of ms; count = n }) xs) ≡ Some xs
+    pub coded-again : length (footer_bytes (trained_footer (record { ranges = ranges_of ms; count = n }))) < 2 ^ 64 → coded_values (coded_bytes (record { ranges = ranges_of ms; count = n }) xs) ≡ Some xs
     unfolding coded_values
     coded-again fits =
         let rs : List (ℕ × ℕ) = ranges_of ms in
-        let parts = parts_by_second-w64 (codes_bytes (record { ranges = ranges_of ms; count = n }) xs) (footer_bytes (footer_of (record { ranges = ranges_of ms; count = n }))) fits in
+        let parts = parts_by_second-w64 (codes_bytes (record { ranges = ranges_of ms; count = n }) xs) (footer_bytes (trained_footer (record { ranges = ranges_of ms; count = n }))) fits in
         rw parts (rw footer-whole (rw codes-again (rw (codes-inside xs is.covers, numbers-again xs is.covers, is.starts, is.ends, eq-eqb (least_of xs) (least_of xs) refl, eq-eqb (greatest_of xs) (greatest_of xs) refl) refl)))
 
 -- so they do behind the count and the codec's byte

@@ -8,13 +8,14 @@ use Rattle.col_common.specs.Reading.{front, items}
 use Rattle.col_common.proofs.VIntLemmas.{vint-vint_bytes, vint_u128-vint_bytes}
 use Rattle.col_bits.specs.Packed.{width}
 use Rattle.col_model.specs.Stats.{least_of, greatest_of}
-use Rattle.col_model.specs.AddressList.{range_size, code_count, ranges_from, are_apart, pair_at, first_start, last_end, ranges_at, are_zeros, are_bounds, address_footer_at}
+use Rattle.col_model.specs.AddressList.{AddressFooter, range_size, code_count, ranges_from, are_apart, pair_at, first_start, last_end, ranges_at, are_zeros, are_bounds, address_footer_at}
 use Rattle.std.proofs.lemmas.List.{length-map}
 use Rattle.col_model.proofs.ReadingLaws.{front-append, items-flat_map}
 use Rattle.col_compact.specs.declared.compact_space.RangeMapping.{RangeMapping}
 use Rattle.col_compact.specs.Mapped.{AreMapped, IsSpace, range_of, ranges_of}
 use Rattle.col_compact.specs.Covers.{Represents}
-use Rattle.col_compact.specs.Written.{pairs_of, pair_bytes, ranges_bytes, flags_bytes, footer_bytes, footer_of}
+use Rattle.col_compact.specs.Written.{pairs_of, pair_bytes, ranges_bytes, flags_bytes, footer_bytes}
+use Rattle.col_compact.specs.Params.{footer_of}
 use Rattle.col_compact.proofs.SpaceLemmas.{ends}
 
 -- a pair of numbers below 2 ^ 128
@@ -134,20 +135,32 @@ bounds-hold [] few = refl
 bounds-hold (x ∷ []) few = let same : max 0 x ≡ x = omega arith in rw (same, eq-eqb x x refl) refl
 bounds-hold (x ∷ y ∷ ys) few = rw (lt-ltb (length (x ∷ y ∷ ys)) (2 ^ 32) few, le-leb 2 (length (x ∷ y ∷ ys)) (omega arith), le-leb 1 (length (x ∷ y ∷ ys)) (omega arith)) refl
 
-module _ (ms : List RangeMapping) (space : IsSpace ms) (n : ℕ) (xs : List ℕ) (is : Represents xs (record { ranges = ranges_of ms; count = n })) where
-  -- the footer of ranges that were trained is read back, whatever follows
-  pub footer-again : (rest : List ℕ) → address_footer_at (footer_bytes (footer_of (record { ranges = ranges_of ms; count = n })) ++ rest) ≡ Some (footer_of (record { ranges = ranges_of ms; count = n }), rest)
-  unfolding address_footer_at
-  footer-again rest =
-      let rs : List (ℕ × ℕ) = ranges_of ms in
-      let low : ℕ = first_start (ranges_of ms) in
-      let high : ℕ = last_end (ranges_of ms) in
-      let w : ℕ = width (code_count (ranges_of ms)) in
-      let tail : List ℕ = w ∷ ranges_bytes rs in
-      let bounds : are_bounds low high n ≡ true = rw (is.starts, is.ends, is.counts) (bounds-hold xs is.few) in
-      rw (append_assoc flags_bytes (vint_bytes low ++ (vint_bytes high ++ (vint_bytes n ++ tail))) rest, flags-front ((vint_bytes low ++ (vint_bytes high ++ (vint_bytes n ++ tail))) ++ rest))
-      (rw (append_assoc (vint_bytes low) (vint_bytes high ++ (vint_bytes n ++ tail)) rest, vint_u128-vint_bytes low ((vint_bytes high ++ (vint_bytes n ++ tail)) ++ rest) (first_below ms space))
-      (rw (append_assoc (vint_bytes high) (vint_bytes n ++ tail) rest, vint_u128-vint_bytes high ((vint_bytes n ++ tail) ++ rest) (last_below ms space))
-      (rw (append_assoc (vint_bytes n) tail rest, vint_u128-vint_bytes n (tail ++ rest) (let c = is.counts in let f = is.few in omega (arith, c, f)))
-      (rw (ranges-again ms space rest)
-      (rw (flags-zeros, bounds, eq-eqb w w refl, eq-eqb low low refl, eq-eqb high high refl) refl)))))
+-- those of a list are those of its ranges
+pub represented-bounds : (rs : List (ℕ × ℕ)) (n : ℕ) (xs : List ℕ) → Represents xs (record { ranges = rs; count = n }) → are_bounds (first_start rs) (last_end rs) n ≡ true
+represented-bounds rs n xs is = rw (is.starts, is.ends, is.counts) (bounds-hold xs is.few)
+
+-- the footer of the ranges of a space is read back, whatever follows
+pub footer-again : (ms : List RangeMapping) → IsSpace ms → (n : ℕ) → n < 2 ^ 32 → are_bounds (first_start (ranges_of ms)) (last_end (ranges_of ms)) n ≡ true → (rest : List ℕ)
+    → address_footer_at (footer_bytes (footer_of (ranges_of ms) n (width (code_count (ranges_of ms)))) ++ rest) ≡ Some (footer_of (ranges_of ms) n (width (code_count (ranges_of ms))), rest)
+unfolding address_footer_at
+footer-again ms space n few bounds rest =
+    let rs : List (ℕ × ℕ) = ranges_of ms in
+    let low : ℕ = first_start (ranges_of ms) in
+    let high : ℕ = last_end (ranges_of ms) in
+    let w : ℕ = width (code_count (ranges_of ms)) in
+    let tail : List ℕ = w ∷ ranges_bytes rs in
+    rw (append_assoc flags_bytes (vint_bytes low ++ (vint_bytes high ++ (vint_bytes n ++ tail))) rest, flags-front ((vint_bytes low ++ (vint_bytes high ++ (vint_bytes n ++ tail))) ++ rest))
+    (rw (append_assoc (vint_bytes low) (vint_bytes high ++ (vint_bytes n ++ tail)) rest, vint_u128-vint_bytes low ((vint_bytes high ++ (vint_bytes n ++ tail)) ++ rest) (first_below ms space))
+    (rw (append_assoc (vint_bytes high) (vint_bytes n ++ tail) rest, vint_u128-vint_bytes high ((vint_bytes n ++ tail) ++ rest) (last_below ms space))
+    (rw (append_assoc (vint_bytes n) tail rest, vint_u128-vint_bytes n (tail ++ rest) (omega (arith, few)))
+    (rw (ranges-again ms space rest)
+    (rw (flags-zeros, bounds, eq-eqb w w refl, eq-eqb low low refl, eq-eqb high high refl) refl)))))
+
+-- the same of a footer that is theirs
+pub footer-again-of : (ms : List RangeMapping) (rs : List (ℕ × ℕ)) (n w : ℕ) (f : AddressFooter) → IsSpace ms → ranges_of ms ≡ rs → w ≡ width (code_count rs) → footer_of rs n w ≡ f → n < 2 ^ 32 → are_bounds (first_start rs) (last_end rs) n ≡ true → (rest : List ℕ)
+    → address_footer_at (footer_bytes f ++ rest) ≡ Some (f, rest)
+footer-again-of ms rs n w f space e v g few bounds rest =
+    let held : AddressFooter = footer_of (ranges_of ms) n (width (code_count (ranges_of ms))) in
+    let same : held ≡ f = ap (λ xs. footer_of xs n (width (code_count xs))) e ∙ ap (footer_of rs n) (sym v) ∙ g in
+    subst (λ h. address_footer_at (footer_bytes h ++ rest) ≡ Some (h, rest)) same
+    (footer-again ms space n few (subst (λ xs. are_bounds (first_start xs) (last_end xs) n ≡ true) (sym e) bounds) rest)

@@ -8,7 +8,7 @@ use Rattle.col_common.specs.declared.error.ColumnarError.{ColumnarError}
 use Rattle.col_common.proofs.SerializingLemmas.{serializes-then, serializes-refused}
 use Rattle.col_model.specs.AddressList.{coded_values}
 use Rattle.col_compact.specs.Covers.{Trained, Represents}
-use Rattle.col_compact.specs.Written.{footer_bytes, footer_of, codes_bytes, coded_bytes, list_bytes, SerializesList}
+use Rattle.col_compact.specs.Written.{footer_bytes, trained_footer, codes_bytes, coded_bytes, list_bytes, SerializesList}
 use Rattle.col_compact.proofs.ListLemmas.{list-again}
 
 -- what holds at any rate holds after Ok
@@ -17,18 +17,18 @@ on_ok-always (Ok value) p = p
 on_ok-always (Err e) p = tt
 
 -- the parts of what is written of codes
-pub coded_bytes-parts : (t u : Trained) (xs codes footer : List ℕ) → u ≡ t → codes ≡ codes_bytes u xs → footer ≡ footer_bytes (footer_of t) → codes ++ (footer ++ to_le_bytes w64 (length footer)) ≡ coded_bytes t xs
+pub coded_bytes-parts : (t u : Trained) (xs codes footer : List ℕ) → u ≡ t → codes ≡ codes_bytes u xs → footer ≡ footer_bytes (trained_footer t) → codes ++ (footer ++ to_le_bytes w64 (length footer)) ≡ coded_bytes t xs
 coded_bytes-parts t u xs codes footer e f g =
     ap (λ c. c ++ (footer ++ to_le_bytes w64 (length footer))) (f ∙ ap (λ v. codes_bytes v xs) e)
     ∙ ap (λ (b : List ℕ). codes_bytes t xs ++ (b ++ to_le_bytes w64 (length b))) g
-    ∙ sym (append_assoc (codes_bytes t xs) (footer_bytes (footer_of t)) (to_le_bytes w64 (length (footer_bytes (footer_of t)))))
+    ∙ sym (append_assoc (codes_bytes t xs) (footer_bytes (trained_footer t)) (to_le_bytes w64 (length (footer_bytes (trained_footer t)))))
 
 -- it stands for the list, by what the space tells
 pub coded_bytes-again : (t u : Trained) (xs footer : List ℕ) → u ≡ t
-    → ((ys : List ℕ) → Represents ys u → length (footer_bytes (footer_of u)) < 2 ^ 64 → coded_values (coded_bytes u ys) ≡ Some ys)
-    → Represents xs t → footer ≡ footer_bytes (footer_of t) → length footer < 2 ^ 64 → coded_values (coded_bytes t xs) ≡ Some xs
+    → ((ys : List ℕ) → Represents ys u → length (footer_bytes (trained_footer u)) < 2 ^ 64 → coded_values (coded_bytes u ys) ≡ Some ys)
+    → Represents xs t → footer ≡ footer_bytes (trained_footer t) → length footer < 2 ^ 64 → coded_values (coded_bytes t xs) ≡ Some xs
 coded_bytes-again t u xs footer e told is f fits =
-    subst (λ (v : Trained). (ys : List ℕ) → Represents ys v → length (footer_bytes (footer_of v)) < 2 ^ 64 → coded_values (coded_bytes v ys) ≡ Some ys) e told xs is
+    subst (λ (v : Trained). (ys : List ℕ) → Represents ys v → length (footer_bytes (trained_footer v)) < 2 ^ 64 → coded_values (coded_bytes v ys) ≡ Some ys) e told xs is
     (subst (λ (b : List ℕ). length b < 2 ^ 64) f fits)
 
 -- a refusal of a list, whatever was to be added

@@ -7,9 +7,10 @@ use Rattle.col_common.specs.Serializing.{Serializes}
 use Rattle.col_common.specs.VInt.{vint_bytes}
 use Rattle.col_common.specs.declared.error.ColumnarError.{ColumnarError}
 use Rattle.col_bits.specs.Packed.{packed_bytes, width}
-use Rattle.col_model.specs.AddressList.{AddressFooter, code_count, first_start, last_end, values128}
+use Rattle.col_model.specs.AddressList.{AddressFooter, code_count, values128}
 use Rattle.col_compact.specs.Ranges.{code_of}
 use Rattle.col_compact.specs.Covers.{Trained}
+use Rattle.col_compact.specs.Params.{footer_of}
 
 -- how far each range starts above the end before it, and how far its end above its start
 unfoldable pub pairs_of : ℕ → List (ℕ × ℕ) → List (ℕ × ℕ)
@@ -35,14 +36,8 @@ footer_bytes f =
     ++ (vint_bytes f.count ++ (f.code_width ∷ ranges_bytes f.ranges))))
 
 -- the footer of ranges that were trained on a list
-abbrev pub footer_of : Trained → AddressFooter
-footer_of t = record {
-  least = first_start t.ranges;
-  greatest = last_end t.ranges;
-  count = t.count;
-  code_width = width (code_count t.ranges);
-  ranges = t.ranges;
-}
+abbrev pub trained_footer : Trained → AddressFooter
+trained_footer t = footer_of t.ranges t.count (width (code_count t.ranges))
 
 -- the packed codes of numbers
 abbrev pub codes_bytes : Trained → List ℕ → List ℕ
@@ -51,7 +46,7 @@ codes_bytes t xs = packed_bytes (width (code_count t.ranges)) (map (code_of t.ra
 -- the packed codes, the footer, and its length
 abbrev pub coded_bytes : Trained → List ℕ → List ℕ
 coded_bytes t xs =
-    let footer = footer_bytes (footer_of t) in
+    let footer = footer_bytes (trained_footer t) in
     (codes_bytes t xs ++ footer) ++ to_le_bytes w64 (length footer)
 
 -- the same behind the count and the codec's byte

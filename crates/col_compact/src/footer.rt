@@ -3,10 +3,11 @@ ghost use Rattle.std.specs.Prelude.{◌≡◌, ◌++◌, ◌∷◌, List, ℕ, S
 ghost use Rattle.std.specs.List.{flat_map};
 ghost use Rattle.col_common.specs.Serializing.{Serializes};
 ghost use Rattle.col_common.specs.VInt.{vint_bytes};
-ghost use Rattle.col_model.specs.AddressList.{ranges_at};
+ghost use Rattle.col_model.specs.AddressList.{ranges_at, address_footer_at};
 ghost use Rattle.col_compact.specs.Mapped.{IsSpace, ranges_of};
 ghost use Rattle.col_compact.specs.Written.{pairs_of, pair_bytes, ranges_bytes, footer_bytes};
 
+use crate::codec_params::IPCodecParams;
 use crate::compact_space::{CompactSpace, RangeMapping};
 use col_common::{ColumnarError, Sink, VInt, VIntU128, serialize_bytes};
 
@@ -48,6 +49,27 @@ fn serialize_pair<K: Sink>(first: u128, second: u128, sink: &mut K) -> Result<()
 {
     VIntU128(first).serialize(sink)?;
     VIntU128(second).serialize(sink)
+}
+
+impl IPCodecParams {
+    /// Adds the bytes of the parameters.
+    pub fn serialize<K: Sink>(&self, sink: &mut K) -> Result<(), ColumnarError>
+        ensures ok { Serializes (K.seen sink.old) (K.seen sink.new) result (footer_bytes self.now) }
+        // What was added reads back, whatever follows.
+        ensures again { (rest : List ℕ) →
+            address_footer_at (footer_bytes self.now ++ rest) ≡ Some (self.now, rest) }
+    {
+        let space = &self.compact_space;
+        space.footers_are_read_back(self.num_vals);
+        serialize_footer(
+            space,
+            space.min_value(),
+            space.max_value(),
+            self.num_vals,
+            self.bit_unpacker.bit_width(),
+            sink,
+        )
+    }
 }
 
 /// Adds a footer.
