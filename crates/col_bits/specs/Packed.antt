@@ -24,6 +24,10 @@ packed bytes w n =
 abbrev pub is_packed : List ℕ → ℕ → Bool
 is_packed bytes bits = (length bytes == div_ceil bits 8) && nat_lt (number_of 256 bytes) (2 ^ bits)
 
+-- there are just the bytes that so many bits take, and the spare bits are 0
+abbrev pub is_packed : List ℕ → ℕ → Bool
+is_packed bytes bits = (length bytes == div_ceil bits 8) && nat_lt (number_of 256 bytes) (2 ^ bits)
+
 -- item i of w bits: bits i * w to i * w + w - 1 of the bytes, as one number
 abbrev pub item : List ℕ → ℕ → ℕ → ℕ
 item bytes w i = number_of 256 bytes / 2 ^ (i * w) % 2 ^ w

@@ -8,3 +8,4 @@ pub mod OctetLemmas
 pub mod FlagLemmas
 pub mod MemberLemmas
 pub mod OrderingLemmas
+pub mod DecodingLemmas
