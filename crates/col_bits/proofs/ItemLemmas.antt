@@ -3,11 +3,12 @@ use Rattle.std.proofs.Common.{◌≡◌, ℕ, zero, suc, ◌+◌, ◌<◌, ◌�
 use Rattle.std.specs.List.{range_with_len, filter}
 use Rattle.std.specs.Int.{is_in_range}
 use Rattle.std.proofs.lemmas.List.{take_more_set, take-set}
-use Rattle.std.proofs.lemmas.List.FromFn.{map-range_with_len_more, length-range_with_len, get_or-range_with_len}
+use Rattle.std.proofs.lemmas.List.FromFn.{map-range_with_len_more}
 use Rattle.std.proofs.lemmas.List.Elements.{filter-append}
 use Rattle.std.proofs.lemmas.List.Kept.{IsStrictlyIncreasing-filter}
 use Rattle.std.specs.List.Sorted.{IsStrictlyIncreasing}
 use mir.Val.{bool_byte}
+use Rattle.col_common.proofs.OrderingLemmas.{range_rises}
 use Rattle.col_bits.specs.Packed.{item, items, ids_between}
 
 -- one item more is written
@@ -67,11 +68,6 @@ ids_more bytes w low high a n m id kept v front out b at next test value within 
     ∙ (append_assoc front done (cond b (id ∷ []) [])
     ∙ (ap (λ xs. front ++ (done ++ xs)) (sym (ids_one bytes w low high id b tested))
     ∙ ap (λ xs. front ++ xs) (sym (ids_joined bytes w low high a n 1 id m at next)))))
-
-range_rises : (a n : ℕ) → IsStrictlyIncreasing (range_with_len a n)
-range_rises a n k within =
-    let next : k + 1 < n = omega (arith, length-range_with_len a n) in
-    omega (arith, get_or-range_with_len a n k 0 (omega arith), get_or-range_with_len a n (k + 1) 0 next)
 
 -- ids rise
 pub ids_rise : (bytes : List ℕ) (w low high a n : ℕ) → IsStrictlyIncreasing (ids_between bytes w low high a n)

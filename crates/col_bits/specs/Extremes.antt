@@ -9,7 +9,8 @@ abbrev pub IsAtMost : {T : Type 0} → (T → T → Ordering) → T → T → Ty
 IsAtMost cmp a b = is_le (cmp a b) ≡ true
 
 -- both are items, and each item lies between them
-pub record AreExtremes {T : Type 0} (cmp : T → T → Ordering) (items : List T) (least greatest : T) : Type 0 where
+pub record AreExtremes {T : Type 0} (cmp : T → T → Ordering) (items : List T)
+    (least greatest : T) : Type 0 where
   pub least_in : Contains items least
   pub greatest_in : Contains items greatest
   pub above : All (IsAtMost cmp least) items
@@ -17,4 +18,5 @@ pub record AreExtremes {T : Type 0} (cmp : T → T → Ordering) (items : List T
 
 -- the least and the greatest item, and none of nothing
 abbrev pub IsMinMax : {T : Type 0} → (T → T → Ordering) → List T → Option (T × T) → Type 0
-IsMinMax cmp items result = MatchOption result (items ≡ []) (λ found. AreExtremes cmp items found.0 found.1)
+IsMinMax cmp items result =
+    MatchOption result (items ≡ []) (λ found. AreExtremes cmp items found.0 found.1)

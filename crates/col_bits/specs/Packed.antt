@@ -13,11 +13,12 @@ abbrev pub digits : ℕ → ℕ → ℕ → List ℕ
 digits base zero n = []
 digits base (suc k) n = n % base ∷ digits base k (n / base)
 
--- The n items of w bits: read as one number, the lowest byte first, the bytes have them as digits in base 2 ^ w.
--- There are just the bytes that n * w bits take, and the spare bits are 0.
+-- The n items of w bits: read as one number, the lowest byte first, the bytes have them as digits in
+-- base 2 ^ w. There are just the bytes that n * w bits take, and the spare bits are 0.
 unfoldable pub packed : List ℕ → ℕ → ℕ → Option (List ℕ)
 packed bytes w n =
-    if (length bytes == div_ceil (n * w) 8) && nat_lt (number_of 256 bytes) (2 ^ (n * w)) then Some (digits (2 ^ w) n (number_of 256 bytes)) else None
+    if (length bytes == div_ceil (n * w) 8) && nat_lt (number_of 256 bytes) (2 ^ (n * w))
+    then Some (digits (2 ^ w) n (number_of 256 bytes)) else None
 
 -- item i of w bits: bits i * w to i * w + w - 1 of the bytes, as one number
 abbrev pub item : List ℕ → ℕ → ℕ → ℕ
@@ -29,7 +30,8 @@ items bytes w a n = map (item bytes w) (range_with_len a n)
 
 -- which of the n ids from a on have an item from low to high, ascending
 unfoldable pub ids_between : List ℕ → ℕ → ℕ → ℕ → ℕ → ℕ → List ℕ
-ids_between bytes w low high a n = filter (λ id. is_in_range low high (item bytes w id)) (range_with_len a n)
+ids_between bytes w low high a n =
+    filter (λ id. is_in_range low high (item bytes w id)) (range_with_len a n)
 
 -- the bytes of items of w bits
 abbrev pub packed_bytes : ℕ → List ℕ → List ℕ

@@ -1,6 +1,6 @@
 //! Packs and reads numbers of one width in bits, the lowest bits first.
-
-ghost use Rattle.std.specs.Prelude.{◌≡◌, ℕ, ◌+◌, ◌-◌, ◌*◌, ◌/◌, ◌%◌, ◌^◌, ◌<◌, ◌≤◌, List, length, slice_index};
+ghost use Rattle.std.specs.Prelude.{◌≡◌, ℕ, ◌+◌, ◌-◌, ◌*◌, ◌/◌, ◌%◌, ◌^◌, ◌<◌, ◌≤◌};
+ghost use Rattle.std.specs.Prelude.{List, length, slice_index};
 ghost use Rattle.std.specs.Prelude.{◌↔◌, ◌++◌, [], IsTrue, OnOk, OnErr, take};
 ghost use Rattle.std.specs.Int.{div_ceil, is_in_range};
 ghost use Rattle.std.specs.List.Sorted.{IsStrictlyIncreasing};
@@ -8,24 +8,19 @@ ghost use Rattle.std.specs.Range.{range_inclusive_start, range_inclusive_end};
 ghost use Rattle.col_bits.specs.Packed.{number_of, width, is_width, item, items, ids_between, packed};
 ghost use Rattle.col_bits.specs.Packing.{Held, nothing_held, bits_of, count_of, AddsBytes};
 
+use col_common::{BYTE_BITS, U64_NUM_BYTES};
 use std::alloc::AllocError;
 use std::marker::Model;
 use std::ops::{Range, RangeInclusive};
 
-/// The widest numbers that are always read by one load of eight bytes.
+// The widest numbers that are always read by one load of eight bytes.
 const MAX_SMALL_WIDTH: u32 = 56;
 
-/// The bits of a word.
+// The bits of a word.
 const WORD_BITS: u32 = 64;
 
-/// The bits of a byte.
-const BYTE_BITS: u32 = 8;
-
-/// The bytes of a word.
-const WORD_BYTES: usize = 8;
-
-/// How many ids are tested before the room that is left over is given back.
-const BLOCK_LEN: u32 = 1024;
+// How many ids are tested before the room that is left over is given back.
+const ID_BLOCK_LEN: u32 = 1024;
 
 /// The width of numbers up to `n`: its binary digits where these are at most 56, else 64.
 pub fn compute_num_bits(n: u64) -> u8
@@ -51,7 +46,8 @@ impl Model for BitPacker {
 
     ghost view = { λ s. record { number = s.mini_buffer; count = s.mini_buffer_written } };
 
-    ghost invariant = { λ s. (s.mini_buffer_written < 64) × (s.mini_buffer < 2 ^ s.mini_buffer_written) };
+    ghost invariant = { λ s. (s.mini_buffer_written < 64)
+        × (s.mini_buffer < 2 ^ s.mini_buffer_written) };
 }
 
 impl BitPacker {
@@ -78,7 +74,8 @@ impl BitPacker {
         ensures bytes { OnOk result (AddsBytes output.old.items output.new.items) }
 
         // Where memory is wanting, nothing changes.
-        ensures kept { OnErr result ((self.new ≡ self.old) × (output.new.items ≡ output.old.items)) }
+        ensures kept { OnErr result ((self.new ≡ self.old)
+            × (output.new.items ≡ output.old.items)) }
     {
         let filled = self.mini_buffer_written;
         let word = self.mini_buffer | (val << filled);
@@ -97,14 +94,16 @@ impl BitPacker {
     /// Appends the bytes of the bits that are held, where spare bits are 0.
     pub fn close(&mut self, output: &mut Vec<u8>) -> Result<(), AllocError>
         // The bytes are the bits that were there, in as few bytes as take them.
-        ensures bits { OnOk result (number_of 256 output.new.items ≡ bits_of self.old output.old.items) }
+        ensures bits { OnOk result (number_of 256 output.new.items ≡
+            bits_of self.old output.old.items) }
         ensures count { OnOk result (length output.new.items ≡
             div_ceil (count_of self.old output.old.items) 8) }
         ensures bytes { OnOk result (AddsBytes output.old.items output.new.items) }
         ensures held { OnOk result (self.new ≡ nothing_held) }
 
         // Where memory is wanting, nothing changes.
-        ensures kept { OnErr result ((self.new ≡ self.old) × (output.new.items ≡ output.old.items)) }
+        ensures kept { OnErr result ((self.new ≡ self.old)
+            × (output.new.items ≡ output.old.items)) }
     {
         let bytes = self.mini_buffer.to_le_bytes();
         let len = self.mini_buffer_written.div_ceil(BYTE_BITS) as usize;
@@ -159,8 +158,8 @@ impl BitUnpacker {
     pub fn get(&self, idx: u32, data: &[u8]) -> u64
         ensures value { result ≡ item «data».now self.now idx }
         // Item `idx` of the packed list, where the bytes are one of n items.
-        ensures packed { (n : ℕ) (items : List ℕ) → idx < n → packed «data».now self.now n ≡ Some items →
-            slice_index items idx ≡ result }
+        ensures packed { (n : ℕ) (items : List ℕ) → idx < n →
+            packed «data».now self.now n ≡ Some items → slice_index items idx ≡ result }
     {
         self.item_at::<false>(idx, data)
     }
@@ -187,7 +186,8 @@ impl BitUnpacker {
         positions: &mut Vec<u32>,
     ) -> Result<(), AllocError>
         ensures ok { OnOk result (positions.new.items ≡ ids_between «data».now self.now
-            (range_inclusive_start value_range) (range_inclusive_end value_range) ids.start (ids.end - ids.start)) }
+            (range_inclusive_start value_range) (range_inclusive_end value_range)
+            ids.start (ids.end - ids.start)) }
         ensures rises { OnOk result (IsStrictlyIncreasing positions.new.items) }
         // Where memory is wanting, none are there.
         ensures none { OnErr result (positions.new.items ≡ []) }
@@ -196,7 +196,7 @@ impl BitUnpacker {
         positions.clear();
         let mut from = ids.start;
         while from < ids.end {
-            let to = from + (ids.end - from).min(BLOCK_LEN);
+            let to = from + (ids.end - from).min(ID_BLOCK_LEN);
             if let Err(wanting) = self.push_ids(low, high, from..to, data, positions) {
                 positions.clear();
                 return Err(wanting);
@@ -206,7 +206,7 @@ impl BitUnpacker {
         Ok(())
     }
 
-    /// Appends which of the ids have a number between the ends.
+    // Appends which of the ids have a number between the ends.
     fn push_ids(
         &self,
         low: u64,
@@ -227,7 +227,7 @@ impl BitUnpacker {
         Ok(())
     }
 
-    /// Writes them from place `at` on, and says where they end.
+    // Writes them from place `at` on, and says where they end.
     fn write_ids(
         &self,
         low: u64,
@@ -250,7 +250,7 @@ impl BitUnpacker {
         }
     }
 
-    /// The same, with no branch on what a number is.
+    // The same, with no branch on what a number is.
     fn write_ids_by<const PADDED: bool>(
         &self,
         low: u64,
@@ -277,10 +277,11 @@ impl BitUnpacker {
         kept
     }
 
-    /// Writes the numbers from an index on.
+    // Writes the numbers from an index on.
     fn read<const PADDED: bool>(&self, start: u32, data: &[u8], output: &mut [u64])
         requires indexes { start + length output.old ≤ 2 ^ 32 }
-        requires padded { IsTrue PADDED → (start + length output.old) * self.now / 8 + 8 ≤ length «data».now }
+        requires padded { IsTrue PADDED →
+            (start + length output.old) * self.now / 8 + 8 ≤ length «data».now }
         ensures { output.new ≡ items «data».now self.now start (length output.old) }
     {
         let unpacker = *self;
@@ -289,15 +290,15 @@ impl BitUnpacker {
         }
     }
 
-    /// Whether the eight bytes of a load are there for each number below an index.
+    // Whether the eight bytes of a load are there for each number below an index.
     fn is_padded(&self, end: u64, data: &[u8]) -> bool
         requires { end ≤ 2 ^ 32 }
         ensures { IsTrue result ↔ end * self.now / 8 + 8 ≤ length «data».now }
     {
-        end as usize * self.num_bits as usize / 8 + WORD_BYTES <= data.len()
+        end as usize * self.num_bits as usize / 8 + U64_NUM_BYTES <= data.len()
     }
 
-    /// The number at an index. PADDED says that the eight bytes of its load are there.
+    // The number at an index. PADDED says that the eight bytes of its load are there.
     #[inline(always)]
     fn item_at<const PADDED: bool>(&self, idx: u32, data: &[u8]) -> u64
         requires { IsTrue PADDED → idx * self.now / 8 + 8 ≤ length «data».now }
@@ -308,7 +309,7 @@ impl BitUnpacker {
     }
 }
 
-/// Whether a value is one from `low` to `high`.
+// Whether a value is one from `low` to `high`.
 #[inline(always)]
 fn is_within(value: u64, low: u64, high: u64) -> bool
     ensures { result ≡ is_in_range low high value }
@@ -316,7 +317,7 @@ fn is_within(value: u64, low: u64, high: u64) -> bool
     low <= value && value <= high
 }
 
-/// The bits from place `from` on.
+// The bits from place `from` on.
 #[inline(always)]
 fn above(value: u64, from: u32) -> u64
     requires { from ≤ 64 }
@@ -325,7 +326,7 @@ fn above(value: u64, from: u32) -> u64
     if from == WORD_BITS { 0 } else { value >> from }
 }
 
-/// The 64 bits from byte `at` on.
+// The 64 bits from byte `at` on.
 #[inline(always)]
 fn word(bytes: &[u8], at: usize) -> u64
     requires { at + 8 ≤ length bytes.now }
@@ -343,7 +344,7 @@ fn word(bytes: &[u8], at: usize) -> u64
     ])
 }
 
-/// A byte, and past the end 0.
+// A byte, and past the end 0.
 fn byte_or_zero(bytes: &[u8], at: usize) -> u8
     ensures { result ≡ slice_index bytes.now at }
 {
@@ -353,7 +354,7 @@ fn byte_or_zero(bytes: &[u8], at: usize) -> u8
     }
 }
 
-/// The 64 bits from byte `at` on, where those past the end are 0.
+// The 64 bits from byte `at` on, where those past the end are 0.
 #[cold]
 #[inline(never)]
 fn last_word(bytes: &[u8], at: usize) -> u64
@@ -372,14 +373,14 @@ fn last_word(bytes: &[u8], at: usize) -> u64
     ])
 }
 
-/// The 64 bits from byte `at` on, where those past the end are 0. PADDED says that none is past it.
+// The 64 bits from byte `at` on, where those past the end are 0. PADDED says that none is past it.
 #[inline(always)]
 fn word_at<const PADDED: bool>(bytes: &[u8], at: usize) -> u64
     requires fits { at + 8 ≤ usize.MAX }
     requires padded { IsTrue PADDED → at + 8 ≤ length bytes.now }
     ensures { result ≡ number_of 256 bytes.now / 2 ^ (8 * at) % 2 ^ 64 }
 {
-    if PADDED || at + WORD_BYTES <= bytes.len() {
+    if PADDED || at + U64_NUM_BYTES <= bytes.len() {
         word(bytes, at)
     } else {
         last_word(bytes, at)

@@ -1,5 +1,4 @@
 //! The least and the greatest of items.
-
 ghost use Rattle.std.specs.Prelude.{List};
 ghost use Rattle.std.specs.Iterator.{Drains, IsFinite};
 ghost use Rattle.col_bits.specs.Extremes.{IsMinMax};

@@ -1,5 +1,5 @@
-//! Numbers of a fixed width in bits, one after another: their width, their packing and their reading.
-//! A contract sees a reader as its width, and a packer as the bits that it holds.
+//! Numbers of a fixed width in bits, one after another: their width, their packing and their
+//! reading. A contract sees a reader as its width, and a packer as the bits that it holds.
 #![tactic(auto)]
 
 mod bitpacker;

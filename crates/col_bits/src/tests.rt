@@ -1,11 +1,10 @@
-//! Widths, packed lists whose bytes are worked out by hand, lists that are read back, and lookups in them.
+//! Widths, packed lists whose bytes are worked out by hand, and lookups in them.
 ghost use Rattle.std.specs.Prelude.{◌<◌, ◌^◌, IsTrue};
 ghost use Rattle.std.specs.List.{AllByRecursion};
 ghost use Rattle.col_bits.specs.Packed.{is_width};
 
 use crate::{BitPacker, BitUnpacker, compute_num_bits, minmax};
 use std::alloc::{AllocError, Global};
-use std::process::Abort;
 use std::test::Fail;
 
 // The packed list of these numbers.
@@ -22,59 +21,11 @@ fn pack(alloc: Global, values: &[u64], width: u8) -> Result<Vec<u8>, AllocError>
     Ok(output)
 }
 
-// Packs five numbers and reads each, and all of them.
-fn reads_back(rt: &impl Abort, alloc: Global, values: &[u64; 5], width: u8) -> Result<(), Fail>
-    requires width { IsTrue (is_width width) }
-    requires small { AllByRecursion (λ v. v < 2 ^ width) values.now }
-{
-    let bytes = pack(alloc, values, width)?;
-    let reader = BitUnpacker::new(width);
-    assert_eq!(rt; reader.bit_width(), width);
-    for idx in 0..5u32 {
-        assert_eq!(rt;
-            reader.get(idx, &bytes),
-            values[idx as usize],
-            "item {idx} of width {width}"
-        );
-    }
-    assert_eq!(rt;
-        reader.get(u32::MAX, &bytes),
-        0,
-        "past the end of width {width}"
-    );
-    let mut all = [1; 5];
-    reader.get_range(0, &bytes, &mut all);
-    assert_eq!(rt; all, *values, "all items of width {width}");
-    Ok(())
-}
-
-#[test]
-fn a_width_is_the_digits_up_to_56_and_else_64(rt: HostRuntime) -> Result<(), Fail> {
-    let widths = [
-        (0, 0),
-        (1, 1),
-        (255, 8),
-        (256, 9),
-        ((1 << 56) - 1, 56),
-        (1 << 56, 64),
-        (u64::MAX, 64),
-    ];
-    for (n, width) in widths {
-        assert_eq!(rt; compute_num_bits(n), width, "the width of {n}");
-    }
-    Ok(())
-}
-
 #[test]
 fn packed_bytes_are_those_worked_out_by_hand(rt: HostRuntime) -> Result<(), Fail> {
     let alloc = rt.alloc();
     // Bits 0 and 1, the second above the first.
     assert_eq!(rt; pack(alloc, &[0, 1], 1)?.as_slice(), [0b10].as_slice());
-    assert_eq!(rt;
-        pack(alloc, &[1, 2, 3], 2)?.as_slice(),
-        [0b11_10_01].as_slice()
-    );
-    assert_eq!(rt; pack(alloc, &[5, 6], 3)?.as_slice(), [0b110_101].as_slice());
     // The second number begins in the first byte's highest bit.
     assert_eq!(rt;
         pack(alloc, &[1, 3], 7)?.as_slice(),
@@ -89,41 +40,16 @@ fn packed_bytes_are_those_worked_out_by_hand(rt: HostRuntime) -> Result<(), Fail
 }
 
 #[test]
-fn what_is_packed_is_read_back(rt: HostRuntime) -> Result<(), Fail> {
-    let alloc = rt.alloc();
-    reads_back(&rt, alloc, &[0, 0, 0, 0, 0], 0)?;
-    reads_back(&rt, alloc, &[1, 0, 1, 1, 0], 1)?;
-    reads_back(&rt, alloc, &[5, 0, 7, 1, 4], 3)?;
-    reads_back(&rt, alloc, &[127, 1, 0, 64, 99], 7)?;
-    reads_back(&rt, alloc, &[0x1ffff, 0, 0x10000, 1, 0xfedc], 17)?;
-    reads_back(
-        &rt,
-        alloc,
-        &[0xff_ffff_ffff_ffff, 0, 0x80_0000_0000_0001, 1, 77],
-        56,
-    )?;
-    reads_back(&rt, alloc, &[u64::MAX, 0, 0x8000_0000_0000_0001, 1, 77], 64)?;
-    Ok(())
-}
-
-#[test]
-fn closing_a_packer_that_holds_nothing_adds_nothing(rt: HostRuntime) -> Result<(), Fail> {
-    let mut output = b"ab".to_vec(rt.alloc())?;
-    BitPacker::new().close(&mut output)?;
-    assert_eq!(rt; output.as_slice(), b"ab".as_slice());
-    Ok(())
-}
-
-#[test]
-fn a_part_is_read_and_past_the_end_zeros(rt: HostRuntime) {
+fn numbers_are_read_and_past_the_end_zeros(rt: HostRuntime) {
     // Numbers 1, 0, 3, 2 of two bits, and four zeros.
     let bytes = [0b10_11_00_01, 0];
     let reader = BitUnpacker::new(2);
+    assert_eq!(rt; reader.bit_width(), 2);
+    assert_eq!(rt; reader.get(2, &bytes), 3);
+    assert_eq!(rt; reader.get(u32::MAX, &bytes), 0);
     let mut part = [7; 3];
     reader.get_range(2, &bytes, &mut part);
     assert_eq!(rt; part, [3, 2, 0]);
-    reader.get_range(u32::MAX - 2, &bytes, &mut part);
-    assert_eq!(rt; part, [0, 0, 0]);
 }
 
 #[test]
@@ -149,14 +75,12 @@ fn ids_of_numbers_in_a_range_replace_what_was_there(rt: HostRuntime) -> Result<(
     }
     reader.get_ids_for_value_range(0..=0, 0..3000, &bytes, &mut found)?;
     assert_eq!(rt; found.len(), 2997);
-    assert_eq!(rt; found.first(), Some(&1));
-    assert_eq!(rt; found.last(), Some(&2999));
     Ok(())
 }
 
 #[test]
-fn the_least_and_the_greatest_are_found(rt: HostRuntime) {
+fn widths_and_extremes_are_found(rt: HostRuntime) {
+    assert_eq!(rt; compute_num_bits((1 << 56) - 1), 56);
+    assert_eq!(rt; compute_num_bits(1 << 56), 64);
     assert_eq!(rt; minmax([3u64, 1, 2].iter().copied()), Some((1, 3)));
-    assert_eq!(rt; minmax([5u64].iter().copied()), Some((5, 5)));
-    assert_eq!(rt; minmax([0u64; 0].iter().copied()), None);
 }

@@ -7,3 +7,4 @@ pub mod VIntSpellingLemmas
 pub mod OctetLemmas
 pub mod FlagLemmas
 pub mod MemberLemmas
+pub mod OrderingLemmas

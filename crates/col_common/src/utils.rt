@@ -2,6 +2,9 @@
 ghost use Rattle.std.specs.Prelude.{◌≡◌, ◌<◌, ◌≤◌, ◌-◌, ◌*◌, ◌/◌, ◌%◌, ◌^◌};
 ghost use Rattle.col_common.specs.Walks.{IsNext};
 
+/// The bits of a byte.
+pub const BYTE_BITS: u32 = 8;
+
 /// Bits START to END - 1 of the code, as a number.
 #[inline(always)]
 pub fn select_bits<const START: u8, const END: u8>(code: u8) -> u8

@@ -1,0 +1,53 @@
+-- Total orders: what is at most what, the lesser and the greater of two; and ranges, which rise.
+use Rattle.std.proofs.Common.{◌≡◌, ℕ, ◌+◌, ◌<◌, Bool, true, false, cond, refl, ap, ◌∙◌, arith}
+use Rattle.std.specs.Cmp.{IsTotalOrder, upto, tied_itself}
+use Rattle.std.specs.Ordering.{is_le, is_lt, is_gt, ordering_reverse}
+use Rattle.std.specs.declared.cmp.Ordering.{Ordering}
+use Rattle.std.specs.declared.cmp.Ordering.TheVariants.{Less, Equal, Greater}
+use Rattle.std.specs.List.{range_with_len}
+use Rattle.std.specs.List.Sorted.{IsStrictlyIncreasing}
+use Rattle.std.proofs.lemmas.List.FromFn.{length-range_with_len, get_or-range_with_len}
+
+pub le_not_gt : (r : Ordering) → is_le r ≡ true → is_gt r ≡ false
+le_not_gt Less h = refl
+le_not_gt Equal h = refl
+le_not_gt Greater h = cc
+
+pub not_gt_le : (r : Ordering) → is_gt r ≡ false → is_le r ≡ true
+not_gt_le Less h = refl
+not_gt_le Equal h = refl
+not_gt_le Greater h = cc
+
+pub turned_le : (r : Ordering) → is_lt r ≡ false → is_le (ordering_reverse r) ≡ true
+turned_le Less h = cc
+turned_le Equal h = refl
+turned_le Greater h = refl
+
+pub lt_le : (r : Ordering) → is_lt r ≡ true → is_le r ≡ true
+lt_le Less h = refl
+lt_le Equal h = cc
+lt_le Greater h = cc
+
+module _ {T : Type 0} {R : T → T → Ordering} (o : IsTotalOrder R) where
+  pub le_itself : (x : T) → is_le (R x x) ≡ true
+  le_itself x = ap is_le (tied_itself o x)
+
+  pub le_chain : (x y z : T) → is_le (R x y) ≡ true → is_le (R y z) ≡ true → is_le (R x z) ≡ true
+  le_chain x y z h k = not_gt_le (R x z) (upto o x y z (le_not_gt (R x y) h) (le_not_gt (R y z) k))
+
+  -- the lesser of two is at most both
+  pub min_cases : (x y : T) (b : Bool) → is_lt (R y x) ≡ b → (is_le (R (cond b y x) x) ≡ true) × (is_le (R (cond b y x) y) ≡ true)
+  min_cases x y true h = (lt_le (R y x) h, le_itself y)
+  min_cases x y false h = (le_itself x, ap is_le (o.antisymm x y) ∙ turned_le (R y x) h)
+
+  -- both are at most the greater of two
+  pub max_cases : (x y : T) (b : Bool) → is_lt (R y x) ≡ b → (is_le (R x (cond b x y)) ≡ true) × (is_le (R y (cond b x y)) ≡ true)
+  max_cases x y true h = (le_itself x, lt_le (R y x) h)
+  max_cases x y false h = (ap is_le (o.antisymm x y) ∙ turned_le (R y x) h, le_itself y)
+
+-- ---- ranges
+
+pub range_rises : (a n : ℕ) → IsStrictlyIncreasing (range_with_len a n)
+range_rises a n k within =
+    let next : k + 1 < n = omega (arith, length-range_with_len a n) in
+    omega (arith, get_or-range_with_len a n k 0 (omega arith), get_or-range_with_len a n (k + 1) 0 next)
