@@ -58,7 +58,8 @@ pub fn open_columns(
 /// The column of a name, among columns whose names ascend.
 pub fn find_column<'a>(columns: &'a [NamedColumn], name: &str) -> Option<&'a NamedColumn>
     requires { is_ascending (map (λ c. string_bytes c.name) columns.now) ≡ true }
-    ensures { option_map (λ c. c.now) result ≡ find (λ c. bytes_eq (string_bytes c.name) name.now) columns.now }
+    ensures { option_map (λ c. c.now) result
+        ≡ find (λ c. bytes_eq (string_bytes c.name) name.now) columns.now }
 {
     match columns.binary_search_by(|column| column.name.as_str().cmp(name)) {
         Ok(at) => Some(&columns[at]),

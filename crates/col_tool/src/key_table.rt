@@ -81,7 +81,8 @@ fn parse_keyed_lengths(
     count: u64,
     bytes: &[u8],
 ) -> Result<(Vec<KeyedLength>, &[u8]), ColumnarError>
-    ensures { Decodes (λ p. (all_keyed p.0.items, p.1.now)) result (items keyed_length count bytes.now) }
+    ensures { Decodes (λ p. (all_keyed p.0.items, p.1.now)) result
+        (items keyed_length count bytes.now) }
 {
     let mut found = Vec::new(alloc);
     let mut rest = bytes;
@@ -165,7 +166,8 @@ fn keys_ascend(keys: &[KeyedLength]) -> bool
 
 // Whether the names of the numerical columns ascend.
 fn numerical_names_ascend(keys: &[KeyedLength]) -> bool
-    ensures { result ≡ is_ascending (map (λ k. k.name) (filter (λ k. is_numerical k.column_type) (keys_seen keys.now))) }
+    ensures { result ≡ is_ascending
+        (map (λ k. k.name) (filter (λ k. is_numerical k.column_type) (keys_seen keys.now))) }
 {
     let mut last: Option<&str> = None;
     for entry in keys {
