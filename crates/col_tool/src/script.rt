@@ -136,7 +136,7 @@ impl Draft {
         if self.num_docs.is_none() {
             return Ok(false);
         }
-        let taken = self.columns.record(doc, name, value)?;
+        let taken = self.columns.record_numerical(doc, name, value)?;
         Ok(taken)
     }
 

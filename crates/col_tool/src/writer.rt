@@ -57,7 +57,7 @@ impl ColumnarWriter {
     }
 
     /// Records the value of a document, if it is the next one of a column.
-    pub fn record(&mut self, doc: u32, name: &str, value: u64) -> Result<bool, AllocError>
+    pub fn record_numerical(&mut self, doc: u32, name: &str, value: u64) -> Result<bool, AllocError>
         ensures recorded { IfOk result (λ done. done
             ≡ is_some (numbers_with self.old name.now doc value)) }
         ensures numbers { OnOk result (IfSome (numbers_with self.old name.now doc value)
