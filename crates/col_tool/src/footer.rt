@@ -6,8 +6,7 @@ ghost use Rattle.col_model.specs.Keys.{file_footer};
 ghost use Rattle.col_model.specs.Spelling.{footer_bytes};
 ghost use Rattle.col_tool.specs.Footers.{footer_of};
 
-use crate::reading::{u32_at, u64_at};
-use col_common::{ColumnarError, Sink, serialize_bytes};
+use col_common::{ColumnarError, Sink, serialize_bytes, u32_at, u64_at};
 use col_model::CURRENT_VERSION;
 
 /// How many bytes a footer takes.

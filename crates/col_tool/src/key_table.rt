@@ -12,8 +12,7 @@ ghost use Rattle.col_tool.specs.KeyTables.{key_seen, keyed, all_keyed, keys_seen
 use crate::column_key::ColumnKey;
 use crate::column_type::ColumnType;
 use crate::footer::{FOOTER_NUM_BYTES, parse_footer};
-use crate::reading::{back_of, front_of};
-use col_common::{ColumnarError, read_vint};
+use col_common::{ColumnarError, back_of, front_of, read_vint};
 use std::alloc::Global;
 use std::str;
 
