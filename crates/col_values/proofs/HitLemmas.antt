@@ -9,6 +9,7 @@ use Rattle.std.proofs.lemmas.List.{map-id, take_more, take_more_set, take-set, d
 use Rattle.std.proofs.lemmas.List.Elements.{filter-append}
 use Rattle.std.proofs.lemmas.List.FromFn.{map-range_with_len_more, length-range_with_len, get_or-range_with_len}
 use Rattle.std.proofs.lemmas.Option.{get_or_from_slice_get}
+use Rattle.col_common.proofs.OrderingLemmas.{range_rises}
 use Rattle.col_values.specs.Values.{passes, hits}
 
 one_more : (a n : ℕ) → range_with_len a (n + 1) ≡ range_with_len a n ++ ((a + n) ∷ [])
@@ -68,11 +69,6 @@ part_more values out start i y value within long so_far =
 -- the value at the front of what is left
 pub front_value : {T : Type 0} (values : List T) (i : ℕ) (x : T) → slice_get values i ≡ Some x → i < length values → drop i values ≡ x ∷ drop (i + 1) values
 front_value values i x value within = drop_more values i x within ∙ ap (λ v. v ∷ drop (i + 1) values) (get_or_from_slice_get values i x x value)
-
-range_rises : (a n : ℕ) → IsStrictlyIncreasing (range_with_len a n)
-range_rises a n k within =
-    let w : k + 1 < n = omega (arith, length-range_with_len a n) in
-    omega (arith, get_or-range_with_len a n k 0 (omega arith), get_or-range_with_len a n (k + 1) 0 w)
 
 -- hits rise
 pub hits_rise : {T : Type 0} (test : T → Bool) (values : List T) (from n : ℕ) → IsStrictlyIncreasing (hits test values from n)
