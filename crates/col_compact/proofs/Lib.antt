@@ -16,3 +16,6 @@ pub mod SpellingLemmas
 pub mod CollectLemmas
 pub mod PackLemmas
 pub mod WritingLemmas
+pub mod CodedLemmas
+pub mod LookupLemmas
+pub mod HeaderLemmas

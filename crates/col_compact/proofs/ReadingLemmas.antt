@@ -81,7 +81,7 @@ tail_tests before apart codes p ps e =
     ∙ ap (λ b. b && nat_lt (end_behind (ends_at before p) rs) (2 ^ 128) && nat_lt (codes + code_count (r ∷ rs)) (2 ^ 32)) (sym (apart_four ps))
     ∙ ap (λ n. are_apart_from 4 ps && nat_lt (end_behind (ends_at before p) rs) (2 ^ 128) && nat_lt n (2 ^ 32)) same
 
-untrue : (a b : Bool) → (a ≡ true → b ≡ true) → b ≡ false → a ≡ false
+pub untrue : (a b : Bool) → (a ≡ true → b ≡ true) → b ≡ false → a ≡ false
 untrue true b f e = absurd (false≢true (sym e ∙ f refl))
 untrue false b f e = refl
 
