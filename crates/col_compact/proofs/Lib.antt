@@ -6,7 +6,6 @@ pub mod HitLemmas
 pub mod PlaceLemmas
 pub mod OrderLemmas
 pub mod RowLemmas
-pub mod WidthBound
 pub mod ReadingLemmas
 pub mod ParamsLemmas
 pub mod SpelledLemmas
