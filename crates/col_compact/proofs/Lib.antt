@@ -6,7 +6,6 @@ pub mod HitLemmas
 pub mod PlaceLemmas
 pub mod OrderLemmas
 pub mod RowLemmas
-pub mod WidthBound
 pub mod ReadingLemmas
 pub mod ParamsLemmas
 pub mod SpelledLemmas
@@ -16,3 +15,6 @@ pub mod SpellingLemmas
 pub mod CollectLemmas
 pub mod PackLemmas
 pub mod WritingLemmas
+pub mod CodedLemmas
+pub mod LookupLemmas
+pub mod HeaderLemmas

@@ -5,7 +5,7 @@ use Rattle.col_common.specs.Reading.{◌>>=◌, only_if, front, byte_at}
 use Rattle.col_common.specs.VInt.{vint_u128}
 use Rattle.col_bits.specs.Packed.{width}
 use Rattle.col_model.specs.AddressList.{AddressFooter, are_zeros, are_bounds, code_count, first_start, last_end, ranges_at, address_footer_at}
-use Rattle.col_compact.specs.Params.{Head, behind_flags, head_at, footer_of, CountFits}
+use Rattle.col_compact.specs.Params.{Head, head_at, footer_of, CountFits}
 
 -- what the ranges must be for a head
 abbrev pub is_head_of : Head → List (ℕ × ℕ) → Bool

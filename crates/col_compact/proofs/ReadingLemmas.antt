@@ -1,5 +1,5 @@
 -- Ranges that are tested where they stand are those that are tested together.
-use Rattle.std.proofs.Common.{◌≡◌, ℕ, zero, suc, ◌+◌, ◌-◌, ◌^◌, ◌<◌, ◌≤◌, ◌&&◌, Bool, true, false, List, [], ◌∷◌, ◌++◌, length, fold, Option, Some, None, refl, sym, ◌∙◌, ap, subst, append_assoc, append-nil, length-append, add-zero, zero-add, lit<, arith}
+use Rattle.std.proofs.Common.{◌≡◌, ℕ, zero, suc, ◌+◌, ◌-◌, ◌^◌, ◌<◌, ◌≤◌, ◌&&◌, Bool, true, false, List, [], ◌∷◌, ◌++◌, length, fold, Option, Some, None, refl, sym, ◌∙◌, ap, subst, append_assoc, append-nil, length-append, zero-add, lit<, arith}
 use Rattle.std.specs.Prelude.{nat_lt, nat_le}
 use Rattle.std.specs.List.{list_all}
 use Rattle.std.proofs.lemmas.Bool.{false≢true, and_parts, le-leb, lt-ltb, leb-true, ltb-true}
@@ -81,7 +81,7 @@ tail_tests before apart codes p ps e =
     ∙ ap (λ b. b && nat_lt (end_behind (ends_at before p) rs) (2 ^ 128) && nat_lt (codes + code_count (r ∷ rs)) (2 ^ 32)) (sym (apart_four ps))
     ∙ ap (λ n. are_apart_from 4 ps && nat_lt (end_behind (ends_at before p) rs) (2 ^ 128) && nat_lt n (2 ^ 32)) same
 
-untrue : (a b : Bool) → (a ≡ true → b ≡ true) → b ≡ false → a ≡ false
+pub untrue : (a b : Bool) → (a ≡ true → b ≡ true) → b ≡ false → a ≡ false
 untrue true b f e = absurd (false≢true (sym e ∙ f refl))
 untrue false b f e = refl
 

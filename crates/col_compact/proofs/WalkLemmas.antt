@@ -27,7 +27,3 @@ pub walked-passes : {T : Type 0} (p : T → Bool) (P : List T → Type 0) (left 
 walked-passes p P left rest all x w e passed =
     let whole : list_all p (w.found ++ x ∷ rest) ≡ true = ap (λ ys. list_all p (w.found ++ ys)) (sym e) ∙ ap (list_all p) w.whole ∙ passed in
     (and_parts (p x) (list_all p rest) ((and_parts (list_all p w.found) (p x && list_all p rest) (sym (list_all-append p w.found (x ∷ rest)) ∙ whole)).1)).0
-
--- there are as many items as were found and are left
-pub walked-count : {T : Type 0} (P : List T → Type 0) (left all : List T) (w : Walked P left all) → length w.found + length left ≡ length all
-walked-count P left all w = sym (length-append w.found left) ∙ ap length w.whole

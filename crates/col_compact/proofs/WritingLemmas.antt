@@ -31,11 +31,7 @@ coded_bytes-again t u xs footer e told is f fits =
     subst (λ (v : Trained). (ys : List ℕ) → Represents ys v → length (footer_bytes (trained_footer v)) < 2 ^ 64 → coded_values (coded_bytes v ys) ≡ Some ys) e told xs is
     (subst (λ (b : List ℕ). length b < 2 ^ 64) f fits)
 
--- a refusal of a list, whatever was to be added
-pub list-stopped : (a b : SeenSink) (e : ColumnarError) (bytes xs : List ℕ) → Serializes a b (Err e) bytes → SerializesList a b (Err e) xs
-list-stopped a b e bytes xs s = (bytes, tt, s)
-
--- the same behind what was added
+-- a refusal behind what was added, whatever was to come
 pub list-refused : (a b c : SeenSink) (done : Unit {0}) (e : ColumnarError) (first bytes xs : List ℕ) → Serializes a b (Ok done) first → Serializes b c (Err e) bytes → SerializesList a c (Err e) xs
 list-refused a b c done e first bytes xs s t = ([], tt, serializes-refused a b c done e first bytes [] s t)
 

@@ -1,9 +1,8 @@
 -- What stands behind the codes of a list of addresses.
-use Rattle.std.specs.Prelude.{◌≡◌, ℕ, ◌^◌, ◌&&◌, nat_lt, true, List, Option, Some}
+use Rattle.std.specs.Prelude.{◌≡◌, ℕ, true, List, Option}
 use Rattle.col_common.specs.Reading.{◌>>=◌, only_if, front, byte_at}
 use Rattle.col_common.specs.VInt.{vint_u128}
-use Rattle.col_bits.specs.Packed.{width}
-use Rattle.col_model.specs.AddressList.{AddressFooter, are_zeros, are_bounds, code_count, first_start, last_end}
+use Rattle.col_model.specs.AddressList.{AddressFooter, are_zeros, are_bounds, first_start, last_end}
 
 -- what the footer says before its ranges
 pub record Head : Type 0 where

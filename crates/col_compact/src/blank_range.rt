@@ -7,8 +7,8 @@ use col_common::InvalidData;
 use std::marker::Model;
 use std::ops::RangeInclusive;
 
-/// A range of three numbers or more that a list doesn't have, ordered by size, and then by start. Contracts see its
-/// first and its last number.
+/// A range of three numbers or more that a list doesn't have, ordered by size, and then by start.
+/// Contracts see its first and its last number.
 #[derive(Clone, Copy, Debug, PartialEq, Eq, PartialOrd, Ord)]
 pub struct BlankRange {
     span: u128,

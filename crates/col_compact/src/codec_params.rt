@@ -1,17 +1,24 @@
 //! What stands behind the codes of a list.
-ghost use Rattle.std.specs.Prelude.{◌≡◌, ◌^◌, ◌<◌, ◌&&◌, ◌==◌, option_map, true, IfSome};
+ghost use Rattle.std.specs.Prelude.{◌≡◌, ℕ, List, length, ◌^◌, ◌<◌, ◌≤◌, ◌+◌, ◌&&◌, ◌==◌, option_map, true, IfSome};
 ghost use Rattle.col_common.specs.Decoding.{Decodes, DecodesFront};
 ghost use Rattle.col_bits.specs.Packed.{width};
-ghost use Rattle.col_model.specs.AddressList.{address_footer_at, address_footer, are_zeros, are_bounds, code_count, first_start, last_end};
+ghost use Rattle.col_model.specs.AddressList.{address_footer_at, address_footer, are_zeros, are_bounds, code_count, coded_number, first_start, last_end};
 ghost use Rattle.col_compact.specs.Params.{behind_flags, head_at, footer_of, CountFits};
+ghost use Rattle.col_model.specs.Stats.{least_of, greatest_of};
+ghost use Rattle.col_compact.specs.Coded.{are_codes};
+ghost use Rattle.std.specs.Int.{is_in_range};
+ghost use Rattle.std.specs.Range.{range_inclusive_start, range_inclusive_end};
+ghost use Rattle.col_compact.specs.Hits.{hit_at};
 ghost use Rattle.col_compact.specs.Heads.{head_seen};
 
-use crate::compact_space::CompactSpace;
+use crate::compact_space::{CompactHit, CompactSpace};
 use crate::reading::read_space;
 use col_bits::{BitUnpacker, compute_num_bits};
-use col_common::{ColumnarError, read_vint_u128};
+use col_common::{ColumnarError, Steps, read_vint_u128};
 use std::alloc::Global;
 use std::marker::Model;
+use std::ops::RangeInclusive;
+use std::sync::ledger::Ledger;
 
 // The bytes of the flags, which are all 0.
 const FLAGS_NUM_BYTES: usize = 8;
@@ -50,6 +57,101 @@ impl IPCodecParams {
             bit_unpacker: BitUnpacker::new(num_bits),
             num_vals,
         }
+    }
+
+    // How many numbers the list has.
+    pub(crate) fn num_vals(&self) -> u32
+        ensures value { result ≡ self.now.count }
+        ensures none { self.now.count ≡ 0 → (self.now.least ≡ 0) × (self.now.greatest ≡ 0) }
+    {
+        self.num_vals
+    }
+
+    // The least number.
+    pub(crate) fn min_value(&self) -> u128
+        ensures { result ≡ self.now.least }
+    {
+        self.compact_space.first_value()
+    }
+
+    // The greatest number.
+    pub(crate) fn max_value(&self) -> u128
+        ensures { result ≡ self.now.greatest }
+    {
+        self.compact_space.last_value()
+    }
+
+    // A reader of codes.
+    pub(crate) fn bit_unpacker(&self) -> BitUnpacker
+        ensures value { result ≡ self.now.code_width }
+        ensures width { self.now.code_width ≡ width (code_count self.now.ranges) }
+    {
+        self.bit_unpacker
+    }
+
+    // Nothing happens; the width of codes, how many there are, and where they begin and end become
+    // known.
+    pub(crate) fn tell(&self)
+        ensures width { self.now.code_width ≡ width (code_count self.now.ranges) }
+        ensures few { code_count self.now.ranges < 2 ^ 32 }
+        ensures ends { (codes : List ℕ) → 0 < length codes → are_codes self.now codes ≡ true →
+            (least_of codes ≡ 1) × (greatest_of codes ≡ code_count self.now.ranges) }
+    {
+        self.compact_space.tell_ends();
+        let _width = &self.bit_unpacker;
+        let _count = self.compact_space.amplitude_compact_space();
+    }
+
+    // The number that a code stands for.
+    #[inline(always)]
+    pub(crate) fn compact_to_u128(&self, compact: u32) -> u128
+        requires first { 1 ≤ compact }
+        requires last { compact ≤ code_count self.now.ranges }
+        ensures { result ≡ coded_number self.now.ranges compact }
+    {
+        self.compact_space.compact_to_u128(compact)
+    }
+
+    // The first and the last code of the numbers from `low` to `high`: a step for each end.
+    pub(crate) fn codes_between<L: Ledger>(
+        &self,
+        low: u128,
+        high: u128,
+        steps: &mut Steps<L>,
+    ) -> RangeInclusive<u64>
+        ensures codes { (k : ℕ) → 1 ≤ k → k ≤ code_count self.now.ranges →
+            is_in_range low high (coded_number self.now.ranges k)
+            ≡ is_in_range (range_inclusive_start result) (range_inclusive_end result) k }
+        ensures steps { steps.new ≡ steps.old + 2 }
+    {
+        steps.tick();
+        let first = self.compact_space.code_up(low);
+        steps.tick();
+        let past = self.compact_space.code_above(high);
+        first..=past.saturating_sub(1)
+    }
+
+    // The code of a number, else of the next one that a range has.
+    pub(crate) fn u128_to_next_compact(&self, value: u128) -> CompactHit
+        ensures { result ≡ hit_at self.now.ranges value }
+    {
+        self.compact_space.u128_to_next_compact(value)
+    }
+
+    // The greatest code.
+    pub(crate) fn max_code(&self) -> u32
+        ensures { result ≡ code_count self.now.ranges }
+    {
+        self.compact_space.amplitude_compact_space()
+    }
+
+    // Whether codes with these bounds are codes of the ranges, and their numbers have the
+    // parameters' bounds.
+    pub(crate) fn have_bounds(&self, least: u64, greatest: u64) -> bool
+        ensures { (codes : List ℕ) → 0 < length codes → least ≡ least_of codes →
+            greatest ≡ greatest_of codes → result ≡ are_codes self.now codes }
+    {
+        self.compact_space.has_ends(least, greatest)
     }
 
     /// Takes the parameters at the front.

@@ -15,7 +15,8 @@ use col_common::{ColumnarError, Sink, VInt, VIntU128, serialize_bytes};
 const FLAGS_LEN: usize = 8;
 
 impl CompactSpace {
-    /// Adds the count of the ranges, and for each how far it starts above the end before it, and how far it reaches.
+    /// Adds the count of the ranges, and for each how far it starts above the end before it, and
+    /// how far it reaches.
     pub fn serialize<K: Sink>(&self, sink: &mut K) -> Result<(), ColumnarError>
         ensures ok { Serializes (K.seen sink.old) (K.seen sink.new) result (ranges_bytes self.now) }
         // What was added reads back, whatever follows.

@@ -1,6 +1,5 @@
-use Rattle.std.proofs.Common.{ℕ, List, Option, Some, None, ap, subst, sym, ◌∙◌}
+use Rattle.std.proofs.Common.{Some, ap, sym, ◌∙◌}
 use Rattle.col_common.specs.Reading.{◌>>=◌}
-use Rattle.col_common.specs.Decoding.{Refuses}
 use Rattle.col_model.specs.AddressList.{ranges_at, address_footer_at}
 use Rattle.col_compact.specs.Heads.{head_seen}
 use Rattle.col_compact.proofs.ParamsLemmas.{footer-none, footer-head, footer-other, footer-some, count-fits, with_ranges}

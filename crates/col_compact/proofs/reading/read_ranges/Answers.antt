@@ -1,7 +1,5 @@
-use Rattle.std.proofs.Common.{◌≡◌, ◌+◌, ◌<◌, ◌^◌, Some, refl, sym, ◌∙◌, ap, arith}
-use Rattle.col_compact.specs.Mapped.{range_of}
-use Rattle.col_compact.specs.Reading.{range_at}
-use Rattle.col_compact.proofs.ReadingLemmas.{IsRange, reading_first, reading_none, reading_more, reading_all, read_space, range_at-is}
+use Rattle.std.proofs.Common.{refl, sym, arith}
+use Rattle.col_compact.proofs.ReadingLemmas.{reading_first, reading_none, reading_more, reading_all, read_space, range_at-is}
 use Rattle.col_compact.proofs.reading.read_ranges.Goals as goal
 
 pub loop-done-init : goal.loop-done-init

@@ -1,4 +1,4 @@
-use Rattle.std.proofs.Common.{◌<◌, ◌∙◌, Option, List, ℕ, subst, sym, arith}
+use Rattle.std.proofs.Common.{◌∙◌, Option, List, ℕ, subst, sym, arith}
 use Rattle.col_common.specs.Decoding.{Refuses}
 use Rattle.col_compact.proofs.ReadingLemmas.{ranges_at-some, ranges_at-none, ranges_at-zero}
 use Rattle.col_compact.proofs.reading.read_space.Goals as goal
