@@ -13,15 +13,15 @@ abbrev pub digits : ℕ → ℕ → ℕ → List ℕ
 digits base zero n = []
 digits base (suc k) n = n % base ∷ digits base k (n / base)
 
+-- there are just the bytes that so many bits take, and the spare bits are 0
+abbrev pub is_packed : List ℕ → ℕ → Bool
+is_packed bytes bits = (length bytes == div_ceil bits 8) && nat_lt (number_of 256 bytes) (2 ^ bits)
+
 -- The n items of w bits: read as one number, the lowest byte first, the bytes have them as digits
 -- in base 2 ^ w. There are just the bytes that n * w bits take, and the spare bits are 0.
 unfoldable pub packed : List ℕ → ℕ → ℕ → Option (List ℕ)
 packed bytes w n =
     if is_packed bytes (n * w) then Some (digits (2 ^ w) n (number_of 256 bytes)) else None
-
--- there are just the bytes that so many bits take, and the spare bits are 0
-abbrev pub is_packed : List ℕ → ℕ → Bool
-is_packed bytes bits = (length bytes == div_ceil bits 8) && nat_lt (number_of 256 bytes) (2 ^ bits)
 
 -- item i of w bits: bits i * w to i * w + w - 1 of the bytes, as one number
 abbrev pub item : List ℕ → ℕ → ℕ → ℕ
