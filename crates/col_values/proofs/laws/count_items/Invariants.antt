@@ -1,9 +1,5 @@
 use Rattle.std.proofs.Common.{◌≡◌, ◌+◌, ◌≤◌, length, drop}
-<<<<<<<< HEAD:crates/col_values/proofs/laws/count_items/Invariants.antt
 use Rattle.col_values.proofs.laws.count_items.Given as goal
-========
-use Rattle.col_numbers.proofs.laws.count_items.Given as goal
->>>>>>>> 95f8bd18032af25d748ea3988573afe4d661086a:crates/col_numbers/proofs/laws/count_items/Invariants.antt
 
 -- what was counted and what is left are the list
 abbrev pub invariant-loop-item : goal.invariant-loop-item
