@@ -6,38 +6,17 @@ use std::alloc::Global;
 use std::process::Abort;
 use std::test::Fail;
 
-// The kinds of indexes: three rows without values; rows with one value each; seven rows of which
-// the first and the last have one value, or two.
-#[derive(Clone, Copy)]
-enum Kind {
-    Empty,
-    Full,
-    Optional,
-    Multivalued,
-}
-
-fn index_of(alloc: Global, kind: Kind) -> Result<ColumnIndex, ColumnarError> {
-    Ok(match kind {
-        Kind::Empty => ColumnIndex::Empty { num_docs: 3 },
-        Kind::Full => ColumnIndex::Full,
-        Kind::Optional => ColumnIndex::from(OptionalIndex::for_test(alloc, 7, &[0, 6])?),
-        Kind::Multivalued => {
-            let starts = [0, 2, 2, 2, 2, 2, 2, 4];
-            ColumnIndex::from(MultiValueIndex::for_test(alloc, &starts)?)
-        }
-    })
-}
-
 // What an index is to answer.
 #[derive(Clone, Copy)]
 struct Answers<'a> {
-    text: &'a str,
     // Documents; those that have values, once for each; and the positions of these.
     docs: &'a [DocId],
     with_values: &'a [DocId],
     positions: &'a [RowId],
     // Rows, from one to behind another, and their positions.
     ranges: &'a [(DocId, DocId, RowId, RowId)],
+    // Whether a row has a value.
+    values: &'a [(DocId, bool)],
 }
 
 fn assert_answers(
@@ -46,72 +25,71 @@ fn assert_answers(
     index: &ColumnIndex,
     answers: Answers<'_>,
 ) -> Result<(), ColumnarError> {
-    for (from, to, start, end) in answers.ranges {
-        let positions = index.docid_range_to_rowids(*from..*to);
-        assert_eq!(rt; positions.start, *start, "rows {from} to {to}");
-        assert_eq!(rt; positions.end, *end, "rows {from} to {to}");
-    }
-    for doc in answers.with_values {
-        assert!(rt; index.has_value(*doc), "row {doc}");
+    assert_ranges(rt, index, answers.ranges);
+    for (row, has) in answers.values {
+        assert_eq!(rt; index.has_value(*row), *has, "row {row}");
     }
     let mut docs = Vec::new(alloc);
     let mut positions = Vec::new(alloc);
     index.docids_to_rowids(answers.docs, &mut docs, &mut positions)?;
     assert_eq!(rt; docs.as_slice(), answers.with_values);
     assert_eq!(rt; positions.as_slice(), answers.positions);
-    let text = format!(in alloc; "{index:?}")?;
-    assert_eq!(rt; text.as_str(), answers.text);
+    Ok(())
+}
+
+fn assert_ranges(rt: &impl Abort, index: &ColumnIndex, ranges: &[(DocId, DocId, RowId, RowId)]) {
+    for (from, to, start, end) in ranges {
+        let positions = index.docid_range_to_rowids(*from..*to);
+        assert_eq!(rt; positions.start, *start, "rows {from} to {to}");
+        assert_eq!(rt; positions.end, *end, "rows {from} to {to}");
+    }
+}
+
+fn assert_text(
+    rt: &impl Abort,
+    alloc: Global,
+    index: &ColumnIndex,
+    text: &str,
+) -> Result<(), Fail> {
+    let shown = format!(in alloc; "{index:?}")?;
+    assert_eq!(rt; shown.as_str(), text);
     Ok(())
 }
 
 #[test]
-fn indexes_answer_of_their_rows(rt: HostRuntime) -> Result<(), Fail> {
+fn rows_with_one_value_each_are_its_position(rt: HostRuntime) -> Result<(), Fail> {
+    let index = ColumnIndex::Full;
+    let answers = Answers {
+        docs: &[4, 2],
+        with_values: &[4, 2],
+        positions: &[4, 2],
+        ranges: &[(3, 6, 3, 6), (6, 3, 6, 6)],
+        values: &[(4, true)],
+    };
     indexes_have_counts();
-    for (kind, answers) in [
-        (
-            Kind::Empty,
-            Answers {
-                text: "Empty { num_docs: 3 }",
-                docs: &[0, 2],
-                with_values: &[],
-                positions: &[],
-                ranges: &[(0, 3, 0, 0)],
-            },
-        ),
-        (
-            Kind::Full,
-            Answers {
-                text: "Full",
-                docs: &[4, 2],
-                with_values: &[4, 2],
-                positions: &[4, 2],
-                ranges: &[(3, 6, 3, 6), (6, 3, 6, 6)],
-            },
-        ),
-        (
-            Kind::Optional,
-            Answers {
-                text: "Optional(OptionalIndex { num_docs: 7, num_non_null_docs: 2, .. })",
-                docs: &[6, 5, 0],
-                with_values: &[6, 0],
-                positions: &[1, 0],
-                ranges: &[(1, 7, 1, 2), (0, 6, 0, 1)],
-            },
-        ),
-        (
-            Kind::Multivalued,
-            Answers {
-                text: "Multivalued(MultiValuedIndex { num_rows: 3, .. })",
-                docs: &[0, 5, 6],
-                with_values: &[0, 0, 6, 6],
-                positions: &[0, 1, 2, 3],
-                ranges: &[(0, 1, 0, 2), (3, 6, 2, 2), (0, 7, 0, 4), (6, 3, 2, 2)],
-            },
-        ),
-    ] {
-        let index = index_of(rt.alloc(), kind)?;
-        assert_answers(&rt, rt.alloc(), &index, answers)?;
-    }
+    assert_answers(&rt, rt.alloc(), &index, answers)?;
+    assert_text(&rt, rt.alloc(), &index, "Full")?;
+    Ok(())
+}
+
+#[test]
+fn rows_with_many_values_have_runs_of_positions(rt: HostRuntime) -> Result<(), Fail> {
+    let index = MultiValueIndex::for_test(rt.alloc(), &[0, 2, 2, 2, 2, 2, 2, 4])?;
+    let answers = Answers {
+        docs: &[0, 5, 6],
+        with_values: &[0, 0, 6, 6],
+        positions: &[0, 1, 2, 3],
+        ranges: &[(3, 6, 2, 2), (6, 7, 2, 4), (6, 3, 2, 2)],
+        values: &[(0, true), (1, false), (6, true), (7, false)],
+    };
+    let index = ColumnIndex::from(index);
+    assert_answers(&rt, rt.alloc(), &index, answers)?;
+    assert_text(
+        &rt,
+        rt.alloc(),
+        &index,
+        "Multivalued(MultiValuedIndex { num_rows: 3, .. })",
+    )?;
     Ok(())
 }
 
@@ -120,10 +98,30 @@ fn positions_lead_back_to_rows_with_many_values(rt: HostRuntime) -> Result<(), F
     let alloc = rt.alloc();
     let index = MultiValueIndex::for_test(alloc, &[0, 10, 12, 15, 22, 23])?;
     assert_eq!(rt; index.num_docs(), 5);
-    assert_eq!(rt; index.next_non_null_doc(1), Some(1));
     let mut ranks = Vec::from_array(alloc, [10, 11, 15, 20, 21, 22])?;
     ColumnIndex::from(index).select_batch_in_place(0, &mut ranks);
     assert_eq!(rt; ranks.as_slice(), [1, 3, 4].as_slice());
+    Ok(())
+}
+
+#[test]
+fn rows_with_one_value_at_most_have_their_rank(rt: HostRuntime) -> Result<(), Fail> {
+    let index = OptionalIndex::for_test(rt.alloc(), 7, &[0, 6])?;
+    let answers = Answers {
+        docs: &[6, 5, 0],
+        with_values: &[6, 0],
+        positions: &[1, 0],
+        ranges: &[(1, 7, 1, 2), (0, 6, 0, 1)],
+        values: &[(0, true), (5, false), (6, true), (7, false)],
+    };
+    let index = ColumnIndex::from(index);
+    assert_answers(&rt, rt.alloc(), &index, answers)?;
+    assert_text(
+        &rt,
+        rt.alloc(),
+        &index,
+        "Optional(OptionalIndex { num_docs: 7, num_non_null_docs: 2, .. })",
+    )?;
     Ok(())
 }
 
@@ -149,11 +147,6 @@ fn ranks_count_the_rows_before(rt: HostRuntime) -> Result<(), Fail> {
             (100, 2, None),
         ],
     );
-    let mut docs = Vec::new(rt.alloc());
-    let mut rows = Vec::new(rt.alloc());
-    index.rank_if_exists_batch(&[0, 5, 6], &mut docs, &mut rows)?;
-    assert_eq!(rt; docs.as_slice(), [0, 6].as_slice());
-    assert_eq!(rt; rows.as_slice(), [0, 1].as_slice());
     Ok(())
 }
 
@@ -166,11 +159,31 @@ fn rows_are_selected_by_their_ranks(rt: HostRuntime) -> Result<(), Fail> {
     let mut ranks = [1, 0, 1];
     index.select_batch(&mut ranks);
     assert_eq!(rt; ranks, [6, 0, 6]);
+    Ok(())
+}
+
+#[test]
+fn rows_with_a_value_are_walked(rt: HostRuntime) -> Result<(), Fail> {
+    let index = OptionalIndex::for_test(rt.alloc(), 7, &[0, 6])?;
     let rows = index.iter_non_null_docs();
     let mut walk = rows.walk();
     assert_eq!(rt; rows.next(&mut walk), Some(0));
     assert_eq!(rt; rows.next(&mut walk), Some(6));
     assert_eq!(rt; rows.next(&mut walk), None);
-    assert_eq!(rt; index.next_non_null_doc(1), Some(6));
+    Ok(())
+}
+
+#[test]
+fn documents_are_kept_where_they_have_a_rank(rt: HostRuntime) -> Result<(), Fail> {
+    let alloc = rt.alloc();
+    let mut docs = Vec::new(alloc);
+    let mut rows = Vec::new(alloc);
+    OptionalIndex::for_test(alloc, 7, &[0, 6])?.rank_if_exists_batch(
+        &[0, 5, 6],
+        &mut docs,
+        &mut rows,
+    )?;
+    assert_eq!(rt; docs.as_slice(), [0, 6].as_slice());
+    assert_eq!(rt; rows.as_slice(), [0, 1].as_slice());
     Ok(())
 }

@@ -4,7 +4,6 @@ use Rattle.col_model.specs.Order.{Order, shuffle}
 use Rattle.col_model.specs.Positions.{picked_counts}
 use Rattle.col_model.specs.Table.{optional}
 use Rattle.col_indexer.specs.Counted.{tightest_of}
-use Rattle.col_index.specs.Indexes.{shape_of}
 use Rattle.col_indexer.specs.Merged.{FitOrder}
 use Rattle.col_order.specs.Orders.{Shuffle}
 use Rattle.col_indexer.proofs.tests.merged.a_shuffle_has_the_tightest_cardinality_of_its_rows.Goals as goal
@@ -33,20 +32,10 @@ pub merge_column_index_shuffled-merged-requires-clause-fit : goal.merge_column_i
 merge_column_index_shuffled-merged-requires-clause-fit g c =
     let shuffled : Shuffle → Order = λ o. shuffle o.counts o.addresses in
     let order = ap shuffled c.in_ok-order.ensures.ok ∙ ap (λ ns. shuffle (2 ∷ 1 ∷ []) ns) c.in_ok-rows.ensures in
-    let first = c.in_ok-try_clone.ensures.ok ∙ ap (λ s. optional_shape (set_counts s)) c.in_ok-optional.ensures.ok in
-    let second = c.in_ok-try_clone-2.ensures.ok in
-    fits_by _ _ order (ap (λ s. s ∷ shape_of c.in_ok-try_clone-2.field-0 ∷ []) first ∙ ap (λ s. optional_shape (set_counts (record { num_rows = 2; rows = 0 ∷ [] })) ∷ s ∷ []) second)
+    fits_by _ _ order (ap (λ s. optional_shape (set_counts s) ∷ full_shape ∷ []) c.in_ok-optional.ensures.ok)
 
 pub merge_column_index_shuffled-merged-requires-clause-cardinality : goal.merge_column_index_shuffled-merged-requires-clause-cardinality
 merge_column_index_shuffled-merged-requires-clause-cardinality g c =
     let addresses : Shuffle → List (ℕ × ℕ) = λ o. o.addresses in
     let named = ap addresses c.in_ok-order.ensures.ok ∙ c.in_ok-rows.ensures in
-    let first = c.in_ok-try_clone.ensures.ok ∙ ap (λ s. optional_shape (set_counts s)) c.in_ok-optional.ensures.ok in
-    let second = c.in_ok-try_clone-2.ensures.ok in
-    tight_by _ _ named (ap (λ s. s ∷ shape_of c.in_ok-try_clone-2.field-0 ∷ []) first ∙ ap (λ s. optional_shape (set_counts (record { num_rows = 2; rows = 0 ∷ [] })) ∷ s ∷ []) second)
-
-pub merge_column_index-requires : goal.merge_column_index-requires
-merge_column_index-requires g c =
-    let shuffled : Shuffle → Order = λ o. shuffle o.counts o.addresses in
-    let order = c.from-order.ensures ∙ ap shuffled c.in_ok-order.ensures.ok ∙ ap (λ ns. shuffle (2 ∷ 1 ∷ []) ns) c.in_ok-rows.ensures in
-    fits_by _ _ order (ap (λ s. optional_shape (set_counts s) ∷ full_shape ∷ []) c.in_ok-optional.ensures.ok)
+    tight_by _ _ named (ap (λ s. optional_shape (set_counts s) ∷ full_shape ∷ []) c.in_ok-optional.ensures.ok)
