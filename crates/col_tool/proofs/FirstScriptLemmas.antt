@@ -36,10 +36,6 @@ or_from_right : (x y : Bool) → y ≡ true → (x || y) ≡ true
 or_from_right true y h = refl
 or_from_right false y h = h
 
-or_assoc : (x y z : Bool) → (x || (y || z)) ≡ ((x || y) || z)
-or_assoc true y z = refl
-or_assoc false y z = refl
-
 or_swap : (x y z : Bool) → ((x || y) || z) ≡ (y || (x || z))
 or_swap true true z = refl
 or_swap true false z = refl

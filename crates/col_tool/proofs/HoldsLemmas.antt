@@ -24,6 +24,7 @@ use Rattle.col_model.specs.Recording.{Call, recorded, typed}
 use Rattle.col_model.specs.FirstScript.{doc_of, is_first_segment}
 use Rattle.col_model.specs.FirstTable.{typed_name, value_of, first_column, first_table}
 use Rattle.col_tool.specs.Columns.{numbers_at, numbers_of, numbers_with, HasNumbers}
+use Rattle.col_model.proofs.ListLaws.{all_push}
 use Rattle.col_model.proofs.StatsLaws.{all_by}
 use Rattle.col_tool.specs.Draft.{HoldsCalls}
 use Rattle.col_tool.proofs.FirstScriptLemmas.{false_unless, same_bytes, bytes_eq-refl, no_zero_name, is_typed, are_typed-type, are_typed-value, refused-short, accepted, refused-untyped, refused-doc}
@@ -65,10 +66,6 @@ or_true false = refl
 or_false : (x : Bool) → x ≡ (x || false)
 or_false true = refl
 or_false false = refl
-
-all_push : {A : Type 0} (P : A → Type 0) (xs : List A) (x : A) → AllByRecursion P xs → P x → AllByRecursion P (xs ++ x ∷ [])
-all_push P [] x all p = (p, tt)
-all_push P (y ∷ xs) x all p = (all.0, all_push P xs x all.1 p)
 
 -- what holds of each name holds of one that is among them
 one_of : (p : List ℕ → Bool) (name : List ℕ) (names : List (List ℕ)) → list_all p names ≡ true → list_any (bytes_eq name) names ≡ true → p name ≡ true

@@ -11,6 +11,7 @@ use Rattle.std.specs.Map.{lookup}
 use Rattle.std.proofs.lemmas.Bool.{true≢false}
 use Rattle.std.proofs.lemmas.Cmp.{nat_list_cmp_total}
 use Rattle.std.proofs.lemmas.Map.Text.{is_eq-slice_cmp}
+use Rattle.col_model.proofs.DistinctLaws.{sorted-with_item}
 use Rattle.col_model.proofs.StatsLaws.{all_by, all_both, all_mapped}
 use Rattle.col_model.specs.Ascending.{is_ascending}
 use Rattle.col_model.specs.Sorted.{with_item, distinct_items}
@@ -33,25 +34,6 @@ apart_back : (x y : List ℕ) → by_bytes x y ≡ Less → bytes_eq x y ≡ fal
 apart_back x y h = false_unless (bytes_eq x y) (λ e. let P : List ℕ → Type 0 = λ z. by_bytes z y ≡ Less in not_below y (subst P (same_bytes x y e) h))
 
 -- ---- one more name
-
-below-with_item : (y x : List ℕ) (zs : List (List ℕ)) → by_bytes y x ≡ Less → AllByRecursion (λ z. by_bytes y z ≡ Less) zs → AllByRecursion (λ z. by_bytes y z ≡ Less) (with_item by_bytes x zs)
-below-with_item y x [] h all = (h, tt)
-below-with_item y x (z ∷ zs) h all = go (by_bytes x z) (below-with_item y x zs h all.1)
-  where
-    go : (o : Ordering) → AllByRecursion (λ z. by_bytes y z ≡ Less) (with_item by_bytes x zs) → AllByRecursion (λ z. by_bytes y z ≡ Less) (match_ordering o (x ∷ z ∷ zs) (z ∷ zs) (z ∷ with_item by_bytes x zs))
-    go Less rest = (h, all)
-    go Equal rest = all
-    go Greater rest = (all.0, rest)
-
-in_order-with_item : (x : List ℕ) (zs : List (List ℕ)) → AreInOrder zs → AreInOrder (with_item by_bytes x zs)
-unfolding IsStrictlySortedBy
-in_order-with_item x [] s = (tt, tt)
-in_order-with_item x (z ∷ zs) s = go (by_bytes x z) refl (in_order-with_item x zs s.1)
-  where
-    go : (o : Ordering) → by_bytes x z ≡ o → AreInOrder (with_item by_bytes x zs) → AreInOrder (match_ordering o (x ∷ z ∷ zs) (z ∷ zs) (z ∷ with_item by_bytes x zs))
-    go Less e rest = ((e, all_by (λ y h. nat_list_cmp_total.trans x z y e h) zs s.0), s)
-    go Equal e rest = s
-    go Greater e rest = (below-with_item z x zs (nat_list_cmp_total.antisymm z x ∙ ap ordering_reverse e) s.0, rest)
 
 any-with_item : (p : List ℕ → Bool) (x : List ℕ) (zs : List (List ℕ)) → list_any p (with_item by_bytes x zs) ≡ (p x || list_any p zs)
 any-with_item p x [] = refl
@@ -78,7 +60,7 @@ any-with_item p x (z ∷ zs) = go (by_bytes x z) refl (any-with_item p x zs)
 pub in_order-distinct_items : (xs : List (List ℕ)) → AreInOrder (distinct_items (slice_cmp nat_cmp) xs)
 unfolding distinct_items IsStrictlySortedBy
 in_order-distinct_items [] = tt
-in_order-distinct_items (x ∷ xs) = in_order-with_item x (distinct_items (slice_cmp nat_cmp) xs) (in_order-distinct_items xs)
+in_order-distinct_items (x ∷ xs) = sorted-with_item (slice_cmp nat_cmp) nat_list_cmp_total x (distinct_items (slice_cmp nat_cmp) xs) (in_order-distinct_items xs)
 
 pub any-distinct_items : (p : List ℕ → Bool) (xs : List (List ℕ)) → list_any p (distinct_items (slice_cmp nat_cmp) xs) ≡ list_any p xs
 unfolding distinct_items

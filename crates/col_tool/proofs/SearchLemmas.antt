@@ -4,23 +4,19 @@ use Rattle.std.specs.declared.cmp.Ordering.{Ordering}
 use Rattle.std.specs.declared.cmp.Ordering.TheVariants.{Less, Equal, Greater}
 use Rattle.std.specs.Fn.{Called, AlwaysReturns, ReturnsEach}
 use denote.Param.Members.{Mut}
-use Rattle.std.specs.Ordering.{nat_cmp, is_lt, is_eq, ordering_index}
+use Rattle.std.specs.Ordering.{nat_cmp, is_eq, ordering_index}
 use Rattle.std.specs.Cmp.Lexicographic.{slice_cmp}
 use Rattle.std.specs.List.Sorted.{IsNonDecreasingBy, IsBinarySearchResult}
-use Rattle.std.proofs.lemmas.Bool.{and_parts, false≢true, cases_lt}
+use Rattle.std.proofs.lemmas.Bool.{and_parts, cases_lt}
 use Rattle.std.proofs.lemmas.Cmp.{nat_list_cmp_total}
 use Rattle.std.proofs.lemmas.Map.Lookups.{exact_bytes}
 use Rattle.std.proofs.lemmas.Map.Text.{is_eq-slice_cmp}
 use Rattle.std.proofs.lemmas.List.Sorted.{IsNonDecreasingBy-from_all_adjacent}
 use Rattle.col_model.specs.Ascending.{is_before, is_ascending}
+use Rattle.col_model.proofs.OrderingLaws.{less_where}
 use Rattle.col_numbers.specs.NumValues.{num_values_of}
 use Rattle.col_tool.specs.declared.column.NamedColumn.{NamedColumn}
 use Rattle.col_tool.specs.Opened.{opened, numbers_named}
-
-less-from_test : (o : Ordering) → is_lt o ≡ true → o ≡ Less
-less-from_test Less e = refl
-less-from_test Equal e = absurd (false≢true e)
-less-from_test Greater e = absurd (false≢true e)
 
 index-bound : (o : Ordering) → ordering_index o ≤ 2
 index-bound Less = omega arith
@@ -39,7 +35,7 @@ module _ {A : Type 0} (f : A → List ℕ) where
   adjacent : (xs : List A) (k : ℕ) (d : A) → suc k < length xs → is_ascending (map f xs) ≡ true → slice_cmp nat_cmp (f (get_or xs k d)) (f (get_or xs (suc k) d)) ≡ Less
   adjacent [] k d h e = absurd (omega arith)
   adjacent (x ∷ []) k d h e = absurd (omega arith)
-  adjacent (x ∷ y ∷ xs) zero d h e = less-from_test _ (and_parts (is_before (f x) (f y)) _ e).0
+  adjacent (x ∷ y ∷ xs) zero d h e = less_where _ (and_parts (is_before (f x) (f y)) _ e).0
   adjacent (x ∷ y ∷ xs) (suc k) d h e = adjacent (y ∷ xs) k d (omega arith) (and_parts (is_before (f x) (f y)) _ e).1
 
   pairwise : (xs : List A) (i j : ℕ) (d : A) → i < j → j < length xs → is_ascending (map f xs) ≡ true → slice_cmp nat_cmp (f (get_or xs i d)) (f (get_or xs j d)) ≡ Less

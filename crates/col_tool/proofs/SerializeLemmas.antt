@@ -1,5 +1,5 @@
 -- Parts that are serialized one behind another, and what they are together.
-use Rattle.std.proofs.Common.{◌≡◌, ℕ, suc, ◌+◌, ◌^◌, ◌<◌, List, [], ◌∷◌, ◌++◌, length, map, flat_map, Result, Ok, Err, Some, IfSome, IfErr, String, Vec, string_bytes, refl, sym, ap, ap₂, ◌∙◌, subst, append_assoc, length-append, inl}
+use Rattle.std.proofs.Common.{◌≡◌, ℕ, suc, ◌+◌, ◌^◌, ◌<◌, List, [], ◌∷◌, ◌++◌, length, map, flat_map, Result, Ok, Err, IfSome, String, Vec, string_bytes, refl, sym, ap, ap₂, ◌∙◌, append_assoc, length-append}
 use Rattle.std.specs.List.{AllByRecursion}
 use Rattle.std.specs.Int.{w32, w64, to_le_bytes}
 use Rattle.std.specs.declared.alloc.Global.{Global}
@@ -9,38 +9,20 @@ use Rattle.col_common.specs.Outside.{SeenSink}
 use Rattle.col_common.specs.VInt.{vint_bytes}
 use Rattle.col_common.specs.Serializing.{Serializes}
 use Rattle.col_common.specs.declared.error.ColumnarError.{ColumnarError}
-use Rattle.col_common.specs.declared.error.ColumnarError.TheVariants.{OutOfMemory}
 use Rattle.col_common.proofs.SerializingLemmas.{serializes-as, serializes-nothing, serializes-refused, serializes-then}
 use Rattle.col_model.specs.U64List.{bitpacked_bytes, joined_lists}
 use Rattle.col_model.specs.Codecs.{chosen_codec, codec_bytes}
 use Rattle.col_model.specs.ColumnType as types
-use Rattle.col_model.specs.Version.{version_bytes}
+use Rattle.col_model.specs.Version.{current_version, magic}
 use Rattle.col_model.specs.Spelling.{column_bytes, keyed_length_bytes, keyed_lengths, key_table_bytes, footer_bytes, file_bytes}
 use Rattle.col_model.specs.FullColumns.{full_column_bytes, full_columns, u64_columns, number_file, NamedNumbers}
 use Rattle.col_model.proofs.ChosenLaws.{codec_bytes-bitpacked}
 
--- a step behind it wrote nothing, and can want memory alone
-pub serialized_unless_memory : (a b : SeenSink) (done : Unit {0}) (result : Result (Unit {0}) ColumnarError) (xs : List ℕ) → Serializes a b (Ok done) xs → IfErr result (λ e. e ≡ OutOfMemory) → Serializes a b result xs
-serialized_unless_memory a b done (Ok end) xs first h = record {
-  ok = first.ok;
-  grown = first.grown;
-  later = first.later;
-  write_fault = λ e. absurd (cc);
-  causes = tt;
-}
-serialized_unless_memory a b done (Err e) xs first h = record {
-  ok = tt;
-  grown = first.grown;
-  later = first.later;
-  write_fault = λ f. absurd (cc);
-  causes = inl h;
-}
-
 -- ---- the parts of a file
 
-pub footer-parts : (table_length row_count : ℕ) (a b : List ℕ) → a ≡ to_le_bytes w64 table_length → b ≡ to_le_bytes w32 row_count → (a ++ b) ++ version_bytes ≡ footer_bytes table_length row_count
+pub footer-parts : (table_length row_count : ℕ) (a b c : List ℕ) → a ≡ to_le_bytes w64 table_length → b ≡ to_le_bytes w32 row_count → c ≡ to_le_bytes w32 current_version → ((a ++ b) ++ c) ++ magic ≡ footer_bytes table_length row_count
 unfolding footer_bytes
-footer-parts table_length row_count a b e f = append_assoc a b version_bytes ∙ ap₂ (λ x y. x ++ (y ++ version_bytes)) e f
+footer-parts table_length row_count a b c e f h = append_assoc (a ++ b) c magic ∙ append_assoc a b (c ++ magic) ∙ ap₂ (λ x y. x ++ (y ++ (c ++ magic))) e f ∙ ap (λ v. to_le_bytes w64 table_length ++ (to_le_bytes w32 row_count ++ (v ++ magic))) h
 
 pub full_column-parts : (xs end : List ℕ) → end ≡ to_le_bytes w64 1 → ((0 ∷ []) ++ bitpacked_bytes xs) ++ end ≡ full_column_bytes xs
 unfolding column_bytes

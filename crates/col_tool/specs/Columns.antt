@@ -16,7 +16,8 @@ numbers_at ps name = lookup (bytes_eq name) ps
 
 -- the second columns are the first ones, with these numbers under this name
 abbrev pub HasNumbers : List NamedNumbers → List ℕ → List ℕ → List NamedNumbers → Type 0
-HasNumbers old name xs new = (other : List ℕ) → numbers_at new other ≡ (if bytes_eq other name then Some xs else numbers_at old other)
+HasNumbers old name xs new = (other : List ℕ)
+    → numbers_at new other ≡ (if bytes_eq other name then Some xs else numbers_at old other)
 
 -- the numbers of the column of this name, none where it has no column
 abbrev pub numbers_of : List NamedNumbers → List ℕ → List ℕ
@@ -24,4 +25,5 @@ numbers_of ps name = unwrap_or (numbers_at ps name) []
 
 -- the numbers of the column of this name and one more, which must be that of the next document
 abbrev pub numbers_with : List NamedNumbers → List ℕ → ℕ → ℕ → Option (List ℕ)
-numbers_with ps name doc value = numbers_at ps name >>= λ xs. only_if (length xs == doc) (xs ++ value ∷ [])
+numbers_with ps name doc value =
+    numbers_at ps name >>= λ xs. only_if (length xs == doc) (xs ++ value ∷ [])

@@ -5,14 +5,17 @@ use Rattle.col_model.specs.Table.{Table}
 use Rattle.col_model.specs.File.{StandsFor}
 
 -- The output grew by a file that stands for the table, and the report by these lines.
-pub record Merged (output output' report report' : SeenSink) (table : Table) (lines : List ℕ) : Type 0 where
+pub record Merged
+    (output output' report report' : SeenSink) (table : Table) (lines : List ℕ) : Type 0 where
   pub file : List ℕ
   pub stands : StandsFor table file
   pub in_output : Appends output output' file
   pub in_report : Appends report report' lines
 
--- The output grew by the front of a file that stands for the table, and the report by the front of these lines, but only behind the whole file.
-pub record CutShort (output output' report report' : SeenSink) (table : Table) (lines : List ℕ) : Type 0 where
+-- The output grew by the front of a file that stands for the table,
+-- and the report by the front of these lines, but only behind the whole file.
+pub record CutShort
+    (output output' report report' : SeenSink) (table : Table) (lines : List ℕ) : Type 0 where
   pub file : List ℕ
   pub stands : StandsFor table file
   pub of_file : ℕ

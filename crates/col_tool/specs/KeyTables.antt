@@ -24,4 +24,8 @@ keys_seen ks = map (λ p. p.0) (all_keyed ks)
 
 -- what the end of a file says
 abbrev pub file_keys : ColumnarKeys → FileKeys
-file_keys k = record { row_count = k.num_docs; version = k.version; entries = entries_from 0 (all_keyed k.columns.items) }
+file_keys k = record {
+  row_count = k.num_docs;
+  version = k.version;
+  entries = entries_from 0 (all_keyed k.columns.items);
+}

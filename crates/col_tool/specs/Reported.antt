@@ -18,7 +18,8 @@ number_column p = full_column (record { name = p.0; column_type = types.u64 }, p
 
 -- the line of such a column
 abbrev pub number_column_line : NamedNumbers → Data
-number_column_line p = list_data (string (codes "column") ∷ string p.0 ∷ string (codes "u64") ∷ string (codes "full") ∷ count_data (length p.1) ∷ [])
+number_column_line p = list_data (string (codes "column") ∷ string p.0 ∷ string (codes "u64")
+    ∷ string (codes "full") ∷ count_data (length p.1) ∷ [])
 
 -- the line of a row with one number
 abbrev pub number_line : ℕ × ℕ → Data
@@ -30,4 +31,5 @@ number_lines first xs = map number_line (enumerate_from first xs)
 
 -- the line of a lookup of a u64 column
 abbrev pub found_line : List ℕ → Data → Data
-found_line name found = list_data (string (codes "find") ∷ string name ∷ string (codes "u64") ∷ found ∷ [])
+found_line name found =
+    list_data (string (codes "find") ∷ string name ∷ string (codes "u64") ∷ found ∷ [])

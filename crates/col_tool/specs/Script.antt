@@ -38,28 +38,36 @@ abbrev pub script_after : Draft → List Call → List model.Line → Option mod
 script_after draft calls ls = script_with draft.num_docs calls (map find_of draft.finds.items) ls
 
 -- the draft behind one more line, with these record calls
-pub record IsNext (line : model.Line) (calls : List Call) (old new : Draft) (after : List Call) : Type 0 where
+pub record IsNext
+    (line : model.Line) (calls : List Call) (old new : Draft) (after : List Call) : Type 0 where
   pub draft : IsDraft after new
-  pub follows : (ls : List model.Line) → script_after old calls (line ∷ ls) ≡ script_after new after ls
+  pub follows : (ls : List model.Line)
+      → script_after old calls (line ∷ ls) ≡ script_after new after ls
 
 -- the line is in the new draft; where it isn't taken, no script goes on with it
 abbrev pub Takes : model.Line → Draft → Draft → Bool → Type 0
 Takes line old new taken = (calls : List Call) → IsDraft calls old
-    → MatchBool taken ((after : List Call) × IsNext line calls old new after) ((ls : List model.Line) → script_after old calls (line ∷ ls) ≡ None)
+    → MatchBool taken ((after : List Call) × IsNext line calls old new after)
+    ((ls : List model.Line) → script_after old calls (line ∷ ls) ≡ None)
 
--- the script of the first form of a draft and of the pieces behind it, among which empty ones count for nothing
+-- the script of the first form of a draft and of the pieces behind it,
+-- among which empty ones count for nothing
 abbrev pub script_behind : Draft → List Call → List (List ℕ) → Option model.Script
-script_behind draft calls pieces = for_each (model.line_spelled_by first_shapes) (filter (λ piece. nat_lt 0 (length piece)) pieces) >>= script_after draft calls
+script_behind draft calls pieces =
+    for_each (model.line_spelled_by first_shapes) (filter (λ piece. nat_lt 0 (length piece)) pieces)
+    >>= script_after draft calls
 
 -- a draft that comes to this script with the pieces behind it
-pub record ComesTo (expected : Option model.Script) (pieces : List (List ℕ)) (draft : Draft) : Type 0 where
+pub record ComesTo
+    (expected : Option model.Script) (pieces : List (List ℕ)) (draft : Draft) : Type 0 where
   pub calls : List Call
   pub stands : IsDraft calls draft
   pub script : script_behind draft calls pieces ≡ expected
 
 -- the draft comes to the same with one piece less behind it; where it isn't taken, that is no script
 abbrev pub TakesPiece : List ℕ → Draft → Draft → Bool → Type 0
-TakesPiece piece old new taken = (expected : Option model.Script) (pieces : List (List ℕ)) → ComesTo expected (piece ∷ pieces) old
+TakesPiece piece old new taken = (expected : Option model.Script) (pieces : List (List ℕ))
+    → ComesTo expected (piece ∷ pieces) old
     → MatchBool taken (ComesTo expected pieces new) (expected ≡ None)
 
 -- the pieces of what is left

@@ -1,7 +1,5 @@
 //! Columns of an open file.
 ghost use Rattle.std.specs.Prelude.{◌≡◌, ◌+◌, ◌^◌, ◌<◌, ◌≤◌, true, length, map, find, option_map, bytes_eq, string_bytes};
-ghost use Rattle.std.specs.Int.{w64};
-ghost use Rattle.col_common.specs.Reading.{parts_by_first};
 ghost use Rattle.col_common.specs.Decoding.{Decodes};
 ghost use Rattle.col_model.specs.Ascending.{is_ascending};
 ghost use Rattle.col_model.specs.File.{for_each};
@@ -15,9 +13,8 @@ ghost use Rattle.col_tool.specs.Opened.{opened};
 use crate::column_key::ColumnKey;
 use crate::column_type::ColumnType;
 use crate::key_table::KeyedLength;
-use crate::reading::{U64_NUM_BYTES, whole_number};
 use bytes::Bytes;
-use col_common::ColumnarError;
+use col_common::{ColumnarError, cut_by_first};
 use col_numbers::{NumValues, load_u64_based_column_values};
 use col_values::ColumnValues;
 use std::alloc::Global;
@@ -58,7 +55,8 @@ pub fn open_columns(
 /// The column of a name, among columns whose names ascend.
 pub fn find_column<'a>(columns: &'a [NamedColumn], name: &str) -> Option<&'a NamedColumn>
     requires { is_ascending (map (λ c. string_bytes c.name) columns.now) ≡ true }
-    ensures { option_map (λ c. c.now) result ≡ find (λ c. bytes_eq (string_bytes c.name) name.now) columns.now }
+    ensures { option_map (λ c. c.now) result
+        ≡ find (λ c. bytes_eq (string_bytes c.name) name.now) columns.now }
 {
     match columns.binary_search_by(|column| column.name.as_str().cmp(name)) {
         Ok(at) => Some(&columns[at]),
@@ -98,7 +96,7 @@ pub fn open_column_u64(
 ) -> Result<NumValues<u64>, ColumnarError>
     ensures { Decodes num_values_of result (full_numbers column num_docs) }
 {
-    let (index, values) = index_and_values(column)?;
+    let (index, values) = cut_by_first(column)?;
     if index.as_slice() != FULL_INDEX.as_slice() {
         return Err(ColumnarError::InvalidData);
     }
@@ -114,22 +112,4 @@ fn load_numbers(alloc: Global, values: Bytes) -> Result<NumValues<u64>, Columnar
     ensures { Decodes num_values_of result (values64 values) }
 {
     load_u64_based_column_values::<u64>(alloc, values)
-}
-
-// The two parts of a column, behind which the length of the first stands.
-#[tactic(auto, unfolding(col_common::specs::Reading::parts_by_first))]
-fn index_and_values(column: Bytes) -> Result<(Bytes, Bytes), ColumnarError>
-    ensures { Decodes (λ p. (p.0, p.1)) result (parts_by_first w64 column) }
-{
-    let mut parts = column;
-    if parts.len() < U64_NUM_BYTES {
-        return Err(ColumnarError::InvalidData);
-    }
-    let index_len = parts.split_off(parts.len() - U64_NUM_BYTES)?;
-    let index_len = whole_number(index_len.as_slice());
-    if index_len as usize > parts.len() {
-        return Err(ColumnarError::InvalidData);
-    }
-    let index = parts.split_to(index_len as usize)?;
-    Ok((index, parts))
 }

@@ -20,7 +20,8 @@ impl ColumnKey {
 
     /// Whether the key's bytes stand before the other's: by name, then by the type's code.
     pub fn is_before(&self, other: &ColumnKey) -> bool
-        ensures { result ≡ is_before (key_bytes (key_seen self.now)) (key_bytes (key_seen other.now)) }
+        ensures { result
+            ≡ is_before (key_bytes (key_seen self.now)) (key_bytes (key_seen other.now)) }
     {
         let by_name = self.name.as_str().cmp(other.name.as_str());
         let by_code = self.column_type.to_code().cmp(&other.column_type.to_code());

@@ -6,19 +6,13 @@ ghost use Rattle.col_model.specs.Keys.{file_footer};
 ghost use Rattle.col_model.specs.Spelling.{footer_bytes};
 ghost use Rattle.col_tool.specs.Footers.{footer_of};
 
-use crate::reading::{u32_at, u64_at};
-use col_common::{ColumnarError, Sink, serialize_bytes};
+use col_common::{ColumnarError, Sink, serialize_bytes, u32_at, u64_at};
 use col_model::CURRENT_VERSION;
-
-/// How many bytes the version and the magic bytes take.
-pub const VERSION_FOOTER_NUM_BYTES: usize = 8;
-
-// The version that is written, and the magic bytes.
-const VERSION_FOOTER: [u8; VERSION_FOOTER_NUM_BYTES] = [2, 0, 0, 0, 2, 0x71, 0x77, 0x42];
 
 /// How many bytes a footer takes.
 pub const FOOTER_NUM_BYTES: u64 = 20;
 
+// The last bytes of a file.
 const MAGIC_BYTES: [u8; 4] = [2, 0x71, 0x77, 0x42];
 
 /// What the last bytes of a file say.
@@ -67,5 +61,6 @@ pub fn serialize_footer<K: Sink>(
 {
     serialize_bytes(sink, &key_table_len.to_le_bytes())?;
     serialize_bytes(sink, &num_docs.to_le_bytes())?;
-    serialize_bytes(sink, &VERSION_FOOTER)
+    serialize_bytes(sink, &CURRENT_VERSION.to_le_bytes())?;
+    serialize_bytes(sink, &MAGIC_BYTES)
 }

@@ -12,8 +12,7 @@ ghost use Rattle.col_tool.specs.KeyTables.{key_seen, keyed, all_keyed, keys_seen
 use crate::column_key::ColumnKey;
 use crate::column_type::ColumnType;
 use crate::footer::{FOOTER_NUM_BYTES, parse_footer};
-use crate::reading::{back_of, front_of};
-use col_common::{ColumnarError, read_vint};
+use col_common::{ColumnarError, back_of, front_of, read_vint};
 use std::alloc::Global;
 use std::str;
 
@@ -81,7 +80,8 @@ fn parse_keyed_lengths(
     count: u64,
     bytes: &[u8],
 ) -> Result<(Vec<KeyedLength>, &[u8]), ColumnarError>
-    ensures { Decodes (λ p. (all_keyed p.0.items, p.1.now)) result (items keyed_length count bytes.now) }
+    ensures { Decodes (λ p. (all_keyed p.0.items, p.1.now)) result
+        (items keyed_length count bytes.now) }
 {
     let mut found = Vec::new(alloc);
     let mut rest = bytes;
@@ -165,7 +165,8 @@ fn keys_ascend(keys: &[KeyedLength]) -> bool
 
 // Whether the names of the numerical columns ascend.
 fn numerical_names_ascend(keys: &[KeyedLength]) -> bool
-    ensures { result ≡ is_ascending (map (λ k. k.name) (filter (λ k. is_numerical k.column_type) (keys_seen keys.now))) }
+    ensures { result ≡ is_ascending
+        (map (λ k. k.name) (filter (λ k. is_numerical k.column_type) (keys_seen keys.now))) }
 {
     let mut last: Option<&str> = None;
     for entry in keys {

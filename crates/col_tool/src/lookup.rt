@@ -19,7 +19,8 @@ pub fn docids_for_value_range(
     from: u32,
     to: u32,
 ) -> Result<Vec<u32>, AllocError>
-    ensures { IfOk result (λ docs. docs.items ≡ docs_between (full_content (num_values_of values.now))
+    ensures { IfOk result (λ docs. docs.items
+        ≡ docs_between (full_content (num_values_of values.now))
         (cells.number (pos lo)) (cells.number (pos hi)) from to) }
 {
     let mut docs = Vec::new(alloc);

@@ -4,7 +4,7 @@ ghost use Rattle.col_model.specs.FullColumns.{number_file, AreNumberColumns};
 
 use crate::script::Script;
 use bytes::Bytes;
-use col_common::VecSink;
+use col_common::Buffer;
 use std::alloc::{AllocError, Global};
 
 /// The file of the only segment, or of a table without rows.
@@ -14,16 +14,13 @@ pub fn merge_columnar(alloc: Global, script: &Script) -> Result<Bytes, AllocErro
     ensures rows { script.now.num_docs < 2 ^ 32 }
     ensures fits { IfOk result (λ file. length file < 2 ^ 64) }
 {
-    let mut sink = VecSink::new(Vec::new(alloc), Vec::new(alloc));
-    // No call of this sink is to fail, so a refusal is want of memory.
-    if script
-        .columns
-        .serialize(alloc, script.num_docs, &mut sink)
-        .is_err()
-    {
+    let mut file = Buffer::new(alloc);
+    let written = script.columns.serialize(alloc, script.num_docs, &mut file);
+    // Bytes in memory refuse a write for want of memory alone.
+    if written.is_err() {
         return Err(AllocError);
     }
-    let file = Bytes::from_vec(sink.into_bytes())?;
+    let file = Bytes::from_vec(file.into_bytes())?;
     let _len = file.len();
     Ok(file)
 }

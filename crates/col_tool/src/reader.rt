@@ -65,7 +65,8 @@ impl ColumnarReader {
 
     /// The numbers of the column of this name.
     pub fn column(&self, name: &str) -> Option<&NumValues<u64>>
-        ensures { option_map (λ values. num_values_of values.now) result ≡ numbers_named name.now self.now.1 }
+        ensures { option_map (λ values. num_values_of values.now) result
+            ≡ numbers_named name.now self.now.1 }
     {
         match find_column(&self.columns, name) {
             Some(column) => Some(&column.values),

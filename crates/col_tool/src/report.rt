@@ -67,7 +67,8 @@ fn column_value(alloc: Global, column: &NamedColumn) -> Result<Value, AllocError
 }
 
 fn push_rows(alloc: Global, lines: &mut Vec<u8>, values: &NumValues<u64>) -> Result<(), AllocError>
-    ensures { OnOk result (Prints lines.old.items lines.new.items (number_lines 0 (num_values_of values.now))) }
+    ensures { OnOk result (Prints lines.old.items lines.new.items
+        (number_lines 0 (num_values_of values.now))) }
 {
     for row in 0..values.num_vals() {
         let value = row_value(alloc, row, values.get_val(row))?;
@@ -89,7 +90,8 @@ fn push_finds(
     finds: &[Find],
 ) -> Result<(), AllocError>
     ensures { OnOk result (Prints lines.old.items lines.new.items
-        (map (λ f. find_line (number_table reader.now.0 reader.now.1) false (find_of f)) finds.now)) }
+        (map (λ f. find_line (number_table reader.now.0 reader.now.1) false (find_of f))
+        finds.now)) }
 {
     for find in finds {
         let found = found_value(alloc, reader, find)?;

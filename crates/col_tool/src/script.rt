@@ -71,7 +71,8 @@ struct Draft {
 
 impl Draft {
     fn new(alloc: Global) -> Draft
-        ensures { (bytes : List ℕ) → ComesTo (first_script_of bytes) (slice_split (λ b. b == 10) bytes) result }
+        ensures { (bytes : List ℕ)
+            → ComesTo (first_script_of bytes) (slice_split (λ b. b == 10) bytes) result }
     {
         Draft {
             num_docs: None,
@@ -115,7 +116,8 @@ impl Draft {
     }
 
     fn take_type(&mut self, alloc: Global, name: String) -> Result<bool, AllocError>
-        ensures { IfOk result (Takes (model.call (typed (string_bytes name) types.u64 false)) self.old self.new) }
+        ensures { IfOk result
+            (Takes (model.call (typed (string_bytes name) types.u64 false)) self.old self.new) }
     {
         if self.num_docs.is_none() {
             return Ok(false);
@@ -128,12 +130,13 @@ impl Draft {
     }
 
     fn take_value(&mut self, doc: u32, name: &str, value: u64) -> Result<bool, AllocError>
-        ensures { IfOk result (Takes (model.call (recorded doc name.now types.u64 (number (pos value)))) self.old self.new) }
+        ensures { IfOk result (Takes
+            (model.call (recorded doc name.now types.u64 (number (pos value)))) self.old self.new) }
     {
         if self.num_docs.is_none() {
             return Ok(false);
         }
-        let taken = self.columns.record(doc, name, value)?;
+        let taken = self.columns.record_numerical(doc, name, value)?;
         Ok(taken)
     }
 
@@ -149,7 +152,8 @@ impl Draft {
 
     // The script, if no lines are behind the draft.
     fn finish(self, alloc: Global) -> Option<Script>
-        ensures { (expected : Option model.Script) → ComesTo expected [] self → IsScriptOf expected result }
+        ensures { (expected : Option model.Script)
+            → ComesTo expected [] self → IsScriptOf expected result }
     {
         let Draft {
             num_docs,

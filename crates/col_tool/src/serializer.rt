@@ -1,8 +1,7 @@
 //! The bytes of a file, written from its columns.
-ghost use Rattle.std.specs.Prelude.{◌≡◌, ◌++◌, ◌^◌, ◌<◌, ℕ, List, length, map, flat_map, IfOk, IfErr, OnOk};
+ghost use Rattle.std.specs.Prelude.{◌≡◌, ◌++◌, ◌^◌, ◌<◌, ℕ, List, length, map, flat_map, IfOk, OnOk};
 ghost use Rattle.std.specs.List.{AllByRecursion};
 ghost use Rattle.col_common.specs.Serializing.{Serializes};
-ghost use Rattle.col_common.specs.declared.error.ColumnarError.TheVariants as refusals;
 ghost use Rattle.col_model.specs.U64List.{bitpacked_bytes, joined_lists};
 ghost use Rattle.col_model.specs.ColumnType as types;
 ghost use Rattle.col_model.specs.Keys.{Key};
@@ -15,7 +14,7 @@ use crate::column_type::ColumnType;
 use crate::footer::serialize_footer;
 use col_common::{Buffer, ColumnarError, Sink, VInt, serialize_bytes};
 use col_numbers::{CodecType, serialize_u64_based_column_values};
-use std::alloc::Global;
+use std::alloc::{AllocError, Global};
 use std::collections::BTreeMap;
 
 // The codecs that the numbers of a column may be written under.
@@ -48,9 +47,10 @@ fn serialize_columns<K: Sink>(
 ) -> Result<(), ColumnarError>
     requires { AllByRecursion (λ p. length p.1 < 2 ^ 32) (named_numbers columns.now) }
     ensures columns { Serializes (K.seen sink.old) (K.seen sink.new)
-        result (joined_lists (map (λ p. p.1) (full_columns (u64_columns (named_numbers columns.now))))) }
-    ensures table { OnOk result (table.new ≡ table.old
-        ++ flat_map keyed_length_bytes (keyed_lengths (full_columns (u64_columns (named_numbers columns.now))))) }
+        result (joined_lists
+        (map (λ p. p.1) (full_columns (u64_columns (named_numbers columns.now))))) }
+    ensures table { OnOk result (table.new ≡ table.old ++ flat_map keyed_length_bytes
+        (keyed_lengths (full_columns (u64_columns (named_numbers columns.now))))) }
 {
     for (name, values) in columns.iter() {
         serialize_column(alloc, name, values, sink, table)?;
@@ -69,23 +69,26 @@ fn serialize_column<K: Sink>(
     requires { length values.now < 2 ^ 32 }
     ensures column { Serializes (K.seen sink.old) (K.seen sink.new)
         result (full_column_bytes values.now) }
-    ensures table { OnOk result (table.new ≡ table.old
-        ++ keyed_length_bytes (record { name = name.now; column_type = types.u64 }, length (full_column_bytes values.now))) }
+    ensures table { OnOk result (table.new ≡ table.old ++ keyed_length_bytes
+        (record { name = name.now; column_type = types.u64 }, length (full_column_bytes values.now))) }
 {
     let column = column_in_memory(alloc, values)?;
     serialize_bytes(sink, column.as_slice())?;
-    add_keyed_length(name, column.as_slice().len() as u64, table)
+    add_keyed_length(name, column.as_slice().len() as u64, table)?;
+    Ok(())
 }
 
 // The bytes of a column, whose length is known then.
-fn column_in_memory(alloc: Global, values: &[u64]) -> Result<Buffer, ColumnarError>
+fn column_in_memory(alloc: Global, values: &[u64]) -> Result<Buffer, AllocError>
     requires { length values.now < 2 ^ 32 }
-    ensures ok { IfOk result (λ column. column ≡ full_column_bytes values.now) }
-    ensures out_of_memory { IfErr result (λ e. e ≡ refusals.OutOfMemory) }
+    ensures { IfOk result (λ column. column ≡ full_column_bytes values.now) }
 {
     let mut column = Buffer::new(alloc);
-    serialize_full_column(alloc, values, &mut column)?;
-    Ok(column)
+    // Bytes in memory refuse a write for want of memory alone.
+    match serialize_full_column(alloc, values, &mut column) {
+        Ok(()) => Ok(column),
+        Err(_) => Err(AllocError),
+    }
 }
 
 // Writes the index, the numbers, and the index's length.
@@ -115,12 +118,14 @@ fn serialize_numbers<K: Sink>(
 }
 
 // Adds a key with its column's length to the table.
-fn add_keyed_length(name: &str, num_bytes: u64, table: &mut Buffer) -> Result<(), ColumnarError>
-    ensures ok { OnOk result (table.new ≡ table.old
+fn add_keyed_length(name: &str, num_bytes: u64, table: &mut Buffer) -> Result<(), AllocError>
+    ensures { OnOk result (table.new ≡ table.old
         ++ keyed_length_bytes (record { name = name.now; column_type = types.u64 }, num_bytes)) }
-    ensures out_of_memory { IfErr result (λ e. e ≡ refusals.OutOfMemory) }
 {
-    serialize_keyed_length(name, num_bytes, table)
+    match serialize_keyed_length(name, num_bytes, table) {
+        Ok(()) => Ok(()),
+        Err(_) => Err(AllocError),
+    }
 }
 
 // Writes a key and its column's length.

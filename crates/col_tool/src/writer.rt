@@ -46,7 +46,8 @@ impl ColumnarWriter {
 
     /// Makes a column without values, unless there is one of this name.
     pub fn record_column_type(&mut self, alloc: Global, name: String) -> Result<(), AllocError>
-        ensures ok { OnOk result (HasNumbers self.old (string_bytes name) (numbers_of self.old (string_bytes name)) self.new) }
+        ensures ok { OnOk result (HasNumbers self.old (string_bytes name)
+            (numbers_of self.old (string_bytes name)) self.new) }
         ensures err { OnErr result (self.new ≡ self.old) }
     {
         if !self.columns.contains_key(name.as_str()) {
@@ -56,11 +57,13 @@ impl ColumnarWriter {
     }
 
     /// Records the value of a document, if it is the next one of a column.
-    pub fn record(&mut self, doc: u32, name: &str, value: u64) -> Result<bool, AllocError>
-        ensures recorded { IfOk result (λ done. done ≡ is_some (numbers_with self.old name.now doc value)) }
+    pub fn record_numerical(&mut self, doc: u32, name: &str, value: u64) -> Result<bool, AllocError>
+        ensures recorded { IfOk result (λ done. done
+            ≡ is_some (numbers_with self.old name.now doc value)) }
         ensures numbers { OnOk result (IfSome (numbers_with self.old name.now doc value)
             (λ numbers. HasNumbers self.old name.now numbers self.new)) }
-        ensures refused { OnOk result (IfNone (numbers_with self.old name.now doc value) (self.new ≡ self.old)) }
+        ensures refused { OnOk result
+            (IfNone (numbers_with self.old name.now doc value) (self.new ≡ self.old)) }
         ensures err { OnErr result (self.new ≡ self.old) }
     {
         let Some(numbers) = self.columns.get_mut(name) else {

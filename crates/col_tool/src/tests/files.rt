@@ -22,7 +22,7 @@ macro_rules! two_columns {
     };
 }
 
-// A column of two rows under the name "a", of these bytes before its index's length, and of this length.
+// A column of two rows under the name "a": its bytes before its index's length, and its length.
 macro_rules! one_column {
     ($column:literal, $len:literal) => {
         concat!(
@@ -38,7 +38,8 @@ macro_rules! one_column {
     };
 }
 
-// The values 10 and 20: one step of 10; offsets 0 and 10 from a line at 10; a block of the steps 0 and 1.
+// The values 10 and 20: one step of 10; offsets 0 and 10 from a line at 10;
+// a block of the steps 0 and 1.
 const CODECS: [(&str, &str); 3] = [
     ("Bitpacked", one_column!("00008a8a818202", "8f")),
     ("Linear", one_column!("00018a8a8182808a04a0", "92")),
@@ -48,97 +49,110 @@ const CODECS: [(&str, &str); 3] = [
     ),
 ];
 
-const GOOD: [(&str, &str, u32, usize); 4] = [
+// Bytes, and how many rows and columns the file has that they are.
+const FILES: [(&str, &str, Option<(u32, usize)>); 23] = [
     (
         "no column",
         "800100000000000000000000000200000002717742",
-        0,
-        0,
+        Some((0, 0)),
     ),
     (
         "two values",
         "00008a8a818202010000000000000081836100018f0600000000000000020000000200000002717742",
-        2,
-        1,
+        Some((2, 1)),
     ),
     (
         "two columns",
         two_columns!("82836100018e836200018e", "0b"),
-        0,
-        2,
+        Some((0, 2)),
     ),
     (
         "a name of no byte",
         two_columns!("828200018e836200018e", "0a"),
-        0,
-        2,
+        Some((0, 2)),
     ),
-];
-
-const BAD: [(&str, &str); 19] = [
-    ("no byte", ""),
+    ("no byte", "", None),
     (
         "two bytes missing",
         "00008a8a818202010000000000000081836100018f06000000000000000200000002000000027177",
+        None,
     ),
     (
         "a table longer than the file",
         "00008a8a818202010000000000000081836100018fffffffffffffffff020000000200000002717742",
+        None,
     ),
     (
         "another magic byte",
         "00008a8a818202010000000000000081836100018f0600000000000000020000000200000002717743",
+        None,
     ),
     (
         "version 1",
         "00008a8a818202010000000000000081836100018f0600000000000000020000000100000002717742",
+        None,
     ),
     (
         "version 3",
         "00008a8a818202010000000000000081836100018f0600000000000000020000000300000002717742",
+        None,
     ),
     (
         "type code 2",
         "00008a8a818202010000000000000081836100028f0600000000000000020000000200000002717742",
+        None,
     ),
     (
         "another type",
         "00008a8a818202010000000000000081836100008f0600000000000000020000000200000002717742",
+        None,
     ),
     (
         "no zero behind the name",
         "00008a8a818202010000000000000081836101018f0600000000000000020000000200000002717742",
+        None,
     ),
     (
         "a name outside UTF-8",
         "00008a8a81820201000000000000008183ff00018f0600000000000000020000000200000002717742",
+        None,
     ),
     (
         "a longer form of a number",
         "00008a8a818202010000000000000081836100010f800700000000000000020000000200000002717742",
+        None,
     ),
     (
         "another row count",
         "00008a8a818202010000000000000081836100018f0600000000000000030000000200000002717742",
+        None,
     ),
     (
         "another index",
         "01008a8a818202010000000000000081836100018f0600000000000000020000000200000002717742",
+        None,
     ),
-    ("another codec", one_column!("00038a8a818202", "8f")),
-    ("a line cut off", one_column!("00018a8a818202", "8f")),
+    ("another codec", one_column!("00038a8a818202", "8f"), None),
+    ("a line cut off", one_column!("00018a8a818202", "8f"), None),
     (
         "a byte before the columns",
         "0000008a8a818202010000000000000081836100018f0600000000000000020000000200000002717742",
+        None,
     ),
     (
         "keys that descend",
         two_columns!("82836200018e836100018e", "0b"),
+        None,
     ),
-    ("a key twice", two_columns!("82836100018e836100018e", "0b")),
+    (
+        "a key twice",
+        two_columns!("82836100018e836100018e", "0b"),
+        None,
+    ),
     (
         "a byte behind the keys",
         two_columns!("82836100018e836200018e80", "0c"),
+        None,
     ),
 ];
 
@@ -147,28 +161,31 @@ fn open(alloc: Global, digits: &str) -> Result<Result<ColumnarReader, ColumnarEr
     Ok(ColumnarReader::open(alloc, bytes))
 }
 
-#[test]
-fn files_open_with_their_rows_and_columns(rt: HostRuntime) -> Result<(), Fail> {
-    for (what, digits, rows, columns) in GOOD {
-        let reader = open(rt.alloc(), digits)??;
-        assert_eq!(rt; reader.num_docs(), rows, "{what}");
-        assert_eq!(rt; reader.columns().len(), columns, "{what}");
+fn counts_of(alloc: Global, digits: &str) -> Result<Option<(u32, usize)>, Fail> {
+    match open(alloc, digits)? {
+        Ok(reader) => Ok(Some((reader.num_docs(), reader.columns().len()))),
+        Err(ColumnarError::InvalidData) => Ok(None),
+        Err(error) => Err(error.into()),
     }
-    Ok(())
+}
+
+// The numbers at the front of the column "a", where it has two.
+fn front_of(alloc: Global, digits: &str) -> Result<Option<(u64, u64)>, Fail> {
+    let reader = open(alloc, digits)??;
+    match reader.column("a") {
+        Some(values) if values.num_vals() == 2 => {
+            Ok(Some((values.get_val(0), values.get_val(1))))
+        }
+        _ => Ok(None),
+    }
 }
 
 #[test]
-fn a_column_is_found_by_its_name(rt: HostRuntime) -> Result<(), Fail> {
-    let digits = two_columns!("82836100018e836200018e", "0b");
-    let reader = open(rt.alloc(), digits)??;
-    for (name, found) in [
-        ("", false),
-        ("a", true),
-        ("aa", false),
-        ("b", true),
-        ("c", false),
-    ] {
-        assert_eq!(rt; reader.column(name).is_some(), found, "{name}");
+fn files_open_with_their_rows_and_columns_and_other_bytes_are_invalid(
+    rt: HostRuntime,
+) -> Result<(), Fail> {
+    for (what, digits, counts) in FILES {
+        assert_eq!(rt; counts_of(rt.alloc(), digits)?, counts, "{what}");
     }
     Ok(())
 }
@@ -176,20 +193,7 @@ fn a_column_is_found_by_its_name(rt: HostRuntime) -> Result<(), Fail> {
 #[test]
 fn a_column_is_read_under_each_codec(rt: HostRuntime) -> Result<(), Fail> {
     for (codec, digits) in CODECS {
-        let reader = open(rt.alloc(), digits)??;
-        let values = reader.column("a").ok_or("no column")?;
-        assert_eq!(rt; values.num_vals(), 2, "{codec}");
-        assert_eq!(rt; values.get_val(0), 10, "{codec}");
-        assert_eq!(rt; values.get_val(1), 20, "{codec}");
-    }
-    Ok(())
-}
-
-#[test]
-fn other_bytes_are_invalid(rt: HostRuntime) -> Result<(), Fail> {
-    for (what, digits) in BAD {
-        let refused = open(rt.alloc(), digits)?.err();
-        assert_eq!(rt; refused, Some(ColumnarError::InvalidData), "{what}");
+        assert_eq!(rt; front_of(rt.alloc(), digits)?, Some((10, 20)), "{codec}");
     }
     Ok(())
 }

@@ -2,7 +2,7 @@ use Rattle.std.proofs.Common.{rules, ◌≡◌, Some, None, sym, ◌∙◌, refl
 use Rattle.col_tool.specs.Columns.{numbers_with}
 use Rattle.std.proofs.Common.{◌++◌, ◌∷◌, []}
 use Rattle.col_tool.proofs.ColumnLemmas.{numbers_with-absent, numbers_with-other, numbers_with-next, HasNumbers-value, named-same}
-use Rattle.col_tool.proofs.writer.ColumnarWriter.record.Goals as goal
+use Rattle.col_tool.proofs.writer.ColumnarWriter.record_numerical.Goals as goal
 
 pub returns-in_default-clause-recorded : goal.returns-in_default-clause-recorded
 returns-in_default-clause-recorded c =

@@ -1,0 +1,134 @@
+//! Runs, with what they write.
+use crate::run;
+use bytes::Bytes;
+use col_common::{MemHandle, MemSource, VecSink};
+use std::alloc::{AllocError, Global};
+use std::test::Fail;
+
+// A script, and the file in hexadecimal digits and the report that it comes to.
+struct Row {
+    script: &'static str,
+    file: &'static str,
+    report: &'static str,
+}
+
+// How a run ended, and what it wrote.
+#[derive(Drop)]
+struct Ended {
+    status: u8,
+    file: String,
+    report: Vec<u8>,
+}
+
+const TWO_VALUES: &str =
+    "[\"segment\",2]\n[\"type\",\"a\",\"u64\"]\n[\"u64\",0,\"a\",10]\n[\"u64\",1,\"a\",20]\n";
+
+const ROWS: [Row; 3] = [
+    Row {
+        script: "",
+        file: "800100000000000000000000000200000002717742",
+        report: "[\"rows\",0]\n",
+    },
+    Row {
+        script: "[\"segment\",4000000000]",
+        file: "80010000000000000000286bee0200000002717742",
+        report: "[\"rows\",4000000000]\n",
+    },
+    Row {
+        script: "[\"segment\",2]\n[\"type\",\"a\",\"u64\"]\n\
+            [\"u64\",0,\"a\",10]\n[\"u64\",1,\"a\",20]\n\
+            [\"find\",\"a\",\"u64\",0,5,0,2]\n[\"find\",\"a\",\"u64\",11,19,0,2]\n\
+            [\"find\",\"a\",\"u64\",11,18446744073709551615,0,2]\n\
+            [\"find\",\"a\",\"u64\",20,10,0,2]\n[\"find\",\"b\",\"u64\",0,5,0,2]\n",
+        file: "00008a8a818202010000000000000081836100018f0600000000000000020000000200000002717742",
+        report: "[\"rows\",2]\n[\"column\",\"a\",\"u64\",\"full\",2]\n\
+            [\"row\",0,[10]]\n[\"row\",1,[20]]\n\
+            [\"find\",\"a\",\"u64\",[]]\n[\"find\",\"a\",\"u64\",[]]\n\
+            [\"find\",\"a\",\"u64\",[1]]\n[\"find\",\"a\",\"u64\",[]]\n\
+            [\"find\",\"b\",\"u64\",null]\n",
+    },
+];
+
+const BAD_SCRIPTS: [&str; 5] = [
+    "[\"i64\",0,\"a\",1.5]",
+    "[\"segment\",1]\n[\"type\",\"a\",\"u64\"]\n[\"u64\",0,\"a\",1.5]",
+    "[\"type\",\"a\",\"u64\"]\n[\"u64\",0,\"a\",1]\n[\"segment\",1]",
+    "[\"segment\",1]\n[\"segment\",1]",
+    "[\"segment\",2]\n[\"type\",\"a\",\"u64\"]\n[\"u64\",1,\"a\",1]\n[\"u64\",0,\"a\",1]",
+];
+
+// A run on a script, where the calls with these numbers fail.
+fn run_over(alloc: Global, script: &str, failing: [&[u64]; 3]) -> Result<Ended, AllocError> {
+    let [of_script, of_output, of_report] = failing;
+    let words = words_of(alloc, &["merge", "out"])?;
+    let inputs: Vec<MemHandle> = Vec::new(alloc);
+    let mut source = MemSource::new(script.as_bytes().to_vec(alloc)?, of_script.to_vec(alloc)?);
+    let mut output = VecSink::new(Vec::new(alloc), of_output.to_vec(alloc)?);
+    let mut report = VecSink::new(Vec::new(alloc), of_report.to_vec(alloc)?);
+    let status = run(alloc, &words, inputs, &mut source, &mut output, &mut report).status;
+    Ok(Ended {
+        status,
+        file: hex::encode(alloc, output.into_bytes().as_slice())?,
+        report: report.into_bytes(),
+    })
+}
+
+fn words_of(alloc: Global, texts: &[&str]) -> Result<Vec<String>, AllocError> {
+    let mut words = Vec::new(alloc);
+    for text in texts {
+        words.push(String::from_str(alloc, text)?)?;
+    }
+    Ok(words)
+}
+
+fn is_as_wanted(row: &Row, ended: &Ended) -> bool {
+    ended.status == 0
+        && ended.file.as_str() == row.file
+        && ended.report.as_slice() == row.report.as_bytes()
+}
+
+// The status, and how many digits of the file and bytes of the report are there.
+fn lens_of(ended: &Ended) -> (u8, usize, usize) {
+    (ended.status, ended.file.len(), ended.report.len())
+}
+
+#[test]
+fn scripts_come_to_their_file_and_report_or_to_nothing(rt: HostRuntime) -> Result<(), Fail> {
+    for row in &ROWS {
+        let ended = run_over(rt.alloc(), row.script, [&[], &[], &[]])?;
+        assert!(rt; is_as_wanted(row, &ended), "{}", row.script);
+    }
+    for script in BAD_SCRIPTS {
+        let ended = run_over(rt.alloc(), script, [&[], &[], &[]])?;
+        assert_eq!(rt; lens_of(&ended), (20, 0, 0), "{script}");
+    }
+    Ok(())
+}
+
+#[test]
+fn faults_leave_a_front_of_what_was_to_be_written(rt: HostRuntime) -> Result<(), Fail> {
+    let faults: [([&[u64]; 3], (u8, usize, usize)); 3] = [
+        ([&[0], &[], &[]], (4, 0, 0)),
+        ([&[], &[0], &[]], (5, 40, 0)),
+        ([&[], &[], &[0]], (5, 82, 35)),
+    ];
+    for (failing, left) in faults {
+        let ended = run_over(rt.alloc(), TWO_VALUES, failing)?;
+        assert_eq!(rt; lens_of(&ended), left);
+    }
+    Ok(())
+}
+
+#[test]
+fn words_with_an_input_give_it_back(rt: HostRuntime) -> Result<(), Fail> {
+    let alloc = rt.alloc();
+    let words = words_of(alloc, &["merge", "out", "in"])?;
+    let mut inputs = Vec::new(alloc);
+    inputs.push(MemHandle::new(Bytes::new(), Vec::new(alloc)))?;
+    let mut source = MemSource::new(Vec::new(alloc), Vec::new(alloc));
+    let mut sink = VecSink::new(Vec::new(alloc), Vec::new(alloc));
+    let mut report = VecSink::new(Vec::new(alloc), Vec::new(alloc));
+    let ended = run(alloc, &words, inputs, &mut source, &mut sink, &mut report);
+    assert_eq!(rt; (ended.status, ended.inputs.len()), (2, 1));
+    Ok(())
+}
