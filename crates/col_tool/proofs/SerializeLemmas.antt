@@ -1,5 +1,5 @@
 -- Parts that are serialized one behind another, and what they are together.
-use Rattle.std.proofs.Common.{◌≡◌, ℕ, suc, ◌+◌, ◌^◌, ◌<◌, List, [], ◌∷◌, ◌++◌, length, map, flat_map, Result, Ok, Err, Some, IfSome, IfErr, String, Vec, string_bytes, refl, sym, ap, ap₂, ◌∙◌, subst, append_assoc, length-append, inl}
+use Rattle.std.proofs.Common.{◌≡◌, ℕ, suc, ◌+◌, ◌^◌, ◌<◌, List, [], ◌∷◌, ◌++◌, length, map, flat_map, Result, Ok, Err, IfSome, String, Vec, string_bytes, refl, sym, ap, ap₂, ◌∙◌, append_assoc, length-append}
 use Rattle.std.specs.List.{AllByRecursion}
 use Rattle.std.specs.Int.{w32, w64, to_le_bytes}
 use Rattle.std.specs.declared.alloc.Global.{Global}
@@ -9,7 +9,6 @@ use Rattle.col_common.specs.Outside.{SeenSink}
 use Rattle.col_common.specs.VInt.{vint_bytes}
 use Rattle.col_common.specs.Serializing.{Serializes}
 use Rattle.col_common.specs.declared.error.ColumnarError.{ColumnarError}
-use Rattle.col_common.specs.declared.error.ColumnarError.TheVariants.{OutOfMemory}
 use Rattle.col_common.proofs.SerializingLemmas.{serializes-as, serializes-nothing, serializes-refused, serializes-then}
 use Rattle.col_model.specs.U64List.{bitpacked_bytes, joined_lists}
 use Rattle.col_model.specs.Codecs.{chosen_codec, codec_bytes}
