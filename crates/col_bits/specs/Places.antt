@@ -1,7 +1,8 @@
 -- The places of the bits of a number that are set.
 use Rattle.std.specs.Prelude.{◌≡◌, ◌≤◌, ◌<◌, ◌^◌, ℕ, zero, suc, ◌+◌, ◌/◌, ◌%◌, ◌==◌, List, [], ◌∷◌, if◌then◌else◌}
 
--- the places of those of its k lowest bits that are set, ascending, where the lowest stands at place a
+-- the places of those of a number's k lowest bits that are set, ascending, where the lowest bit has
+-- place a
 unfoldable pub set_places : ℕ → ℕ → ℕ → List ℕ
 set_places zero a n = []
 set_places (suc k) a n =

@@ -320,7 +320,7 @@ impl BitUnpacker {
         kept
     }
 
-    // Writes the numbers from an index on, where those up to place `from` are there, up to place `to`.
+    // Writes the numbers from an index on up to place `to`, where those up to `from` are there.
     fn read<const PADDED: bool>(
         &self,
         start: u32,
@@ -332,7 +332,8 @@ impl BitUnpacker {
         requires order { from ≤ to }
         requires room { to ≤ length output.old }
         requires indexes { start + to ≤ 2 ^ 32 }
-        requires padded { IsTrue PADDED → (start + to) * self.now / 8 + 8 ≤ length «data».now }
+        requires padded { IsTrue PADDED →
+            (start + to) * self.now / 8 + 8 ≤ length «data».now }
         requires so_far { take from output.old ≡ items «data».now self.now start from }
         ensures { take to output.new ≡ items «data».now self.now start to }
     {
@@ -362,7 +363,7 @@ impl BitUnpacker {
         self.read::<true>(start, data, output, head + GROUP_LEN * groups, len);
     }
 
-    // Whether ids from `start` on are compared in blocks: where numbers and the lower end have 32 bits.
+    // Whether ids from `start` on go in blocks: where numbers and the lower end have 32 bits.
     fn is_for_blocks(&self, low: u64, high: u64, start: u32) -> bool
         ensures { IsTrue result → IsForBlocks self.now low high start }
     {

@@ -1,4 +1,4 @@
-//! Packed lists whose width the compiler knows: read by groups of eight, compared 64 numbers at a time.
+//! Packed lists of a width that the compiler knows: read by groups of eight, compared by blocks of 64.
 
 ghost use Rattle.std.specs.Prelude.{◌≡◌, ◌+◌, ◌-◌, ◌*◌, ◌/◌, ◌%◌, ◌^◌, ◌<◌, ◌≤◌, length, ◌++◌, map, take, nat_le};
 ghost use Rattle.std.specs.Int.{is_in_range};
@@ -73,7 +73,7 @@ fn at_most(lanes: u32x64, span: u32) -> u64
     lanes.simd_le(u32x64::splat(span)).to_bitmask()
 }
 
-// Which numbers lie from `low` on and at most `span` above it: a bit for each, the first the lowest.
+// Which numbers lie from `low` to `low + span`: a bit for each, the first the lowest.
 #[inline(always)]
 fn hits_of(block: &[u32; LANES], low: u32, span: u32) -> u64
     requires { low + span < 2 ^ 32 }
@@ -82,7 +82,8 @@ fn hits_of(block: &[u32; LANES], low: u32, span: u32) -> u64
     at_most(above(lanes_of(block), low), span)
 }
 
-// Writes the places of the bits that are set, counted from `base`, from place `at` on, and says where they end.
+// Writes the places of the bits that are set, counted from `base`, from place `at` on, and says
+// where they end.
 #[inline(always)]
 fn write_set_places(bits: u64, base: u32, output: &mut [u32], at: usize) -> usize
     requires fits { base + 64 ≤ 2 ^ 32 }
@@ -100,8 +101,8 @@ fn write_set_places(bits: u64, base: u32, output: &mut [u32], at: usize) -> usiz
     end
 }
 
-// Writes which of as many ids as 64 go into, from `start` on, have a number from `low` to `low + span`,
-// from place `at` on, and says where they end.
+// Writes which ids from `start` on, as many as whole blocks go into `count`, have a number from
+// `low` to `low + span`, from place `at` on, and says where they end.
 pub(crate) fn write_ids_of<const W: usize>(
     low: u32,
     span: u32,

@@ -22,7 +22,9 @@ abbrev pub TakesFront : {T V E : Type 0} → (T → V) → Result T E → Option
 TakesFront view (Ok value) expected old new = expected ≡ Some (view value, new)
 TakesFront view (Err e) expected old new = (expected ≡ None) × (new ≡ old)
 
--- The same where memory may be wanting: what was taken, or a decoder's refusal with the bytes as they were.
-abbrev pub DecodesFront : {T V : Type 0} → (T → V) → Result T ColumnarError → Option (V × List ℕ) → List ℕ → List ℕ → Type 0
+-- The same where memory may be wanting: what was taken, or a decoder's refusal with the bytes as
+-- they were.
+abbrev pub DecodesFront : {T V : Type 0} → (T → V) → Result T ColumnarError
+    → Option (V × List ℕ) → List ℕ → List ℕ → Type 0
 DecodesFront view (Ok value) expected old new = expected ≡ Some (view value, new)
 DecodesFront view (Err e) expected old new = Refuses e expected × (new ≡ old)
