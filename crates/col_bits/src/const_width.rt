@@ -1,5 +1,5 @@
-//! Packed lists of a width that the compiler knows: read by groups of eight, compared by blocks of 64.
-
+//! Packed lists of a width that the compiler knows: read by groups of eight, compared by blocks of
+//! 64.
 ghost use Rattle.std.specs.Prelude.{◌≡◌, ◌+◌, ◌-◌, ◌*◌, ◌/◌, ◌%◌, ◌^◌, ◌<◌, ◌≤◌, length, ◌++◌, map, take, nat_le};
 ghost use Rattle.std.specs.Int.{is_in_range};
 ghost use Rattle.std.specs.Simd.Lanes.{mask_l};

@@ -3,8 +3,8 @@ use Rattle.std.specs.Prelude.{ℕ, zero, suc, ◌+◌, ◌-◌, ◌*◌, ◌/◌
 use Rattle.col_common.specs.Reading.{◌>>=◌, only_if}
 
 -- The number at the front, and the bytes behind it. Each byte has seven bits, the lowest group
--- first; the last byte alone has its top bit set. The groups behind the first one stand for a number
--- that isn't 0, so each number has one form.
+-- first; the last byte alone has its top bit set. The groups behind the first one stand for a
+-- number that isn't 0, so each number has one form.
 unfoldable pub groups : List ℕ → Option (ℕ × List ℕ)
 groups [] = None
 groups (b ∷ bytes) =
