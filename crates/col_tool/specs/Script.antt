@@ -64,7 +64,8 @@ pub record ComesTo
   pub stands : IsDraft calls draft
   pub script : script_behind draft calls pieces ≡ expected
 
--- the draft comes to the same with one piece less behind it; where it isn't taken, that is no script
+-- the draft comes to the same with one piece less behind it;
+-- where it isn't taken, that is no script
 abbrev pub TakesPiece : List ℕ → Draft → Draft → Bool → Type 0
 TakesPiece piece old new taken = (expected : Option model.Script) (pieces : List (List ℕ))
     → ComesTo expected (piece ∷ pieces) old

@@ -69,8 +69,10 @@ fn serialize_column<K: Sink>(
     requires { length values.now < 2 ^ 32 }
     ensures column { Serializes (K.seen sink.old) (K.seen sink.new)
         result (full_column_bytes values.now) }
-    ensures table { OnOk result (table.new ≡ table.old ++ keyed_length_bytes
-        (record { name = name.now; column_type = types.u64 }, length (full_column_bytes values.now))) }
+    ensures table { OnOk result (table.new ≡ table.old ++ keyed_length_bytes (
+      record { name = name.now; column_type = types.u64 },
+      length (full_column_bytes values.now),
+    )) }
 {
     let column = column_in_memory(alloc, values)?;
     serialize_bytes(sink, column.as_slice())?;
@@ -135,7 +137,8 @@ fn serialize_keyed_length<K: Sink>(
     sink: &mut K,
 ) -> Result<(), ColumnarError>
     ensures { Serializes (K.seen sink.old) (K.seen sink.new)
-        result (keyed_length_bytes (record { name = name.now; column_type = types.u64 }, num_bytes)) }
+        result (keyed_length_bytes
+        (record { name = name.now; column_type = types.u64 }, num_bytes)) }
 {
     let end = [0, ColumnType::U64.to_code()];
     VInt((name.len() + end.len()) as u64).serialize(sink)?;
