@@ -1,5 +1,5 @@
 -- Items of groups of eight, and the places of bits that are set.
-use Rattle.std.proofs.Common.{◌≡◌, ℕ, zero, suc, ◌+◌, ◌-◌, ◌*◌, ◌/◌, ◌%◌, ◌^◌, ◌<◌, ◌≤◌, Bool, true, false, cond, eqb, List, [], ◌∷◌, ◌++◌, map, length, get_or, take, set, take_all, refl, sym, ◌∙◌, ap, arith, bit_and, IsTrue, min, mod-eq_of_lt, pow-suc, nat_le, lit<, lt_of_lt_of_le, append_assoc}
+use Rattle.std.proofs.Common.{◌≡◌, ℕ, zero, suc, ◌+◌, ◌-◌, ◌*◌, ◌/◌, ◌%◌, ◌^◌, ◌<◌, ◌≤◌, Bool, true, false, cond, eqb, List, [], ◌∷◌, ◌++◌, map, length, get_or, take, set, refl, sym, ◌∙◌, ap, arith, bit_and, IsTrue, min, mod-eq_of_lt, pow-suc, nat_le, lit<, lt_of_lt_of_le, append_assoc}
 use Rattle.std.proofs.lemmas.Bool.Decides.{nat_tests}
 use Rattle.std.proofs.Math.Pow.{pow-lt}
 use Rattle.std.proofs.Math.Nat.{mul-le-mul_right}

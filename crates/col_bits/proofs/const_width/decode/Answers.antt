@@ -1,4 +1,4 @@
-use Rattle.std.proofs.Common.{◌≡◌, ◌+◌, ◌*◌, ℕ, ap, ◌∙◌, arith, sym, take_all, length-set, take}
+use Rattle.std.proofs.Common.{◌≡◌, ◌+◌, ◌*◌, ap, ◌∙◌, arith, sym, take_all, length-set, take}
 use Rattle.col_bits.specs.Packed.{items}
 use Rattle.col_bits.proofs.GroupLemmas.{decoded_more}
 use Rattle.col_bits.proofs.const_width.decode.Goals as goal

@@ -1,4 +1,4 @@
-use Rattle.std.proofs.Common.{◌≡◌, ◌+◌, ◌*◌, take, ap, sym, ◌∙◌, arith, set}
+use Rattle.std.proofs.Common.{◌≡◌, ◌+◌, ◌*◌, take, ap, ◌∙◌, arith, set}
 use Rattle.col_bits.proofs.GroupLemmas.{read_more}
 use Rattle.col_bits.proofs.const_width.read_groups.Goals as goal
 

@@ -1,4 +1,4 @@
-use Rattle.std.proofs.Common.{◌≡◌, ◌≤◌, ◌+◌, ◌-◌, ◌*◌, ◌/◌, ◌++◌, ℕ, List, take, length, ap, sym, ◌∙◌, arith, append-nil, append_assoc, refl}
+use Rattle.std.proofs.Common.{◌≡◌, ◌+◌, ◌*◌, ◌/◌, ◌++◌, ℕ, take, length, ap, sym, ◌∙◌, arith, append-nil, append_assoc, refl}
 use Rattle.col_bits.specs.Packed.{items, ids_between}
 use Rattle.col_bits.specs.Places.{set_places}
 use Rattle.col_bits.proofs.GroupLemmas.{places_of_block, room_for_block, places-room}

@@ -1,4 +1,4 @@
-use Rattle.std.proofs.Common.{◌≡◌, ◌≤◌, ℕ, ◌+◌, ◌-◌, ◌*◌, ◌/◌, ◌%◌, length, take, ap, sym, arith, refl, subst}
+use Rattle.std.proofs.Common.{◌≡◌, ◌≤◌, ℕ, ◌+◌, ◌-◌, ◌*◌, ◌/◌, ◌%◌, length, take, sym, arith, refl, subst}
 use Rattle.col_bits.proofs.GroupLemmas.{room_for_groups, items_joined}
 use Rattle.col_bits.proofs.bitpacker.BitUnpacker.read_in_groups.Goals as goal
 
