@@ -5,7 +5,6 @@ pub mod TrainedLemmas
 pub mod HitLemmas
 pub mod PlaceLemmas
 pub mod OrderLemmas
-pub mod RowLemmas
 pub mod ReadingLemmas
 pub mod ParamsLemmas
 pub mod SpelledLemmas

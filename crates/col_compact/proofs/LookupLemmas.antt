@@ -1,18 +1,18 @@
 -- Codes that are read, and lookups by codes.
-use Rattle.std.proofs.Common.{◌≡◌, ℕ, zero, suc, ◌+◌, ◌-◌, ◌^◌, ◌<◌, ◌≤◌, ◌==◌, ◌&&◌, Bool, true, false, List, [], ◌∷◌, length, map, filter, min, slice_index, slice_get, Option, Some, None, refl, sym, ◌∙◌, ap, subst, inl, inr, arith}
+use Rattle.std.proofs.Common.{◌≡◌, ℕ, zero, suc, ◌+◌, ◌-◌, ◌^◌, ◌<◌, ◌≤◌, ◌==◌, ◌&&◌, Bool, true, false, List, length, map, filter, min, slice_index, slice_get, Option, Some, None, refl, sym, ◌∙◌, ap, subst, inl, inr, arith}
 use Rattle.std.specs.Prelude.{nat_le, option_map, ◌⊎◌}
 use Rattle.std.specs.Int.{w64, is_in_range}
 use Rattle.std.specs.List.{All, list_all, range_with_len}
 use Rattle.std.specs.Ordering.{nat_cmp, is_le, partial_le}
-use Rattle.std.proofs.lemmas.Bool.{cases_lt, le-leb, lt-leb, and_parts, leb-true}
+use Rattle.std.proofs.lemmas.Bool.{cases_lt, and_parts}
 use Rattle.std.proofs.lemmas.Bool.Decides.{nat_tests}
 use Rattle.std.proofs.lemmas.Option.{slice_get-map, slice_get-get_or, same_Some, none-some, slice_get_past}
 use Rattle.std.proofs.lemmas.List.{length-map}
 use Rattle.col_model.proofs.StatsLaws.{least_of-all, fold-max, all_by}
-use Rattle.std.proofs.lemmas.List.FromFn.{length-map-range_with_len, get_or-map-range_with_len}
+use Rattle.std.proofs.lemmas.List.FromFn.{get_or-map-range_with_len}
 use Rattle.std.proofs.lemmas.List.Elements.{All-get_or, All-from_recursion}
-use Rattle.col_common.specs.Reading.{◌>>=◌, only_if, parts_by_second, IsBytes}
-use Rattle.col_bits.specs.Packed.{item, items, packed, width, ids_between}
+use Rattle.col_common.specs.Reading.{◌>>=◌, only_if, parts_by_second}
+use Rattle.col_bits.specs.Packed.{item, items, packed, ids_between}
 use Rattle.col_model.specs.Stats.{least_of, greatest_of}
 use Rattle.col_model.specs.AddressList.{AddressFooter, address_footer, coded_values, values128, header_at, code_count, coded_number}
 use Rattle.col_values.specs.Codes.{number_cmp}

@@ -71,14 +71,14 @@ impl IPCodecParams {
     pub(crate) fn min_value(&self) -> u128
         ensures { result ≡ self.now.least }
     {
-        self.compact_space.first_value()
+        self.compact_space.min_value()
     }
 
     // The greatest number.
     pub(crate) fn max_value(&self) -> u128
         ensures { result ≡ self.now.greatest }
     {
-        self.compact_space.last_value()
+        self.compact_space.max_value()
     }
 
     // A reader of codes.
@@ -218,8 +218,8 @@ fn is_head_of(head: &Head, space: &CompactSpace) -> bool
 {
     let num_bits = compute_num_bits(u64::from(space.amplitude_compact_space()));
     head.num_bits == num_bits
-        && space.first_value() == head.min_value
-        && space.last_value() == head.max_value
+        && space.min_value() == head.min_value
+        && space.max_value() == head.max_value
 }
 
 // It, at the front, and the bytes behind it.
@@ -280,21 +280,4 @@ fn are_zeros(bytes: &[u8]) -> bool
     ensures { result ≡ are_zeros bytes.now }
 {
     bytes.iter().all(|byte| *byte == 0)
-}
-
-impl CompactSpace {
-    // The least number of the ranges.
-    pub(crate) fn first_value(&self) -> u128
-        ensures { result ≡ first_start self.now }
-    {
-        self.ranges_mapping[0].start
-    }
-
-    // The greatest number of the ranges.
-    pub(crate) fn last_value(&self) -> u128
-        ensures { result ≡ last_end self.now }
-    {
-        let ranges = self.ranges_mapping.as_slice();
-        ranges[ranges.len() - 1].end
-    }
 }

@@ -1,4 +1,4 @@
-use Rattle.std.proofs.Common.{◌≡◌, Some, List, ℕ, take, length, sym, ◌∙◌, ap, subst}
+use Rattle.std.proofs.Common.{Some, List, ℕ, sym, ◌∙◌, ap, subst}
 use Rattle.std.proofs.lemmas.Result.{err_from_is_err_and}
 use Rattle.col_common.proofs.DecodingLemmas.{refuses-as}
 use Rattle.col_compact.specs.Coded.{AreRead, coded_by, coded_list, coded_in}

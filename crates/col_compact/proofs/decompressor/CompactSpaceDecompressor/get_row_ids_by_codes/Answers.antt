@@ -1,4 +1,4 @@
-use Rattle.std.proofs.Common.{sym, ◌∙◌}
+use Rattle.std.proofs.Common.{◌∙◌}
 use Rattle.std.specs.Range.{range_inclusive_start, range_inclusive_end}
 use Rattle.col_compact.proofs.LookupLemmas.{found-by-codes}
 use Rattle.col_compact.proofs.decompressor.CompactSpaceDecompressor.get_row_ids_by_codes.Goals as goal

@@ -1,4 +1,4 @@
-use Rattle.std.proofs.Common.{◌≡◌, List, ℕ, sym, ◌∙◌, ap, subst}
+use Rattle.std.proofs.Common.{List, ℕ, ◌∙◌, subst}
 use Rattle.std.specs.Range.{range_inclusive_start, range_inclusive_end}
 use Rattle.col_common.specs.Replacing.{Replaces}
 use Rattle.col_values.specs.Codes.{number_cmp}

@@ -1,4 +1,4 @@
-use Rattle.std.proofs.Common.{◌≡◌, ◌++◌, ◌∷◌, [], ap}
+use Rattle.std.proofs.Common.{◌++◌, ◌∷◌, [], ap}
 use Rattle.col_common.specs.VInt.{vint_bytes}
 use Rattle.col_common.proofs.SerializingLemmas.{serializes-as, serializes-then}
 use Rattle.col_compact.proofs.header.U128Header.serialize.Goals as goal
