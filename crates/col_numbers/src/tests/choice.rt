@@ -117,6 +117,7 @@ fn is_given_again(
     vals: &[i64; 3],
     bytes: &[u8],
 ) -> Result<(), Fail> {
+    assert_eq!(rt; numbers.num_vals(), 3);
     assert_eq!(rt; (numbers.min_value(), numbers.max_value()), (-1, 300));
     let mut read = [0; 3];
     numbers.get_range(0, &mut read);
