@@ -43,7 +43,7 @@ pub trait MonotonicallyMappableToU64: PartialOrd + Copy {
     fn is_image(val: u64) -> bool
         ensures { result ≡ is_code val };
 
-    /// Whether it is said that each number up to an image is one, so that the greatest of some numbers
+    /// Whether it is said that each number up to an image is one, so that the greatest of numbers
     /// tells of all.
     fn images_reach_down() -> bool
         ensures { result ≡ true → ImagesReachDown is_code };
