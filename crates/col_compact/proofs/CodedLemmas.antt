@@ -222,9 +222,6 @@ ends_known ms space codes some e =
 
 -- ---- codes that are read one after another
 
-items_first : (bytes : List ℕ) (w : ℕ) → items bytes w 0 1 ≡ item bytes w 0 ∷ []
-items_first bytes w = refl
-
 items_push : (bytes : List ℕ) (w n : ℕ) → items bytes w 0 (n + 1) ≡ items bytes w 0 n ++ item bytes w n ∷ []
 items_push bytes w n = map-range_with_len_more (item bytes w) 0 n n (omega arith)
 
@@ -233,13 +230,6 @@ pub record AreBounds (bytes : List ℕ) (w n least greatest : ℕ) : Type 0 wher
   pub some : 1 ≤ n
   pub least_is : least ≡ least_of (items bytes w 0 n)
   pub greatest_is : greatest ≡ greatest_of (items bytes w 0 n)
-
-pub bounds_first : (bytes : List ℕ) (w x : ℕ) → x ≡ item bytes w 0 → AreBounds bytes w 1 x x
-bounds_first bytes w x e = record {
-  some = omega arith;
-  least_is = e;
-  greatest_is = e ∙ sym (max_zero (item bytes w 0));
-}
 
 pub bounds_more : (bytes : List ℕ) (w n low high x low2 high2 : ℕ) → AreBounds bytes w n low high → x ≡ item bytes w n → low2 ≡ min low x → high2 ≡ max high x → AreBounds bytes w (n + 1) low2 high2
 bounds_more bytes w zero low high x low2 high2 b e l h = absurd (let some = b.some in omega arith)

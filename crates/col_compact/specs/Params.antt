@@ -15,7 +15,8 @@ pub record Head : Type 0 where
 abbrev pub behind_flags : List ℕ → Option (List ℕ)
 behind_flags bytes = front 8 bytes >>= λ p. only_if (are_zeros p.0) p.1
 
--- eight zero bytes, the bounds and the count, which fit each other, and a width; and the bytes behind them
+-- eight zero bytes, the bounds and the count, which fit each other, and a width; and the bytes
+-- behind them
 unfoldable pub head_at : List ℕ → Option (Head × List ℕ)
 head_at bytes = do
   rest ← behind_flags bytes
@@ -29,7 +30,13 @@ head_at bytes = do
 -- the footer of ranges and a count
 abbrev pub footer_of : List (ℕ × ℕ) → ℕ → ℕ → AddressFooter
 footer_of rs count w =
-    record { least = first_start rs; greatest = last_end rs; count = count; code_width = w; ranges = rs }
+    record {
+      least = first_start rs;
+      greatest = last_end rs;
+      count = count;
+      code_width = w;
+      ranges = rs
+    }
 
 -- the count fits the bounds that the ranges have
 abbrev pub CountFits : List (ℕ × ℕ) → ℕ → Type 0

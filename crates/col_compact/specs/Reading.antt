@@ -1,10 +1,12 @@
--- Ranges that are read one after another, each tested where it stands. What they spell together is `ranges_at` of the list of addresses.
+-- Ranges that are read one after another, each tested where it stands. What they spell together is
+-- `ranges_at` of the list of addresses.
 use Rattle.std.specs.Prelude.{ℕ, zero, suc, ◌+◌, ◌^◌, ◌&&◌, nat_lt, nat_le, List, [], ◌∷◌, Option, Some}
 use Rattle.col_common.specs.Reading.{◌>>=◌, only_if}
 use Rattle.col_model.specs.AddressList.{pair_at, range_size}
 
--- The range at the front, behind one that ended at `before`, and the bytes behind it: it starts at least `apart` above,
--- its numbers are below 2 ^ 128, and with `codes` others they number less than 2 ^ 32.
+-- The range at the front, behind one that ended at `before`, and the bytes behind it: it starts at
+-- least `apart` above, its numbers are below 2 ^ 128, and with `codes` others they number less than
+-- 2 ^ 32.
 unfoldable pub range_at : ℕ → ℕ → ℕ → List ℕ → Option ((ℕ × ℕ) × List ℕ)
 range_at before apart codes bytes = do
   p ← pair_at bytes

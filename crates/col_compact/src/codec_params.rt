@@ -214,7 +214,8 @@ struct Head {
 // Whether that is true of the ranges.
 fn is_head_of(head: &Head, space: &CompactSpace) -> bool
     ensures { result ≡ ((head.now.num_bits == width (code_count space.now))
-        && (first_start space.now == head.now.min_value) && (last_end space.now == head.now.max_value)) }
+        && (first_start space.now == head.now.min_value)
+        && (last_end space.now == head.now.max_value)) }
 {
     let num_bits = compute_num_bits(u64::from(space.amplitude_compact_space()));
     head.num_bits == num_bits

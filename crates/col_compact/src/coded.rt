@@ -51,7 +51,8 @@ fn read_codes(alloc: Global, codes: &[u8], footer: &[u8]) -> Result<IPCodecParam
 
 // Whether each is a code, and the parameters' bounds are those of the numbers.
 fn are_codes(params: &IPCodecParams, codes: &[u8]) -> bool
-    ensures { result ≡ are_codes params.now (items codes.now params.now.code_width 0 params.now.count) }
+    ensures { result ≡
+        are_codes params.now (items codes.now params.now.code_width 0 params.now.count) }
 {
     let count = params.num_vals();
     if count == 0 {

@@ -22,7 +22,8 @@ use std::marker::{Brand, Model};
 use std::ops::{Range, RangeInclusive};
 use std::sync::ledger::{Blank, Ledger};
 
-/// A list of numbers that is read in place. A contract sees its ranges and the codes of its numbers.
+/// A list of numbers that is read in place. A contract sees its ranges and the codes of its
+/// numbers.
 #[derive(Drop)]
 pub struct CompactSpaceDecompressor {
     data: Bytes,
@@ -129,8 +130,8 @@ impl CompactSpaceDecompressor {
         self.params.u128_to_next_compact(value)
     }
 
-    /// The positions in a range whose numbers are from the first to the last, ascending. Both ends become codes, each
-    /// by a step, and no number is decoded.
+    /// The positions in a range whose numbers are from the first to the last, ascending. Both ends
+    /// become codes, each by a step, and no number is decoded.
     pub fn get_row_ids_counted<L: Ledger>(
         &self,
         value_range: RangeInclusive<u128>,

@@ -48,7 +48,8 @@ impl U128FastFieldCodecType {
 
     /// Takes the codec of the code at the front.
     pub fn deserialize(data: &mut &[u8]) -> Result<U128FastFieldCodecType, InvalidData>
-        ensures { TakesFront (λ kind. kind) result (kind_at «data».old.now) «data».old.now «data».new.now }
+        ensures { TakesFront (λ kind. kind) result (kind_at «data».old.now)
+            «data».old.now «data».new.now }
     {
         let bytes = *data;
         let [code, rest @ ..] = bytes else {
@@ -84,7 +85,8 @@ impl U128Header {
 
     /// Takes the header at the front.
     pub fn deserialize(data: &mut &[u8]) -> Result<U128Header, InvalidData>
-        ensures { TakesFront (λ header. header.num_vals) result (header_at «data».old.now) «data».old.now «data».new.now }
+        ensures { TakesFront (λ header. header.num_vals) result (header_at «data».old.now)
+            «data».old.now «data».new.now }
     {
         let Some((num_vals, rest)) = read_header(data) else {
             return Err(InvalidData);

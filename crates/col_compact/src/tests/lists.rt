@@ -80,7 +80,7 @@ fn both_ends_of_all_addresses_are_read(rt: HostRuntime) -> Result<(), Fail> {
     let mut bytes = [0x7f; 62];
     // Codes 1 and 2, flags, and the least address.
     bytes[..10].copy_from_slice(&[0x09, 0, 0, 0, 0, 0, 0, 0, 0, 0x80]);
-    // The greatest ends; two addresses, two bits, two ranges; the first range; how far the second starts.
+    // The greatest ends; two addresses, two bits, two ranges; the first; how far the second starts.
     bytes[28..34].copy_from_slice(&[0x83, 0x82, 0x02, 0x82, 0x80, 0x80]);
     // It ends; the second has one number; the length.
     bytes[52..].copy_from_slice(&[0x83, 0x80, 0x35, 0, 0, 0, 0, 0, 0, 0]);
