@@ -100,12 +100,13 @@ item-within s bytes i h =
     omega (arith, bound, bitpacked_items-at s bytes i h)
 
 -- a reader of items with these statistics
-pub IsReader-same : (s : Stats) (bytes : List ℕ) (w : ℕ) → w ≡ width (steps_of s) → s.greatest < 2 ^ 64 → same_stats (stats_of (bitpacked_items s bytes)) s ≡ true → IsReader s w bytes
-IsReader-same s bytes w e fits same =
+pub IsReader-same : (s : Stats) (bytes : List ℕ) (w : ℕ) → IsPossible s → w ≡ width (steps_of s) → s.greatest < 2 ^ 64 → same_stats (stats_of (bitpacked_items s bytes)) s ≡ true → IsReader s w bytes
+IsReader-same s bytes w possible e fits same =
     let exact = same_stats-equal (stats_of (bitpacked_items s bytes)) s same in
     let top : greatest_of (bitpacked_items s bytes) ≡ s.greatest = sym (stats_of-greatest (bitpacked_items s bytes)) ∙ ap (λ t. t.greatest) exact in
     record {
       width_is = e;
+      positive = possible.positive;
       fits = λ i h. omega (arith, item-within s bytes i h, top, fits);
       exact = exact;
     }

@@ -1,4 +1,5 @@
 pub mod BitpackedLemmas
+pub mod FoundLemmas
 pub mod BitpackedWritingLemmas
 pub mod BlockCollectedLemmas
 pub mod BlockEstimateLemmas

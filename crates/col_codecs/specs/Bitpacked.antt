@@ -15,5 +15,6 @@ bitpacked_items s bytes = map (bitpacked_item s bytes) (range_with_len 0 s.count
 -- a reader at the width of the steps, whose items fit 64 bits, and whose statistics are theirs
 pub record IsReader (s : Stats) (w : ℕ) (bytes : List ℕ) : Type 0 where
   pub width_is : w ≡ width (steps_of s)
+  pub positive : 0 < s.divisor
   pub fits : (i : ℕ) → i < s.count → bitpacked_item s bytes i < 2 ^ 64
   pub exact : stats_of (bitpacked_items s bytes) ≡ s

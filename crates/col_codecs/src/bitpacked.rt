@@ -1,11 +1,17 @@
 //! Lists of u64 under the codec Bitpacked: steps from the least value, at the greatest one's width.
-ghost use Rattle.std.specs.Prelude.{◌≡◌, ◌<◌, ◌≤◌, ◌+◌, ◌*◌, ◌^◌, length, map, IfOk, IfErr};
+ghost use Rattle.std.specs.Prelude.{◌≡◌, ℕ, ◌<◌, ◌≤◌, ◌+◌, ◌*◌, ◌^◌, length, map, IfOk, IfErr};
+ghost use Rattle.std.specs.Int.{is_in_range};
 ghost use Rattle.std.specs.List.{AllByRecursion};
+ghost use Rattle.std.specs.List.Sorted.{IsStrictlyIncreasing};
+ghost use Rattle.std.specs.Range.{range_inclusive_start, range_inclusive_end};
+ghost use Rattle.col_common.specs.Replacing.{Replaces};
 ghost use Rattle.col_common.specs.Decoding.{Decodes};
 ghost use Rattle.col_common.specs.Serializing.{Serializes};
 ghost use Rattle.col_bits.specs.Packed.{items, packed_bytes, width};
 ghost use Rattle.col_model.specs.Stats.{stats_of, steps_of, same_stats, least_of, greatest_of};
 ghost use Rattle.col_model.specs.Codecs.{block_size, steps_above};
+ghost use Rattle.col_values.specs.Codes.{number_cmp};
+ghost use Rattle.col_values.specs.Values.{hits_between};
 ghost use Rattle.col_codecs.specs.ColumnStats.{stats_seen, collected_of, IsPossible};
 ghost use Rattle.col_codecs.specs.Header.{list_by};
 ghost use Rattle.col_codecs.specs.Bitpacked.{bitpacked_items};
@@ -18,10 +24,12 @@ use crate::stats_collector::StatsCollector;
 use crate::turning::{Turn, serialize_turned};
 use bytes::Bytes;
 use col_bits::{BitUnpacker, compute_num_bits, is_packed};
-use col_common::{BYTE_BITS, ColumnarError, Iterable, Sink};
+use col_common::{BYTE_BITS, ColumnarError, Iterable, RowId, Sink, Steps};
 use col_values::ColumnValues;
 use std::alloc::Global;
-use std::marker::Model;
+use std::marker::{Brand, Model};
+use std::ops::{Range, RangeInclusive};
+use std::sync::ledger::{Blank, Ledger};
 
 /// A list that is read in place.
 #[derive(Drop)]
@@ -63,6 +71,34 @@ impl BitpackedReader {
             bit_unpacker,
             stats,
         })
+    }
+
+    /// The positions in a range whose values are from the first to the last, ascending. Both ends
+    /// become steps of the packed list, each by a step of `steps`, and no value is decoded.
+    pub fn get_row_ids_counted<L: Ledger>(
+        &self,
+        value_range: RangeInclusive<u64>,
+        row_ids: Range<RowId>,
+        hits: &mut Vec<RowId>,
+        steps: &mut Steps<L>,
+    ) -> Result<(), ColumnarError>
+        ensures ok { Replaces result hits.new.items
+            (hits_between number_cmp self.now (range_inclusive_start value_range)
+            (range_inclusive_end value_range) row_ids.start row_ids.end) }
+        ensures rises { IsStrictlyIncreasing hits.new.items }
+        ensures steps { steps.new ≤ steps.old + 2 }
+    {
+        let (low, high) = value_range.into_inner();
+        let packed = packed_between(&self.stats, low, high, steps);
+        let end = row_ids.end.min(self.stats.num_rows);
+        let data = self.data.as_slice();
+        match self
+            .bit_unpacker
+            .get_ids_for_value_range(packed, row_ids.start..end, data, hits)
+        {
+            Ok(()) => Ok(()),
+            Err(_) => Err(ColumnarError::OutOfMemory),
+        }
     }
 
     /// The same list once more, which shares its bytes.
@@ -109,6 +145,58 @@ impl ColumnValues<u64> for BitpackedReader {
             .get_range(start as u32, self.data.as_slice(), output);
         take_values(&self.stats, output);
     }
+
+    fn get_row_ids_between(
+        &self,
+        low: u64,
+        high: u64,
+        row_ids: Range<RowId>,
+        hits: &mut Vec<RowId>,
+    ) -> Result<(), ColumnarError> {
+        find_row_ids::<Brand>(self, low..=high, row_ids, hits, Blank::new(1))
+    }
+}
+
+// The packed numbers of the values from `low` to `high`: a step for each end.
+fn packed_between<L: Ledger>(
+    stats: &ColumnStats,
+    low: u64,
+    high: u64,
+    steps: &mut Steps<L>,
+) -> RangeInclusive<u64>
+    requires { 0 < stats.now.gcd }
+    ensures packed { (k : ℕ) →
+        is_in_range low high (stats.now.min_value + stats.now.gcd * k)
+        ≡ is_in_range (range_inclusive_start result) (range_inclusive_end result) k }
+    ensures steps { steps.new ≡ steps.old + 2 }
+{
+    let ColumnStats { gcd, min_value, .. } = *stats;
+    steps.tick();
+    let first = low.saturating_sub(min_value).div_ceil(gcd);
+    steps.tick();
+    if high < min_value {
+        return 1..=0;
+    }
+    first..=(high - min_value) / gcd
+}
+
+// The lookup where steps count in a new ledger.
+fn find_row_ids<L: Ledger>(
+    list: &BitpackedReader,
+    value_range: RangeInclusive<u64>,
+    row_ids: Range<RowId>,
+    hits: &mut Vec<RowId>,
+    blank: Blank,
+) -> Result<(), ColumnarError>
+    requires name { blank.name ≡ L.name }
+    requires parts { blank.parts ≡ L.parts }
+    requires some { 0 < blank.parts }
+    ensures { Replaces result hits.new.items
+        (hits_between number_cmp list.now (range_inclusive_start value_range)
+        (range_inclusive_end value_range) row_ids.start row_ids.end) }
+{
+    let mut steps = Steps::<L>::new(blank);
+    list.get_row_ids_counted(value_range, row_ids, hits, &mut steps)
 }
 
 // Turns steps into the values that lie so many divisors above the least.

@@ -1,16 +1,19 @@
 -- Steps of a lookup, and of a copy of a part.
-use Rattle.std.proofs.Common.{◌≡◌, ℕ, zero, suc, ◌+◌, ◌<◌, ◌≤◌, Bool, true, false, cond, List, [], ◌∷◌, ◌++◌, length, take, drop, set, get_or, slice_get, Some, refl, sym, ap, ◌∙◌, add-zero, append-nil, arith}
+use Rattle.std.proofs.Common.{◌≡◌, ℕ, zero, suc, ◌+◌, ◌<◌, ◌≤◌, Bool, true, false, cond, List, [], ◌∷◌, ◌++◌, length, take, drop, set, get_or, slice_get, Option, Some, None, map, ◌&&◌, ap₂, refl, sym, ap, ◌∙◌, add-zero, append-nil, arith}
 use mir.Val.{bool_byte}
-use Rattle.std.specs.List.{filter, range_with_len}
+use Rattle.std.specs.List.{All, AllByRecursion, filter, range_with_len}
+use Rattle.std.specs.Ordering.{partial_le}
+use Rattle.std.specs.declared.cmp.Ordering.{Ordering}
 use Rattle.std.specs.List.Sorted.{IsStrictlyIncreasing}
 use Rattle.std.proofs.lemmas.List.Kept.{IsStrictlyIncreasing-filter}
 use Rattle.std.proofs.lemmas.Grind.{common_steps}
-use Rattle.std.proofs.lemmas.List.{map-id, take_more, take_more_set, take-set, drop_more, get_or-drop, length-drop}
-use Rattle.std.proofs.lemmas.List.Elements.{filter-append}
+use Rattle.std.proofs.lemmas.List.{map-id, take_more, take_more_set, take-set, drop_more, get_or-drop, length-drop, length-map}
+use Rattle.std.proofs.lemmas.List.Elements.{filter-append, filter_agree, recursion_from_All}
 use Rattle.std.proofs.lemmas.List.FromFn.{map-range_with_len_more, length-range_with_len, get_or-range_with_len}
 use Rattle.std.proofs.lemmas.Option.{get_or_from_slice_get}
 use Rattle.col_common.proofs.OrderingLemmas.{range_rises}
-use Rattle.col_values.specs.Values.{passes, hits}
+use Rattle.col_values.specs.Monotonic.{Passes}
+use Rattle.col_values.specs.Values.{passes, hits, hits_between, is_between, span}
 
 one_more : (a n : ℕ) → range_with_len a (n + 1) ≡ range_with_len a n ++ ((a + n) ∷ [])
 one_more a n = sym (map-id _) ∙ map-range_with_len_more (λ k. k) a n (a + n) refl ∙ ap (λ l. l ++ ((a + n) ∷ [])) (map-id _)
@@ -74,3 +77,53 @@ front_value values i x value within = drop_more values i x within ∙ ap (λ v. 
 pub hits_rise : {T : Type 0} (test : T → Bool) (values : List T) (from n : ℕ) → IsStrictlyIncreasing (hits test values from n)
 unfolding hits
 hits_rise test values from n = IsStrictlyIncreasing-filter (λ row. passes test (slice_get values row)) (range_with_len from n) (range_rises from n)
+
+-- no value passes, no hit
+never : {X : Type 0} (o : Option X) → passes (λ _. false) o ≡ false
+never None = refl
+never (Some x) = refl
+
+nothing_kept : (rows : List ℕ) → filter (λ _. false) rows ≡ []
+nothing_kept [] = refl
+nothing_kept (row ∷ rows) = nothing_kept rows
+
+hits_never : {X : Type 0} (values : List X) (from n : ℕ) → hits (λ _. false) values from n ≡ []
+unfolding hits
+hits_never values from n =
+    filter_agree (λ row. passes (λ _. false) (slice_get values row)) (λ _. false) (λ row. never (slice_get values row)) (range_with_len from n)
+    ∙ nothing_kept (range_with_len from n)
+
+module _ {X Y : Type 0} (is_in : X → Bool) (there : X → Y) (p : Y → Bool) (q : X → Bool) (same : (x : X) → Passes is_in x → p (there x) ≡ q x) where
+  passes_mapped : (values : List X) → AllByRecursion (Passes is_in) values → (row : ℕ) → passes p (slice_get (map there values) row) ≡ passes q (slice_get values row)
+  passes_mapped [] all row = refl
+  passes_mapped (x ∷ values) all zero = same x all.0
+  passes_mapped (x ∷ values) all (suc row) = passes_mapped values all.1 row
+
+  -- hits among what values are mapped to are hits among the values
+  pub hits_mapped : (values : List X) → All (Passes is_in) values → (from n : ℕ) → hits p (map there values) from n ≡ hits q values from n
+  unfolding hits
+  hits_mapped values all from n =
+      filter_agree (λ row. passes p (slice_get (map there values) row)) (λ row. passes q (slice_get values row)) (passes_mapped values (recursion_from_All (Passes is_in) values all)) (range_with_len from n)
+
+module _ {X Y : Type 0} (cx : X → X → Option Ordering) (cy : Y → Y → Option Ordering) (is_in : X → Bool) (there : X → Y) (values : List X) (all : All (Passes is_in) values) (low high : Y) where
+  -- where no value is mapped to at least the lower end, or none to at most the upper one, there is no hit
+  none_by : ((x : X) → Passes is_in x → is_between cy low high (there x) ≡ false) → (from to : ℕ) → hits_between cy (map there values) low high from to ≡ []
+  none_by misses from to =
+      hits_mapped is_in there (is_between cy low high) (λ _. false) misses values all from (span (length (map there values)) from to)
+      ∙ hits_never values from (span (length (map there values)) from to)
+
+  pub no_lower : ((x : X) → Passes is_in x → partial_le cy low (there x) ≡ false) → (from to : ℕ) → hits_between cy (map there values) low high from to ≡ []
+  no_lower misses = none_by (λ x h. ap (λ b. b && partial_le cy (there x) high) (misses x h))
+
+  both : (a b : Bool) → b ≡ false → (a && b) ≡ false
+  both true b e = e
+  both false b e = refl
+
+  pub no_upper : ((x : X) → Passes is_in x → partial_le cy (there x) high ≡ false) → (from to : ℕ) → hits_between cy (map there values) low high from to ≡ []
+  no_upper misses = none_by (λ x h. both (partial_le cy low (there x)) (partial_le cy (there x) high) (misses x h))
+
+  -- the ends are moved to the values
+  pub moved_ends : (a b : X) → ((x : X) → Passes is_in x → partial_le cy low (there x) ≡ partial_le cx a x) → ((x : X) → Passes is_in x → partial_le cy (there x) high ≡ partial_le cx x b) → (from to : ℕ) → hits_between cy (map there values) low high from to ≡ hits_between cx values a b from to
+  moved_ends a b from_low to_high from to =
+      hits_mapped is_in there (is_between cy low high) (is_between cx a b) (λ x h. ap₂ (λ s t. s && t) (from_low x h) (to_high x h)) values all from (span (length (map there values)) from to)
+      ∙ ap (λ n. hits (is_between cx a b) values from (span n from to)) (length-map values there)

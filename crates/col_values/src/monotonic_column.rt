@@ -5,8 +5,9 @@ ghost use Rattle.col_values.specs.Bounds.{IsMappedBound, IsOfValues, AreExact};
 ghost use Rattle.col_values.specs.Monotonic.{AllMapped, Passes};
 
 use crate::{ColumnValues, StrictlyMonotonicFn};
-use col_common::{Iterable, Walk};
+use col_common::{ColumnarError, Iterable, RowId, Walk};
 use std::marker::{Model, PhantomData};
+use std::ops::Range;
 
 // So many values are read before they are mapped.
 const BLOCK_LEN: usize = 64;
@@ -134,6 +135,24 @@ where
 
     fn max_value(&self) -> Internal {
         self.max_value
+    }
+
+    fn get_row_ids_between(
+        &self,
+        low: Internal,
+        high: Internal,
+        row_ids: Range<RowId>,
+        hits: &mut Vec<RowId>,
+    ) -> Result<(), ColumnarError> {
+        let Some(first) = self.mapping.at_least(low) else {
+            hits.clear();
+            return Ok(());
+        };
+        let Some(last) = self.mapping.at_most(high) else {
+            hits.clear();
+            return Ok(());
+        };
+        self.values.get_row_ids_between(first, last, row_ids, hits)
     }
 }
 

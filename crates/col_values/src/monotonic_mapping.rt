@@ -1,6 +1,6 @@
 //! Maps that keep the order of their domain.
 ghost use Rattle.std.specs.Prelude.{◌≡◌, Bool};
-ghost use Rattle.col_values.specs.Monotonic.{Passes, IsMonotonic, IsImage};
+ghost use Rattle.col_values.specs.Monotonic.{Passes, IsMonotonic, IsImage, IsAtLeast, IsAtMostOf};
 
 /// A map that keeps the order of its domain.
 pub trait StrictlyMonotonicFn<External: PartialOrd + Copy, Internal: PartialOrd + Copy> {
@@ -26,6 +26,16 @@ pub trait StrictlyMonotonicFn<External: PartialOrd + Copy, Internal: PartialOrd 
     fn inverse(&self, value: Internal) -> External
         requires { IsImage (is_in self.now) (there self.now) value }
         ensures { result ≡ back self.now value };
+
+    /// The least value that is mapped to at least this one; none where there is none.
+    fn at_least(&self, out: Internal) -> Option<External>
+        ensures { IsAtLeast External.partial_cmp Internal.partial_cmp (is_in self.now)
+            (there self.now) out result };
+
+    /// The greatest value that is mapped to at most this one; none where there is none.
+    fn at_most(&self, out: Internal) -> Option<External>
+        ensures { IsAtMostOf External.partial_cmp Internal.partial_cmp (is_in self.now)
+            (there self.now) out result };
 
     /// It keeps the order, and the way back undoes it.
     ghost laws: { (m : Self) → IsMonotonic External.partial_cmp Internal.partial_cmp (is_in m)

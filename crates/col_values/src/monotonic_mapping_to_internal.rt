@@ -44,6 +44,16 @@ impl<T: MonotonicallyMappableToU64> StrictlyMonotonicFn<T, u64>
     fn inverse(&self, value: u64) -> T {
         T::from_u64(value)
     }
+
+    #[inline(always)]
+    fn at_least(&self, out: u64) -> Option<T> {
+        T::value_from(out)
+    }
+
+    #[inline(always)]
+    fn at_most(&self, out: u64) -> Option<T> {
+        T::value_to(out)
+    }
 }
 
 impl<T: MonotonicallyMappableToU128> StrictlyMonotonicFn<T, u128>
@@ -70,6 +80,16 @@ impl<T: MonotonicallyMappableToU128> StrictlyMonotonicFn<T, u128>
     #[inline(always)]
     fn inverse(&self, value: u128) -> T {
         T::from_u128(value)
+    }
+
+    #[inline(always)]
+    fn at_least(&self, out: u128) -> Option<T> {
+        Some(T::from_u128(out))
+    }
+
+    #[inline(always)]
+    fn at_most(&self, out: u128) -> Option<T> {
+        Some(T::from_u128(out))
     }
 }
 
@@ -109,6 +129,18 @@ impl<T: MonotonicallyMappableToU64> StrictlyMonotonicFn<u64, T>
     fn inverse(&self, value: T) -> u64 {
         self.original.mapping(value)
     }
+
+    #[inline(always)]
+    fn at_least(&self, out: T) -> Option<u64> {
+        out.known();
+        Some(out.to_u64())
+    }
+
+    #[inline(always)]
+    fn at_most(&self, out: T) -> Option<u64> {
+        out.known();
+        Some(out.to_u64())
+    }
 }
 
 impl<T: MonotonicallyMappableToU128> StrictlyMonotonicFn<u128, T>
@@ -135,5 +167,17 @@ impl<T: MonotonicallyMappableToU128> StrictlyMonotonicFn<u128, T>
     #[inline(always)]
     fn inverse(&self, value: T) -> u128 {
         self.original.mapping(value)
+    }
+
+    #[inline(always)]
+    fn at_least(&self, out: T) -> Option<u128> {
+        out.known();
+        Some(out.to_u128())
+    }
+
+    #[inline(always)]
+    fn at_most(&self, out: T) -> Option<u128> {
+        out.known();
+        Some(out.to_u128())
     }
 }

@@ -2,9 +2,9 @@
 ghost use Rattle.std.specs.Prelude.{◌≡◌, ℕ, ◌^◌, Bool, true};
 ghost use Rattle.col_model.specs.Column.{signed_of};
 ghost use Rattle.col_model.specs.Images.{is_image_of_bool, is_image_of_u32};
-ghost use Rattle.col_values.specs.Monotonic.{Passes};
+ghost use Rattle.col_values.specs.Monotonic.{Passes, IsAtLeast, IsAtMostOf};
 ghost use Rattle.col_values.specs.Laws.{ImagesReachDown};
-ghost use Rattle.col_values.specs.Codes.{IsCoded, is_below, bool_code, bool_value, i64_code, is_i64};
+ghost use Rattle.col_values.specs.Codes.{IsCoded, number_cmp, is_below, bool_code, bool_value, i64_code, is_i64};
 ghost use Rattle.col_values.specs.CodeLaws.{number_laws, u32_laws, bool_laws, i64_laws};
 
 use col_common::DateTime;
@@ -48,6 +48,14 @@ pub trait MonotonicallyMappableToU64: PartialOrd + Copy {
     fn images_reach_down() -> bool
         ensures { result ≡ true → ImagesReachDown is_code };
 
+    /// The least value whose number is at least this one; none where there is none.
+    fn value_from(val: u64) -> Option<Self>
+        ensures { IsAtLeast Self.partial_cmp number_cmp in_type code val result };
+
+    /// The greatest value whose number is at most this one; none where there is none.
+    fn value_to(val: u64) -> Option<Self>
+        ensures { IsAtMostOf Self.partial_cmp number_cmp in_type code val result };
+
     /// The numbers stand for the values in their order.
     ghost laws: { IsCoded (2 ^ 64) Self.partial_cmp in_type code value is_code };
 }
@@ -87,6 +95,16 @@ impl MonotonicallyMappableToU64 for u64 {
     fn images_reach_down() -> bool {
         true
     }
+
+    #[inline(always)]
+    fn value_from(val: u64) -> Option<u64> {
+        Some(val)
+    }
+
+    #[inline(always)]
+    fn value_to(val: u64) -> Option<u64> {
+        Some(val)
+    }
 }
 
 impl MonotonicallyMappableToU64 for u32 {
@@ -124,6 +142,19 @@ impl MonotonicallyMappableToU64 for u32 {
     fn images_reach_down() -> bool {
         true
     }
+
+    #[inline(always)]
+    fn value_from(val: u64) -> Option<u32> {
+        if val > u64::from(u32::MAX) {
+            return None;
+        }
+        Some(val as u32)
+    }
+
+    #[inline(always)]
+    fn value_to(val: u64) -> Option<u32> {
+        Some(val.min(u64::from(u32::MAX)) as u32)
+    }
 }
 
 impl MonotonicallyMappableToU64 for bool {
@@ -158,6 +189,19 @@ impl MonotonicallyMappableToU64 for bool {
     #[inline(always)]
     fn images_reach_down() -> bool {
         true
+    }
+
+    #[inline(always)]
+    fn value_from(val: u64) -> Option<bool> {
+        if val > u64::from(true) {
+            return None;
+        }
+        Some(val == u64::from(true))
+    }
+
+    #[inline(always)]
+    fn value_to(val: u64) -> Option<bool> {
+        Some(val >= u64::from(true))
     }
 }
 
@@ -196,6 +240,16 @@ impl MonotonicallyMappableToU64 for i64 {
     fn images_reach_down() -> bool {
         true
     }
+
+    #[inline(always)]
+    fn value_from(val: u64) -> Option<i64> {
+        Some(i64::from_u64(val))
+    }
+
+    #[inline(always)]
+    fn value_to(val: u64) -> Option<i64> {
+        Some(i64::from_u64(val))
+    }
 }
 
 impl MonotonicallyMappableToU64 for DateTime {
@@ -232,5 +286,15 @@ impl MonotonicallyMappableToU64 for DateTime {
     #[inline(always)]
     fn images_reach_down() -> bool {
         true
+    }
+
+    #[inline(always)]
+    fn value_from(val: u64) -> Option<DateTime> {
+        Some(DateTime::from_u64(val))
+    }
+
+    #[inline(always)]
+    fn value_to(val: u64) -> Option<DateTime> {
+        Some(DateTime::from_u64(val))
     }
 }

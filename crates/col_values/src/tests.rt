@@ -1,5 +1,6 @@
 //! Maps and lists of values by examples.
 
+mod counting;
 mod doubling;
 mod lists;
 mod maps;

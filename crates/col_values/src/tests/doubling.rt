@@ -33,4 +33,16 @@ impl StrictlyMonotonicFn<u64, u64> for Doubling {
     fn inverse(&self, value: u64) -> u64 {
         value / 2
     }
+
+    fn at_least(&self, out: u64) -> Option<u64> {
+        let half = out.div_ceil(2);
+        if half >= 1 << 63 {
+            return None;
+        }
+        Some(half)
+    }
+
+    fn at_most(&self, out: u64) -> Option<u64> {
+        Some(out / 2)
+    }
 }

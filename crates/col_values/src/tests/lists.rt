@@ -1,8 +1,10 @@
 //! Lists of values, by examples.
 
+use crate::tests::counting::Counting;
 use crate::tests::doubling::Doubling;
 use crate::{ColumnValues, EmptyColumnValues, VecColumn, count_items, monotonic_map_column};
 use col_common::Iterable;
+use std::cell::Cell;
 use std::test::Fail;
 
 #[test]
@@ -62,6 +64,27 @@ fn a_lookup_replaces_its_hits_by_the_positions_inside(rt: HostRuntime) -> Result
         column.get_row_ids_for_value_range(low..=high, start..end, &mut hits)?;
         assert_eq!(rt; hits.as_slice(), found, "{told}");
     }
+    Ok(())
+}
+
+#[test]
+fn a_lookup_through_a_map_asks_the_list_once_and_reads_no_value(
+    rt: HostRuntime,
+) -> Result<(), Fail> {
+    let reads = Cell::new(0);
+    let lookups = Cell::new(0);
+    let doubled = monotonic_map_column(
+        Counting {
+            values: VecColumn::from_vec(vec![in rt.alloc(); 1, 2, 3]?),
+            reads: &reads,
+            lookups: &lookups,
+        },
+        Doubling,
+    );
+    let mut hits = Vec::new(rt.alloc());
+    doubled.get_row_ids_for_value_range(3..=5, 0..3, &mut hits)?;
+    assert_eq!(rt; hits.as_slice(), [1].as_slice());
+    assert_eq!(rt; (lookups.get(), reads.get()), (1, 0));
     Ok(())
 }
 

@@ -91,6 +91,14 @@ fn a_map_that_is_not_onto_leads_back_from_its_images(rt: HostRuntime) {
     assert!(rt; !Doubling.in_domain(0x8000_0000_0000_0000));
     assert_eq!(rt; Doubling.mapping(21), 42);
     assert_eq!(rt; Doubling.inverse(Doubling.mapping(5)), 5);
+    assert_eq!(rt;
+        (Doubling.at_least(3), Doubling.at_most(3)),
+        (Some(2), Some(1))
+    );
+    assert_eq!(rt;
+        (Doubling.at_least(u64::MAX), Doubling.at_most(0)),
+        (None, Some(0))
+    );
 }
 
 #[test]

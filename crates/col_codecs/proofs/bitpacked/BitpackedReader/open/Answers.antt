@@ -31,7 +31,7 @@ returns-then-not-are_stats_of c =
 pub invariant_of-result : goal.invariant_of-result
 invariant_of-result c =
     let s = stats_seen c.args.stats in
-    IsReader-same s c.args.items c.new-bit_unpacker.result (c.new-bit_unpacker.ensures ∙ c.compute_num_bits-num_bits.ensures ∙ ap width c.steps.ensures) (omega arith)
+    IsReader-same s c.args.items c.new-bit_unpacker.result c.requires (c.new-bit_unpacker.ensures ∙ c.compute_num_bits-num_bits.ensures ∙ ap width c.steps.ensures) (omega arith)
     (same s c.args.items c.as_slice-bytes.result.now true c.are_stats_of.result c.as_slice-bytes.ensures c.if-not-are_stats_of.false c.are_stats_of.ensures)
 
 pub returns : goal.returns

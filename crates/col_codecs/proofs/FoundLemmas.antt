@@ -1,0 +1,77 @@
+-- Lookups on packed steps.
+use Rattle.std.proofs.Common.{◌≡◌, ℕ, zero, suc, ◌+◌, ◌-◌, ◌*◌, ◌/◌, ◌%◌, ◌<◌, ◌≤◌, ◌&&◌, Bool, true, false, List, length, map, filter, min, slice_get, Option, Some, refl, sym, ◌∙◌, ap, ap₂, inl, inr, arith}
+use Rattle.std.specs.Prelude.{nat_le, ◌⊎◌, ◌↔◌}
+use Rattle.std.specs.Int.{is_in_range, div_ceil}
+use Rattle.std.specs.List.{range_with_len}
+use Rattle.std.specs.Ordering.{partial_le}
+use Rattle.std.proofs.Math.Nat.{le-div_iff_mul-le, mul-le-mul_right}
+use Rattle.std.proofs.lemmas.Grind.{div_ceil_times}
+use Rattle.std.proofs.lemmas.Bool.{cases_lt}
+use Rattle.std.proofs.lemmas.Bool.Decides.{nat_tests}
+use Rattle.std.proofs.lemmas.Option.{slice_get-get_or}
+use Rattle.std.proofs.lemmas.List.FromFn.{get_or-map-range_with_len, length-map-range_with_len}
+use Rattle.col_bits.specs.Packed.{item, ids_between, width}
+use Rattle.col_model.specs.Stats.{Stats, steps_of}
+use Rattle.col_values.specs.Codes.{number_cmp}
+use Rattle.col_values.specs.Values.{passes, is_between, hits, hits_between, span}
+use Rattle.col_codecs.specs.Bitpacked.{bitpacked_item, bitpacked_items, IsReader}
+use Rattle.col_codecs.proofs.BitpackedLemmas.{length-bitpacked_items, reads-at}
+
+-- ---- ends as steps
+
+both_ways : (a b c d : ℕ) → (a ≤ b → c ≤ d) → (c ≤ d → a ≤ b) → nat_le a b ≡ nat_le c d
+both_ways a b c d f g = elim (cases_lt b a) [
+  | inl past ↦ elim (cases_lt d c) [ inl beyond ↦ grind (arith, nat_tests) | inr upto ↦ absurd (let h = g upto in omega arith) ]
+  | inr within ↦ let h = f within in grind (arith, nat_tests)
+]
+
+-- so many divisors reach the lower end exactly where the steps are at least its distance, rounded up
+up_to : (a g k : ℕ) → 0 < g → nat_le a (g * k) ≡ nat_le (div_ceil a g) k
+up_to a g k some =
+    let bounds = div_ceil_times a g some in
+    both_ways a (g * k) (div_ceil a g) k
+    (λ reached. elim (cases_lt k (div_ceil a g)) [
+      | inl less ↦ absurd (let more : k + 1 ≤ div_ceil a g = omega arith in let h : (k + 1) * g ≤ div_ceil a g * g = mul-le-mul_right g more in omega (arith, h, bounds, reached))
+      | inr enough ↦ enough
+    ])
+    (λ enough. let h : div_ceil a g * g ≤ k * g = mul-le-mul_right g enough in omega (arith, h, bounds))
+
+-- they stay below the upper end exactly where the steps are at most its distance, rounded down
+down_to : (b g k : ℕ) → 0 < g → nat_le (g * k) b ≡ nat_le k (b / g)
+down_to b g k some =
+    let both = le-div_iff_mul-le {k = g} {x = k} {y = b} some in
+    both_ways (g * k) b k (b / g) (λ h. both.1 (omega (arith, h))) (λ h. let m = both.0 h in omega (arith, m))
+
+lower : (least g low k : ℕ) → nat_le low (least + g * k) ≡ nat_le (low - least) (g * k)
+lower least g low k = both_ways low (least + g * k) (low - least) (g * k) (λ h. omega (arith, h)) (λ h. omega (arith, h))
+
+upper : (least g high k : ℕ) → least ≤ high → nat_le (least + g * k) high ≡ nat_le (g * k) (high - least)
+upper least g high k above = both_ways (least + g * k) high (g * k) (high - least) (λ h. omega (arith, h)) (λ h. omega (arith, h, above))
+
+pub steps_within : (least g low high k : ℕ) → 0 < g → least ≤ high → is_in_range low high (least + g * k) ≡ is_in_range (div_ceil (low - least) g) ((high - least) / g) k
+steps_within least g low high k some above =
+    ap₂ (λ s t. s && t) (lower least g low k ∙ up_to (low - least) g k some) (upper least g high k above ∙ down_to (high - least) g k some)
+
+pub no_steps : (least g low high k : ℕ) → high < least → is_in_range low high (least + g * k) ≡ is_in_range 1 0 k
+no_steps least g low high k below = grind (arith, nat_tests)
+
+-- ---- rows
+
+rows_same : (p q : ℕ → Bool) (a n : ℕ) → ((k : ℕ) → a ≤ k → k < a + n → p k ≡ q k) → filter p (range_with_len a n) ≡ filter q (range_with_len a n)
+rows_same p q a zero same = refl
+rows_same p q a (suc n) same =
+    let rest = rows_same p q (a + 1) n (λ k h l. same k (omega arith) (omega arith)) in
+    rw (same a (omega arith) (omega arith), rest) refl
+
+in_between : (low high x : ℕ) → is_between number_cmp low high x ≡ is_in_range low high x
+in_between low high x = grind (arith, nat_tests)
+
+pub found_packed : (s : Stats) (bytes read list : List ℕ) (w low high first last from to end : ℕ) → bitpacked_items s bytes ≡ list → IsReader s w bytes → read ≡ bytes → end ≡ min to s.count → ((k : ℕ) → is_in_range low high (s.least + s.divisor * k) ≡ is_in_range first last k) → ids_between read w first last from (end - from) ≡ hits_between number_cmp list low high from to
+unfolding ids_between hits
+found_packed s bytes read list w low high first last from to end view reader same upto ends =
+    let long : length list ≡ s.count = ap length (sym view) ∙ length-bitpacked_items s bytes in
+    rows_same _ _ from (end - from) (λ k above below.
+    let inside : k < length list = omega (arith, upto, long) in
+    let at = (reads-at s bytes read list w k (item read w k) view reader same refl inside).1 in
+    sym (ap (passes (is_between number_cmp low high)) at ∙ in_between low high (s.least + s.divisor * item read w k) ∙ ends (item read w k)))
+    ∙ ap (λ n. filter (λ row. passes (is_between number_cmp low high) (slice_get list row)) (range_with_len from n)) (omega (arith, upto, long))
