@@ -19,7 +19,7 @@ ghost use Rattle.col_codecs.specs.Bitpacked.{bitpacked_items};
 use crate::codec::{ColumnCodec, ColumnCodecEstimator};
 use crate::column_stats::ColumnStats;
 use crate::header::take_stats;
-use crate::packing::take_steps;
+use crate::packing::{BLOCK_LEN, BLOCK_SIZE, take_steps};
 use crate::stats_collector::StatsCollector;
 use crate::turning::{Turn, serialize_turned};
 use bytes::Bytes;
@@ -257,10 +257,38 @@ fn widen_by_items(
     ensures { stats_seen result ≡ stats_of (items bytes.now bit_unpacker 0 count) }
 {
     let mut collector = collector;
-    for idx in start..count {
-        collector.widen(bit_unpacker.get(idx, bytes));
+    let mut block = [0; BLOCK_SIZE];
+    let mut from = start;
+    while from < count {
+        let len = (count - from).min(BLOCK_LEN);
+        let block = &mut block[..len as usize];
+        collector = widen_by_block(collector, bit_unpacker, bytes, from, block);
+        from += len;
     }
     collector.stats()
+}
+
+// A collector that took as many items more as the block has room for, from an item on.
+fn widen_by_block(
+    collector: StatsCollector,
+    bit_unpacker: BitUnpacker,
+    bytes: &[u8],
+    from: u32,
+    block: &mut [u64],
+) -> StatsCollector
+    requires room { from + length block.old < 2 ^ 32 }
+    requires finest { collector.divisor ≡ 1 }
+    requires collected { collector ≡ collected_of (items bytes.now bit_unpacker 0 from) }
+    ensures finest { result.divisor ≡ 1 }
+    ensures collected { result ≡
+        collected_of (items bytes.now bit_unpacker 0 (from + length block.old)) }
+{
+    bit_unpacker.get_range(from, bytes, block);
+    let mut collector = collector;
+    for at in 0..block.len() {
+        collector.widen(block[at]);
+    }
+    collector
 }
 
 // Steps are packed in place of values.
