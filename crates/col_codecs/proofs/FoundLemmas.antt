@@ -1,8 +1,8 @@
 -- Lookups on packed steps.
-use Rattle.std.proofs.Common.{◌≡◌, ℕ, zero, suc, ◌+◌, ◌-◌, ◌*◌, ◌/◌, ◌%◌, ◌<◌, ◌≤◌, ◌&&◌, Bool, true, false, List, length, map, filter, min, slice_get, Option, Some, refl, sym, ◌∙◌, ap, ap₂, inl, inr, arith}
+use Rattle.std.proofs.Common.{◌≡◌, ℕ, zero, suc, ◌+◌, ◌-◌, ◌*◌, ◌/◌, ◌%◌, ◌<◌, ◌≤◌, ◌&&◌, ◌^◌, Bool, true, false, List, [], ◌∷◌, length, map, filter, min, slice_get, Option, Some, refl, sym, ◌∙◌, ap, ap₂, inl, inr, arith}
 use Rattle.std.specs.Prelude.{nat_le, ◌⊎◌, ◌↔◌}
 use Rattle.std.specs.Int.{is_in_range, div_ceil}
-use Rattle.std.specs.List.{range_with_len}
+use Rattle.std.specs.List.{AllByRecursion, range_with_len}
 use Rattle.std.specs.Ordering.{partial_le}
 use Rattle.std.proofs.Math.Nat.{le-div_iff_mul-le, mul-le-mul_right}
 use Rattle.std.proofs.lemmas.Grind.{div_ceil_times}
@@ -75,3 +75,18 @@ found_packed s bytes read list w low high first last from to end view reader sam
     let at = (reads-at s bytes read list w k (item read w k) view reader same refl inside).1 in
     sym (ap (passes (is_between number_cmp low high)) at ∙ in_between low high (s.least + s.divisor * item read w k) ∙ ends (item read w k)))
     ∙ ap (λ n. filter (λ row. passes (is_between number_cmp low high) (slice_get list row)) (range_with_len from n)) (omega (arith, upto, long))
+
+-- ---- a divisor of 1
+
+pub fit_by_one : (m d : ℕ) (ks : List ℕ) → d ≡ 1 → AllByRecursion (λ k. m + d * k < 2 ^ 64) ks → AllByRecursion (λ k. m + k < 2 ^ 64) ks
+fit_by_one m d [] e all = tt
+fit_by_one m d (k ∷ ks) e all =
+    let same : d * k ≡ 1 * k = ap (λ n. n * k) e in
+    (omega (arith, all.0, same), fit_by_one m d ks e all.1)
+
+pub map_by_one : (m d : ℕ) (ks : List ℕ) → d ≡ 1 → map (λ k. m + k) ks ≡ map (λ k. m + d * k) ks
+map_by_one m d [] e = refl
+map_by_one m d (k ∷ ks) e =
+    let same : d * k ≡ 1 * k = ap (λ n. n * k) e in
+    let first : m + k ≡ m + d * k = omega (arith, same) in
+    λ i. first i ∷ map_by_one m d ks e i

@@ -205,8 +205,21 @@ fn take_values(stats: &ColumnStats, steps: &mut [u64])
     ensures { steps.new ≡ map (λ k. stats.now.min_value + stats.now.gcd * k) steps.old }
 {
     let ColumnStats { gcd, min_value, .. } = *stats;
+    if gcd == 1 {
+        return raise(min_value, steps);
+    }
     for at in 0..steps.len() {
         steps[at] = min_value + gcd * steps[at];
+    }
+}
+
+// The same where the divisor is 1.
+fn raise(min_value: u64, steps: &mut [u64])
+    requires { AllByRecursion (λ k. min_value + k < 2 ^ 64) steps.old }
+    ensures { steps.new ≡ map (λ k. min_value + k) steps.old }
+{
+    for at in 0..steps.len() {
+        steps[at] += min_value;
     }
 }
 

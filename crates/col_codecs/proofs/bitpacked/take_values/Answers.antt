@@ -1,5 +1,6 @@
-use Rattle.std.proofs.Common.{◌≡◌, ◌<◌, ◌+◌, ◌*◌, ◌^◌, ℕ, List, length, slice_index_or, arith, refl}
+use Rattle.std.proofs.Common.{◌≡◌, ◌<◌, ◌+◌, ◌*◌, ◌^◌, ℕ, List, length, slice_index_or, arith, refl, ◌∙◌}
 use Rattle.std.specs.List.{AllByRecursion}
+use Rattle.col_codecs.proofs.FoundLemmas.{fit_by_one, map_by_one}
 use Rattle.col_codecs.proofs.PackingLemmas.{replaced, replaced-push, next-holds}
 use Rattle.col_codecs.proofs.bitpacked.take_values.Goals as goal
 
@@ -16,3 +17,9 @@ pub loop-at-preserved : goal.loop-at-preserved
 loop-at-preserved c =
     let s = c.args.stats.now in
     replaced-push (λ k. s.min_value + s.gcd * k) c.args.steps.now c.loop-at.steps c.loop-at.at _ c.loop-at.invariant (omega arith) refl
+
+pub raise-requires : goal.raise-requires
+raise-requires c = fit_by_one c.args.stats.now.min_value c.args.stats.now.gcd c.args.steps.now c.if-gcd-eq1.true c.requires
+
+pub returns-then-gcd-eq1 : goal.returns-then-gcd-eq1
+returns-then-gcd-eq1 c = c.raise.ensures ∙ map_by_one c.args.stats.now.min_value c.args.stats.now.gcd c.args.steps.now c.if-gcd-eq1.true

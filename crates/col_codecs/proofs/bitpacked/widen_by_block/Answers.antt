@@ -14,8 +14,8 @@ loop-at-preserved c =
     let l = c.loop-at in
     let within : l.at < length a.block.now = omega arith in
     let value : get_or c.get_range.new.output l.at 0 ≡ item a.bytes.now a.bit_unpacker (a.from + l.at) =
-        ap (λ xs. get_or xs l.at 0) c.get_range.ensures
-        ∙ get_or-map-range_with_len (item a.bytes.now a.bit_unpacker) a.from (length a.block.now) l.at (a.from + l.at) 0 within refl in
+    ap (λ xs. get_or xs l.at 0) c.get_range.ensures
+    ∙ get_or-map-range_with_len (item a.bytes.now a.bit_unpacker) a.from (length a.block.now) l.at (a.from + l.at) 0 within refl in
     let next : a.from + l.at + 1 ≡ a.from + (l.at + 1) = omega arith in
     record {
       read = l.invariant.read;

@@ -1,0 +1,10 @@
+use Rattle.std.proofs.Common.{◌≡◌, ◌<◌, ◌+◌, ◌^◌, length, slice_index_or, arith, ap, ◌∙◌, add_comm}
+use Rattle.col_codecs.proofs.PackingLemmas.{replaced, replaced-push, next-holds}
+use Rattle.col_codecs.proofs.bitpacked.raise.Goals as goal
+
+pub overflow_add-steps : goal.overflow_add-steps
+overflow_add-steps c = omega (arith, next-holds (λ k. c.args.min_value + k < 2 ^ 64) (λ k. c.args.min_value + k) c.args.steps.now c.loop-at.steps c.loop-at.at c.loop-at.invariant (omega arith) c.requires)
+
+pub loop-at-preserved : goal.loop-at-preserved
+loop-at-preserved c =
+    replaced-push (λ k. c.args.min_value + k) c.args.steps.now c.loop-at.steps c.loop-at.at _ c.loop-at.invariant (omega arith) (omega arith)
