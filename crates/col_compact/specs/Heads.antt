@@ -8,5 +8,5 @@ head_seen h = record {
   least = h.min_value;
   greatest = h.max_value;
   count = h.num_vals;
-  code_width = h.num_bits
+  code_width = h.num_bits;
 }

@@ -35,7 +35,7 @@ footer_of rs count w =
       greatest = last_end rs;
       count = count;
       code_width = w;
-      ranges = rs
+      ranges = rs;
     }
 
 -- the count fits the bounds that the ranges have
