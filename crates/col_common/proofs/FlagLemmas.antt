@@ -14,7 +14,7 @@ pub length-flags : (words : List ℕ) (n : ℕ) → length (flags_of words n) �
 unfolding flags_of
 length-flags words n = length-map-range_with_len (flag_at words) 0 n
 
-flag-is : (words : List ℕ) (n k : ℕ) → k < n → get_or (flags_of words n) k false ≡ flag_at words k
+pub flag-is : (words : List ℕ) (n k : ℕ) → k < n → get_or (flags_of words n) k false ≡ flag_at words k
 unfolding flags_of
 flag-is words n k h = get_or-map-range_with_len (flag_at words) 0 n k k false h (omega arith)
 

@@ -1,8 +1,8 @@
 //! Whole numbers, refusals, points in time, addresses and bits.
 
 use crate::{
-    ColumnarError, DateTime, Ipv6Addr, Sink, VInt, VIntU128, VecSink, place_bits, pop_first_byte,
-    select_bits,
+    ByteCount, ColumnarError, DateTime, Ipv6Addr, JSON_END_OF_PATH, JSON_PATH_SEGMENT_SEP, Sink,
+    VInt, VIntU128, VecSink, place_bits, pop_first_byte, select_bits,
 };
 use std::test::Fail;
 
@@ -103,4 +103,20 @@ fn times_addresses_and_bits_are_taken_apart(rt: HostRuntime) {
     let mut bytes = b"ab".as_slice();
     assert_eq!(rt; pop_first_byte(&mut bytes), Some(b'a'));
     assert_eq!(rt; bytes, b"b".as_slice());
+}
+
+#[test]
+fn counts_of_bytes_add_up_to_the_greatest(rt: HostRuntime) -> Result<(), Fail> {
+    let most = ByteCount::from(u64::MAX);
+    assert_eq!(rt; (ByteCount::from(3) + ByteCount::from(4)).get_bytes(), 7);
+    assert_eq!(rt; most + ByteCount::from(1), most);
+    assert_eq!(rt; ByteCount::default().get_bytes(), 0);
+    Ok(())
+}
+
+#[test]
+fn names_of_nested_values_are_parted_by_small_bytes(rt: HostRuntime) -> Result<(), Fail> {
+    assert_eq!(rt; JSON_PATH_SEGMENT_SEP, 1);
+    assert_eq!(rt; JSON_END_OF_PATH, 0);
+    Ok(())
 }
