@@ -1,12 +1,11 @@
 -- The order of byte lists, by their first bytes as numbers.
-use Rattle.std.proofs.Common.{◌≡◌, ℕ, zero, suc, ◌+◌, ◌*◌, ◌^◌, ◌<◌, ◌≤◌, ◌≢◌, List, [], ◌∷◌, length, drop, get_or, pow-suc, refl, sym, ap, ◌∙◌, inl, inr, arith}
+use Rattle.std.proofs.Common.{◌≡◌, ℕ, zero, suc, ◌+◌, ◌*◌, ◌^◌, ◌<◌, ◌≤◌, ◌≢◌, List, [], ◌∷◌, drop, get_or, pow-suc, refl, sym, ap, ◌∙◌, inl, inr, arith}
 use Rattle.std.specs.declared.cmp.Ordering.{Ordering}
 use Rattle.std.specs.declared.cmp.Ordering.TheVariants.{Less, Equal, Greater}
 use Rattle.std.specs.Int.{w64, from_be_bytes}
 use Rattle.std.specs.Ordering.{nat_cmp, ordering_then}
 use Rattle.std.specs.Cmp.Lexicographic.{slice_cmp}
 use Rattle.std.proofs.lemmas.Bool.{le-ltb, eq-eqb, cases_order}
-use Rattle.std.proofs.lemmas.List.{drop_more}
 use Rattle.std.proofs.Math.Nat.{mul-le-mul_left}
 use Rattle.std.proofs.lemmas.Map.Lookups.{exact_unsigned}
 use Rattle.col_common.specs.Reading.{IsBytes}
@@ -57,33 +56,33 @@ below_power (suc n) (b ∷ bytes) all =
     let power : 256 ^ suc n ≡ 256 * 256 ^ n = omega (arith, pow-suc 256 n) in
     omega (arith, mul-le-mul_left (256 ^ n) byte)
 
--- the order of the first n bytes
-head_cmp : ℕ → List ℕ → List ℕ → Ordering
-head_cmp zero xs ys = Equal
-head_cmp (suc n) [] ys = Equal
-head_cmp (suc n) (x ∷ xs) [] = Equal
-head_cmp (suc n) (x ∷ xs) (y ∷ ys) = ordering_then (nat_cmp x y) (head_cmp n xs ys)
+then_twice : (o p q : Ordering) → ordering_then (ordering_then o p) (ordering_then o q) ≡ ordering_then o (ordering_then p q)
+then_twice Less p q = refl
+then_twice Equal p q = refl
+then_twice Greater p q = refl
 
-numbers_compare : (n : ℕ) (xs ys : List ℕ) → n ≤ length xs → n ≤ length ys → IsBytes xs → IsBytes ys → nat_cmp (highest_first n xs) (highest_first n ys) ≡ head_cmp n xs ys
-unfolding highest_first head_cmp
-numbers_compare zero xs ys h k a b = refl
-numbers_compare (suc n) [] ys h k a b = absurd (omega arith)
-numbers_compare (suc n) (x ∷ xs) [] h k a b = absurd (omega arith)
-numbers_compare (suc n) (x ∷ xs) (y ∷ ys) h k a b =
-    by_parts (256 ^ n) x y (highest_first n xs) (highest_first n ys) (below_power n xs (λ i. a (suc i))) (below_power n ys (λ i. b (suc i)))
-    ∙ ap (ordering_then (nat_cmp x y)) (numbers_compare n xs ys (omega arith) (omega arith) (λ i. a (suc i)) (λ i. b (suc i)))
+-- a number that is at least 0 isn't below it
+from_zero : (n : ℕ) → ordering_then (nat_cmp 0 n) Less ≡ Less
+from_zero zero = refl
+from_zero (suc n) = ap (λ o. ordering_then o Less) (nat_cmp-less 0 (suc n) (omega arith))
 
-then_assoc : (o p q : Ordering) → ordering_then o (ordering_then p q) ≡ ordering_then (ordering_then o p) q
-then_assoc Less p q = refl
-then_assoc Equal p q = refl
-then_assoc Greater p q = refl
+to_zero : (n : ℕ) → ordering_then (nat_cmp n 0) Greater ≡ Greater
+to_zero zero = refl
+to_zero (suc n) = ap (λ o. ordering_then o Greater) (nat_cmp-greater (suc n) 0 (omega arith))
 
-lists_compare : (n : ℕ) (xs ys : List ℕ) → n ≤ length xs → n ≤ length ys → slice_cmp nat_cmp xs ys ≡ ordering_then (head_cmp n xs ys) (slice_cmp nat_cmp (drop n xs) (drop n ys))
-unfolding head_cmp
-lists_compare zero xs ys h k = refl
-lists_compare (suc n) [] ys h k = absurd (omega arith)
-lists_compare (suc n) (x ∷ xs) [] h k = absurd (omega arith)
-lists_compare (suc n) (x ∷ xs) (y ∷ ys) h k = ap (ordering_then (nat_cmp x y)) (lists_compare n xs ys (omega arith) (omega arith)) ∙ then_assoc (nat_cmp x y) (head_cmp n xs ys) (slice_cmp nat_cmp (drop n xs) (drop n ys))
+-- the numbers decide nothing that the lists don't
+pub heads_agree : (n : ℕ) (xs ys : List ℕ) → IsBytes xs → IsBytes ys → ordering_then (nat_cmp (highest_first n xs) (highest_first n ys)) (slice_cmp nat_cmp xs ys) ≡ slice_cmp nat_cmp xs ys
+unfolding highest_first
+heads_agree zero xs ys a b = refl
+heads_agree (suc n) [] [] a b = refl
+heads_agree (suc n) [] (y ∷ ys) a b = from_zero (y * 256 ^ n + highest_first n ys)
+heads_agree (suc n) (x ∷ xs) [] a b = to_zero (x * 256 ^ n + highest_first n xs)
+heads_agree (suc n) (x ∷ xs) (y ∷ ys) a b =
+    let bytes : IsBytes xs = λ i. a (suc i) in
+    let others : IsBytes ys = λ i. b (suc i) in
+    ap (λ o. ordering_then o (ordering_then (nat_cmp x y) (slice_cmp nat_cmp xs ys))) (by_parts (256 ^ n) x y (highest_first n xs) (highest_first n ys) (below_power n xs bytes) (below_power n ys others))
+    ∙ then_twice (nat_cmp x y) (nat_cmp (highest_first n xs) (highest_first n ys)) (slice_cmp nat_cmp xs ys)
+    ∙ ap (ordering_then (nat_cmp x y)) (heads_agree n xs ys bytes others)
 
 -- an order that isn't a tie decides
 decides : (o p : Ordering) → (o ≡ Equal → ⊥) → ordering_then o p ≡ o
@@ -92,18 +91,31 @@ decides Equal p h = absurd (h refl)
 decides Greater p h = refl
 
 -- where the numbers differ, they decide
-pub heads_decide : (n : ℕ) (xs ys : List ℕ) → n ≤ length xs → n ≤ length ys → IsBytes xs → IsBytes ys → highest_first n xs ≢ highest_first n ys → nat_cmp (highest_first n xs) (highest_first n ys) ≡ slice_cmp nat_cmp xs ys
-heads_decide n xs ys h k a b apart =
-    let same = numbers_compare n xs ys h k a b in
-    same ∙ sym (lists_compare n xs ys h k ∙ decides (head_cmp n xs ys) (slice_cmp nat_cmp (drop n xs) (drop n ys)) (λ e. apart (exact_unsigned (highest_first n xs) (highest_first n ys) (same ∙ e))))
+pub heads_decide : (n : ℕ) (xs ys : List ℕ) → IsBytes xs → IsBytes ys → highest_first n xs ≢ highest_first n ys → nat_cmp (highest_first n xs) (highest_first n ys) ≡ slice_cmp nat_cmp xs ys
+heads_decide n xs ys a b apart =
+    sym (decides (nat_cmp (highest_first n xs) (highest_first n ys)) (slice_cmp nat_cmp xs ys) (λ e. apart (exact_unsigned (highest_first n xs) (highest_first n ys) e)))
+    ∙ heads_agree n xs ys a b
+
+-- ---- what eight bytes spell
+
+-- of no bytes there is nothing
+empty : (k : ℕ) → drop {A = ℕ} k [] ≡ []
+empty zero = refl
+empty (suc k) = refl
+
+nothing_first : (n : ℕ) → highest_first n [] ≡ 0
+unfolding highest_first
+nothing_first zero = refl
+nothing_first (suc n) = refl
 
 -- the number from a place on
-step : (bytes : List ℕ) (k n : ℕ) → k < length bytes → highest_first (suc n) (drop k bytes) ≡ get_or bytes k 0 * 256 ^ n + highest_first n (drop (k + 1) bytes)
+step : (bytes : List ℕ) (k n : ℕ) → highest_first (suc n) (drop k bytes) ≡ get_or bytes k 0 * 256 ^ n + highest_first n (drop (k + 1) bytes)
 unfolding highest_first
-step bytes k n h = ap (highest_first (suc n)) (drop_more bytes k 0 h)
+step [] k n = ap (highest_first (suc n)) (empty k) ∙ let none = nothing_first n in let rest : highest_first n (drop (k + 1) []) ≡ 0 = ap (highest_first n) (empty (k + 1)) ∙ none in omega (arith, rest)
+step (b ∷ bytes) zero n = refl
+step (b ∷ bytes) (suc k) n = step bytes k n ∙ ap (λ m. get_or bytes k 0 * 256 ^ n + highest_first n (drop m (b ∷ bytes))) (let next : suc (k + 1) ≡ suc k + 1 = omega arith in next)
 
--- what eight bytes spell
-pub head_spelled : (bytes : List ℕ) → 8 ≤ length bytes → from_be_bytes w64 (get_or bytes 0 0 ∷ get_or bytes 1 0 ∷ get_or bytes 2 0 ∷ get_or bytes 3 0 ∷ get_or bytes 4 0 ∷ get_or bytes 5 0 ∷ get_or bytes 6 0 ∷ get_or bytes 7 0 ∷ []) ≡ highest_first 8 bytes
+pub head_spelled : (bytes : List ℕ) → from_be_bytes w64 (get_or bytes 0 0 ∷ get_or bytes 1 0 ∷ get_or bytes 2 0 ∷ get_or bytes 3 0 ∷ get_or bytes 4 0 ∷ get_or bytes 5 0 ∷ get_or bytes 6 0 ∷ get_or bytes 7 0 ∷ []) ≡ highest_first 8 bytes
 unfolding highest_first
-head_spelled bytes h =
-    omega (arith, step bytes 0 7 (omega arith), step bytes 1 6 (omega arith), step bytes 2 5 (omega arith), step bytes 3 4 (omega arith), step bytes 4 3 (omega arith), step bytes 5 2 (omega arith), step bytes 6 1 (omega arith), step bytes 7 0 (omega arith))
+head_spelled bytes =
+    omega (arith, step bytes 0 7, step bytes 1 6, step bytes 2 5, step bytes 3 4, step bytes 4 3, step bytes 5 2, step bytes 6 1, step bytes 7 0)

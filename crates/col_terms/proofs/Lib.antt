@@ -6,7 +6,9 @@ pub mod PrefixLemmas
 pub mod StreamLemmas
 pub mod OrderedLemmas
 pub mod PlaceLemmas
-pub mod NumberingLemmas
+pub mod ChainLemmas
+pub mod ArenaLemmas
+pub mod HashLemmas
 pub mod TermRefLemmas
 pub mod WritingLemmas
 pub mod HeadLemmas

@@ -1,12 +1,12 @@
 -- The places of terms that differ.
 use Rattle.std.proofs.Common.{◌≡◌, ℕ, zero, suc, ◌+◌, ◌<◌, nat_lt, not, Bool, true, false, cond, ◌||◌, List, [], ◌∷◌, ◌++◌, length, get_or, slice_get, bytes_eq, Some, None, refl, sym, ap, ◌∙◌, arith}
-use Rattle.std.specs.List.{list_any, IsDistinct, Contains, enumerate_from}
+use Rattle.std.specs.List.{IsDistinct, enumerate_from}
 use Rattle.std.proofs.lemmas.Bool.{lt-ltb, le-ltb, ltb-true, ltb-false, false_from_ne_true, true≢false}
 use Rattle.std.proofs.lemmas.Bool.Decides.{nat_tests}
 use Rattle.std.proofs.lemmas.List.Sums.{position_or_len_is, passes_at_first, prefix_len-le-length}
 use Rattle.std.proofs.lemmas.Option.{none-some, same_Some, slice_get-get_or}
 use Rattle.std.proofs.lemmas.List.{length_push, get_or_push, get_or_append_left}
-use Rattle.std.proofs.lemmas.List.FromFn.{length-enumerate_from, get_or-enumerate_from}
+use Rattle.std.proofs.lemmas.List.FromFn.{get_or-enumerate_from}
 use Rattle.std.proofs.lemmas.Map.Keys.{apart_from_distinct}
 use Rattle.std.proofs.lemmas.Slice.Eq.{bytes_eq-Decides}
 use Rattle.col_terms.specs.Building.{is_known, id_of, known_id, Allocates}
@@ -39,15 +39,11 @@ pub term_at_place : (ts : List (List ℕ)) (t : List ℕ) → is_known ts t ≡ 
 term_at_place ts t e = sym (bytes_eq-true t (get_or ts (id_of ts t) []) (passes_at_first (bytes_eq t) ts [] (place_below ts t e)))
 
 -- a term that isn't there would be behind all others
-pub place_unknown : (ts : List (List ℕ)) (t : List ℕ) → known_id ts t ≡ None → id_of ts t ≡ length ts
+place_unknown : (ts : List (List ℕ)) (t : List ℕ) → is_known ts t ≡ false → id_of ts t ≡ length ts
 place_unknown ts t e =
     let below = prefix_len-le-length (λ x. not (bytes_eq t x)) ts in
-    let unknown : nat_lt (id_of ts t) (length ts) ≡ false = sym (known_below ts t) ∙ none (is_known ts t) e in
+    let unknown : nat_lt (id_of ts t) (length ts) ≡ false = sym (known_below ts t) ∙ e in
     omega (arith, ltb-false (id_of ts t) (length ts) unknown)
-  where
-    none : (b : Bool) → cond b (Some (id_of ts t)) None ≡ None → b ≡ false
-    none true e = absurd (none-some (id_of ts t) (sym e))
-    none false e = refl
 
 -- each term of the list is known
 pub known_at : (ts : List (List ℕ)) (i : ℕ) → i < length ts → is_known ts (get_or ts i []) ≡ true
@@ -82,23 +78,6 @@ numbered-push ts t = enumerate-push 0 ts t ∙ ap (λ k. numbered ts ++ (k, t) �
 pub numbered-get : (ts : List (List ℕ)) (i : ℕ) (d : OrdTerm) → i < length ts → get_or (numbered ts) i d ≡ (i, get_or ts i d.1)
 numbered-get ts i d h = get_or-enumerate_from 0 ts i d h ∙ ap (λ k. (k, get_or ts i d.1)) (omega arith)
 
-pub numbered_contains : (ts : List (List ℕ)) (i : ℕ) (t : List ℕ) → i < length ts → get_or ts i t ≡ t → Contains (numbered ts) (i, t)
-numbered_contains ts i t h e = (i, omega (arith, length-enumerate_from 0 ts), numbered-get ts i (i, t) h ∙ ap (λ s. (i, s)) e)
-
-pub numbered_holds : (ts : List (List ℕ)) (i : ℕ) (t : List ℕ) → Contains (numbered ts) (i, t) → (i < length ts) × (get_or ts i t ≡ t)
-numbered_holds ts i t c =
-    let long = length-enumerate_from 0 ts in
-    let within : c.0 < length ts = omega (arith, c.1) in
-    let read : ◌≡◌ {A = OrdTerm} (c.0, get_or ts c.0 t) (i, t) = sym (numbered-get ts c.0 (i, t) within) ∙ c.2 in
-    let here : c.0 ≡ i = ap (λ (p : OrdTerm). p.0) read in
-    let same : get_or ts c.0 t ≡ t = ap (λ (p : OrdTerm). p.1) read in
-    (omega arith, ap (λ k. get_or ts k t) (sym here) ∙ same)
-
--- some numbered term passes just where some term does
-pub any_numbered : (p : List ℕ → Bool) (a : ℕ) (ts : List (List ℕ)) → list_any (λ (q : OrdTerm). p q.1) (enumerate_from a ts) ≡ list_any p ts
-any_numbered p a [] = refl
-any_numbered p a (t ∷ ts) = ap (λ b. p t || b) (any_numbered p (a + 1) ts)
-
 -- ---- a term that comes
 
 -- a test that decides what is there
@@ -116,19 +95,15 @@ allocates-known ts t id e =
       stays = λ k h. refl;
     }
 
-pub allocates-new : (ts : List (List ℕ)) (t : List ℕ) (id : ℕ) (new : List (List ℕ)) → known_id ts t ≡ None → id ≡ length ts → new ≡ ts ++ t ∷ [] → Allocates ts t id new
+pub allocates-new : (ts : List (List ℕ)) (t : List ℕ) (id : ℕ) (new : List (List ℕ)) → is_known ts t ≡ false → id ≡ length ts → new ≡ ts ++ t ∷ [] → Allocates ts t id new
 allocates-new ts t id new e f g =
     let longer = length_push ts t in
     let here : id < length (ts ++ t ∷ []) = omega arith in
     record {
       id_is = f ∙ sym (place_unknown ts t e);
-      terms = g ∙ ap (λ b. cond b ts (ts ++ t ∷ [])) (sym (unknown (is_known ts t) refl e));
+      terms = g ∙ ap (λ b. cond b ts (ts ++ t ∷ [])) (sym e);
       held = ap (λ us. slice_get us id) g ∙ slice_get-get_or (ts ++ t ∷ []) id [] here ∙ ap Some (get_or_push ts t [] id (sym f));
       stays = λ k h.
           let within : k < length (ts ++ t ∷ []) = omega arith in
           ap (λ us. slice_get us k) g ∙ slice_get-get_or (ts ++ t ∷ []) k [] within ∙ ap Some (get_or_append_left ts (t ∷ []) [] k h) ∙ sym (slice_get-get_or ts k [] h);
     }
-  where
-    unknown : (b : Bool) → is_known ts t ≡ b → cond b (Some (id_of ts t)) None ≡ None → is_known ts t ≡ false
-    unknown true h k = absurd (none-some (id_of ts t) (sym k))
-    unknown false h k = h

@@ -61,23 +61,6 @@ pub record IsEnding (ts : List (List ℕ)) (prefix : List ℕ) (start low high :
   pub have_not : (j : ℕ) → high ≤ j → j < length ts → has_prefix prefix (get_or ts j []) ≡ false
 
 module _ (ts : List (List ℕ)) (prefix : List ℕ) (start : ℕ) (f : IsFirstFrom ts prefix start) where
-  pub ending-none : (n : ℕ) → n ≡ length ts → IsEnding ts prefix start start n
-  ending-none n e = record {
-    begun = omega arith;
-    ordered = omega (arith, f.in_range);
-    within = omega arith;
-    have = λ j h k. absurd (omega arith);
-    have_not = λ j h k. absurd (omega arith);
-  }
-
-  pub ending-done : (low high : ℕ) → high ≤ low → IsEnding ts prefix start low high → IsPrefixEnd ts prefix start low
-  ending-done low high h s = record {
-    ordered = s.begun;
-    in_range = omega (arith, s.ordered, s.within);
-    have = s.have;
-    have_not = λ j k l. s.have_not j (omega (arith, s.ordered)) l;
-  }
-
   -- a turn: the term in the middle is tried
   module _ (low high : ℕ) (term : List ℕ) (e : is_ascending ts ≡ true) (s : IsEnding ts prefix start low high) (more : low < high) (read : slice_get ts (middle low high) ≡ Some term) where
     at : get_or ts (middle low high) [] ≡ term

@@ -59,21 +59,6 @@ abbrev pub middle : ℕ → ℕ → ℕ
 middle low high = low + (high - low) / 2
 
 module _ (ts : List (List ℕ)) (key : List ℕ) where
-  pub narrowed-none : (n : ℕ) → n ≡ length ts → IsNarrowed ts key 0 n
-  narrowed-none n e = record {
-    ordered = omega arith;
-    within = omega arith;
-    below = λ j h. absurd (omega arith);
-    above = λ j h k. absurd (omega arith);
-  }
-
-  pub narrowed-done : (low high : ℕ) → high ≤ low → IsNarrowed ts key low high → IsGapFor ts key low
-  narrowed-done low high h s = record {
-    in_range = omega (arith, s.ordered, s.within);
-    smaller_before = λ j k. ap is_lt (s.below j k);
-    greater_after = λ j k l. ap is_lt (s.above j (omega (arith, s.ordered)) l);
-  }
-
   -- a turn: the term in the middle is compared
   module _ (low high : ℕ) (term : List ℕ) (e : is_ascending ts ≡ true) (s : IsNarrowed ts key low high) (more : low < high) (read : slice_get ts (middle low high) ≡ Some term) where
     at : get_or ts (middle low high) [] ≡ term

@@ -15,15 +15,18 @@ use Rattle.std.proofs.lemmas.List.Sorted.{All-permutation, IsPermutation-sym, Is
 use Rattle.std.proofs.lemmas.Map.Keys.{IsDistinct-IsPermutation, apart_from_distinct, sorted_from_all_adjacent}
 use Rattle.std.proofs.lemmas.Map.Lookups.{exact_bytes}
 use Rattle.std.specs.List.{enumerate_from}
-use Rattle.col_terms.specs.Building.{is_known, id_of, ordered, ordinals, IsNumbering, terms_by_id, TermRef, ord_term, texts, AreOrdered}
+use Rattle.col_terms.specs.Building.{is_known, id_of, ordered, ordinals, TermRef, ord_term, texts, HasHead, AreNumbered, AreOrdered}
+use Rattle.col_terms.specs.TermTable.{head_of}
 use Rattle.col_terms.specs.Streams.{OrdTerm, numbered}
+use Rattle.std.proofs.Math.Seq.{take-length}
+use Rattle.col_terms.proofs.HeadLemmas.{heads_agree}
 use Rattle.col_terms.proofs.OrderedLemmas.{AreInOrder, in_order-ordered, permutation-ordered, same_in_order}
 use Rattle.col_terms.proofs.PlaceLemmas.{same_bytes, known_at, place_at, place_below, term_at_place, numbered-get}
 use Rattle.col_model.proofs.OrderingLaws.{bytes_eq-true}
 
 -- a term of no bytes, for places past the end
 abbrev pub nothing : TermRef
-nothing = (record { ref_ptr = (0, 0); now = [] }, 0)
+nothing = (0, record { ref_ptr = (0, 0); now = [] }, 0)
 
 flips : (a b : List ℕ) → bytes_eq a b ≡ bytes_eq b a
 flips a b = go (bytes_eq a b) refl
@@ -34,32 +37,41 @@ flips a b = go (bytes_eq a b) refl
 
 terms_of_refs : (vs : List TermRef) → map (λ (q : OrdTerm). q.1) (map ord_term vs) ≡ texts vs
 terms_of_refs [] = refl
-terms_of_refs (v ∷ vs) = ap (λ ts. v.0.now ∷ ts) (terms_of_refs vs)
+terms_of_refs (v ∷ vs) = ap (λ ts. v.1.now ∷ ts) (terms_of_refs vs)
 
 terms_of_numbered : (a : ℕ) (ts : List (List ℕ)) → map (λ (q : OrdTerm). q.1) (enumerate_from a ts) ≡ ts
 terms_of_numbered a [] = refl
 terms_of_numbered a (t ∷ ts) = ap (λ us. t ∷ us) (terms_of_numbered (a + 1) ts)
 
--- the order of terms with their ids
+-- the order of terms behind their first bytes, with their ids
 abbrev pub by_term : TermRef → TermRef → Ordering
-by_term x y = ordering_then (slice_cmp nat_cmp x.0.now y.0.now) (nat_cmp x.1 y.1)
+by_term x y = ordering_then (ordering_then (nat_cmp x.0 y.0) (slice_cmp nat_cmp x.1.now y.1.now)) (nat_cmp x.2 y.2)
 
-module _ (ps : List OrdTerm) (n : IsNumbering ps) (us vs : List TermRef) (all : map ord_term us ≡ ps) (moved : IsPermutation us vs) (up : IsSorted by_term vs) where
-  counted : IsPermutation (map ord_term vs) (numbered (terms_by_id ps))
-  counted = IsPermutation-trans (map ord_term vs) ps (numbered (terms_by_id ps))
-      (IsPermutation-sym ps (map ord_term vs) (subst (λ qs. IsPermutation qs (map ord_term vs)) all (IsPermutation-map ord_term us vs moved))) n.counts
+-- the first bytes decide nothing that the terms don't
+by_texts : (x y : TermRef) → HasHead x → HasHead y → by_term x y ≡ ordering_then (slice_cmp nat_cmp x.1.now y.1.now) (nat_cmp x.2 y.2)
+by_texts x y h k =
+    let texts_cmp = slice_cmp nat_cmp x.1.now y.1.now in
+    ap (λ o. ordering_then o (nat_cmp x.2 y.2))
+    (ap (λ n. ordering_then (nat_cmp n y.0) texts_cmp) h.head ∙ ap (λ n. ordering_then (nat_cmp (head_of x.1.now) n) texts_cmp) k.head ∙ heads_agree 8 x.1.now y.1.now h.bytes k.bytes)
 
-  same_terms : IsPermutation (texts vs) (terms_by_id ps)
+module _ (ts : List (List ℕ)) (differ : IsDistinct bytes_eq ts) (us vs : List TermRef) (all : AreNumbered ts (length ts) us) (moved : IsPermutation us vs) (up : IsSorted by_term vs) where
+  counted : IsPermutation (map ord_term vs) (numbered ts)
+  counted = IsPermutation-sym (numbered ts) (map ord_term vs) (subst (λ qs. IsPermutation qs (map ord_term vs)) (all.terms ∙ ap numbered (take-length ts)) (IsPermutation-map ord_term us vs moved))
+
+  same_terms : IsPermutation (texts vs) ts
   same_terms =
       let term : OrdTerm → List ℕ = λ q. q.1 in
-      subst (λ ts. IsPermutation ts (terms_by_id ps)) (terms_of_refs vs)
-      (subst (λ ts. IsPermutation (map term (map ord_term vs)) ts) (terms_of_numbered 0 (terms_by_id ps)) (IsPermutation-map term (map ord_term vs) (numbered (terms_by_id ps)) counted))
+      subst (λ us. IsPermutation us ts) (terms_of_refs vs)
+      (subst (λ us. IsPermutation (map term (map ord_term vs)) us) (terms_of_numbered 0 ts) (IsPermutation-map term (map ord_term vs) (numbered ts) counted))
+
+  have_heads : All HasHead vs
+  have_heads = All-permutation HasHead us vs moved all.heads
 
   terms_differ : IsDistinct bytes_eq (texts vs)
-  terms_differ = IsDistinct-IsPermutation bytes_eq flips (terms_by_id ps) (texts vs) (IsPermutation-sym (texts vs) (terms_by_id ps) same_terms) n.differ
+  terms_differ = IsDistinct-IsPermutation bytes_eq flips ts (texts vs) (IsPermutation-sym (texts vs) ts same_terms) differ
 
-  text_at : (k : ℕ) → k < length vs → get_or (texts vs) k [] ≡ (get_or vs k nothing).0.now
-  text_at k h = get_or-map (λ (p : TermRef). p.0.now) vs k nothing [] h
+  text_at : (k : ℕ) → k < length vs → get_or (texts vs) k [] ≡ (get_or vs k nothing).1.now
+  text_at k h = get_or-map (λ (p : TermRef). p.1.now) vs k nothing [] h
 
   neighbours : (k : ℕ) → k + 1 < length (texts vs) → slice_cmp nat_cmp (get_or (texts vs) k []) (get_or (texts vs) (k + 1) []) ≡ Less
   neighbours k h = go (slice_cmp nat_cmp a b) refl
@@ -71,44 +83,46 @@ module _ (ps : List OrdTerm) (n : IsNumbering ps) (us vs : List TermRef) (all : 
       b = get_or (texts vs) (k + 1) []
 
       within : k + 1 < length vs
-      within = let long = length-map vs (λ (p : TermRef). p.0.now) in omega arith
+      within = let long = length-map vs (λ (p : TermRef). p.1.now) in omega arith
 
-      not_less : is_lt (ordering_then (slice_cmp nat_cmp b a) (nat_cmp (get_or vs (k + 1) nothing).1 (get_or vs k nothing).1)) ≡ false
-      not_less = let h2 = within in rw (text_at k (omega arith), text_at (k + 1) within) (up k nothing (omega arith) within)
+      not_less : is_lt (ordering_then (slice_cmp nat_cmp b a) (nat_cmp (get_or vs (k + 1) nothing).2 (get_or vs k nothing).2)) ≡ false
+      not_less =
+          let h2 = within in
+          let least : is_lt (by_term (get_or vs (k + 1) nothing) (get_or vs k nothing)) ≡ false = up k nothing (omega arith) within in
+          let heads = by_texts (get_or vs (k + 1) nothing) (get_or vs k nothing) (have_heads (k + 1) nothing within) (have_heads k nothing (omega arith)) in
+          rw (text_at k (omega arith), text_at (k + 1) within) (ap is_lt (sym heads) ∙ least)
 
       go : (o : Ordering) → slice_cmp nat_cmp a b ≡ o → slice_cmp nat_cmp a b ≡ Less
       go Less e = e
       go Equal e = absurd (true≢false (sym (same_bytes a b (exact_bytes a b e)) ∙ apart_from_distinct bytes_eq (texts vs) k (k + 1) [] terms_differ (omega arith) h))
       go Greater e =
           let back : slice_cmp nat_cmp b a ≡ Less = nat_list_cmp_total.antisymm b a ∙ ap ordering_reverse e in
-          absurd (true≢false (sym (ap (λ o. is_lt (ordering_then o (nat_cmp (get_or vs (k + 1) nothing).1 (get_or vs k nothing).1))) back) ∙ not_less))
+          absurd (true≢false (sym (ap (λ o. is_lt (ordering_then o (nat_cmp (get_or vs (k + 1) nothing).2 (get_or vs k nothing).2))) back) ∙ not_less))
 
   in_order : AreInOrder (texts vs)
   in_order = sorted_from_all_adjacent nat_list_cmp_total (texts vs) [] neighbours
 
   -- each id is the place of its term
   abbrev IsPlaced : OrdTerm → Type 0
-  IsPlaced q = q.0 ≡ id_of (terms_by_id ps) q.1
+  IsPlaced q = q.0 ≡ id_of ts q.1
 
-  numbered_placed : All IsPlaced (numbered (terms_by_id ps))
+  numbered_placed : All IsPlaced (numbered ts)
   numbered_placed k d h =
-      let ts = terms_by_id ps in
       let within : k < length ts = let long = length-enumerate_from 0 ts in omega arith in
-      let place : id_of ts (get_or ts k d.1) ≡ k = ap (id_of ts) (get_or_default ts k d.1 [] within) ∙ place_at ts k n.differ within in
+      let place : id_of ts (get_or ts k d.1) ≡ k = ap (id_of ts) (get_or_default ts k d.1 [] within) ∙ place_at ts k differ within in
       subst IsPlaced (sym (numbered-get ts k d within)) (sym place)
 
-  ids_are : (ws : List TermRef) → All IsPlaced (map ord_term ws) → map (λ (p : TermRef). p.1) ws ≡ map (id_of (terms_by_id ps)) (texts ws)
+  ids_are : (ws : List TermRef) → All IsPlaced (map ord_term ws) → map (λ (p : TermRef). p.2) ws ≡ map (id_of ts) (texts ws)
   ids_are [] a = refl
   ids_are (w ∷ ws) a =
-      ap (λ i. i ∷ map (λ (p : TermRef). p.1) ws) (All-head IsPlaced (ord_term w) (map ord_term ws) a)
-      ∙ ap (λ is. id_of (terms_by_id ps) w.0.now ∷ is) (ids_are ws (All-tail IsPlaced (ord_term w) (map ord_term ws) a))
+      ap (λ i. i ∷ map (λ (p : TermRef). p.2) ws) (All-head IsPlaced (ord_term w) (map ord_term ws) a)
+      ∙ ap (λ is. id_of ts w.1.now ∷ is) (ids_are ws (All-tail IsPlaced (ord_term w) (map ord_term ws) a))
 
-  pub are_ordered : AreOrdered (terms_by_id ps) vs
+  pub are_ordered : AreOrdered ts vs
   are_ordered =
-      let ts = terms_by_id ps in
-      let put : texts vs ≡ ordered ts = same_in_order (texts vs) (ordered ts) in_order (in_order-ordered ts) (IsPermutation-trans (texts vs) ts (ordered ts) same_terms (permutation-ordered ts n.differ)) in
+      let put : texts vs ≡ ordered ts = same_in_order (texts vs) (ordered ts) in_order (in_order-ordered ts) (IsPermutation-trans (texts vs) ts (ordered ts) same_terms (permutation-ordered ts differ)) in
       record {
-        differ = n.differ;
+        differ = differ;
         terms = put;
         ids = ids_are vs (All-permutation IsPlaced (numbered ts) (map ord_term vs) (IsPermutation-sym (map ord_term vs) (numbered ts) counted) numbered_placed) ∙ ap (map (id_of ts)) put;
       }
@@ -118,7 +132,7 @@ module _ (ps : List OrdTerm) (n : IsNumbering ps) (us vs : List TermRef) (all : 
 module _ (ts : List (List ℕ)) (vs : List TermRef) (a : AreOrdered ts vs) where
   -- the id at a place
   abbrev pub id_at : ℕ → ℕ
-  id_at k = get_or (map (λ (p : TermRef). p.1) vs) k 0
+  id_at k = get_or (map (λ (p : TermRef). p.2) vs) k 0
 
   order : IsPermutation ts (ordered ts)
   order = permutation-ordered ts a.differ
@@ -127,13 +141,13 @@ module _ (ts : List (List ℕ)) (vs : List TermRef) (a : AreOrdered ts vs) where
   ordered_differ = IsDistinct-IsPermutation bytes_eq flips ts (ordered ts) order a.differ
 
   long : length (ordered ts) ≡ length vs
-  long = ap length (sym a.terms) ∙ length-map vs (λ (p : TermRef). p.0.now)
+  long = ap length (sym a.terms) ∙ length-map vs (λ (p : TermRef). p.1.now)
 
   pub count-ordered : length vs ≡ length ts
   count-ordered = sym long ∙ length_permutation ts (ordered ts) order
 
-  pub id-read : (k : ℕ) → k < length vs → (get_or vs k nothing).1 ≡ id_at k
-  id-read k h = sym (get_or-map (λ (p : TermRef). p.1) vs k nothing 0 h)
+  pub id-read : (k : ℕ) → k < length vs → (get_or vs k nothing).2 ≡ id_at k
+  id-read k h = sym (get_or-map (λ (p : TermRef). p.2) vs k nothing 0 h)
 
   module _ (k : ℕ) (h : k < length vs) where
     in_order_too : k < length (ordered ts)

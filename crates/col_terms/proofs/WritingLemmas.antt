@@ -22,11 +22,11 @@ use Rattle.col_model.proofs.OrderingLaws.{nat_cmp-less, nat_cmp-greater}
 
 -- ---- ends and lengths
 
-length-ends_from : (start : ℕ) (ts : List (List ℕ)) → length (ends_from start ts) ≡ length ts
+pub length-ends_from : (start : ℕ) (ts : List (List ℕ)) → length (ends_from start ts) ≡ length ts
 length-ends_from start [] = refl
 length-ends_from start (t ∷ ts) = ap suc (length-ends_from (start + length t) ts)
 
-ends_rise : (start : ℕ) (ts : List (List ℕ)) → is_never_falling (start ∷ ends_from start ts) ≡ true
+pub ends_rise : (start : ℕ) (ts : List (List ℕ)) → is_never_falling (start ∷ ends_from start ts) ≡ true
 ends_rise start [] = refl
 ends_rise start (t ∷ ts) = and_from (nat_le start (start + length t)) (is_never_falling ((start + length t) ∷ ends_from (start + length t) ts)) (le-leb start (start + length t) (omega arith)) (ends_rise (start + length t) ts)
 
@@ -35,7 +35,7 @@ tail_rises : (start : ℕ) (ts : List (List ℕ)) → is_never_falling (ends_fro
 tail_rises start [] = refl
 tail_rises start (t ∷ ts) = ends_rise (start + length t) ts
 
-sizes_are : (start : ℕ) (ts : List (List ℕ)) → differences (start ∷ ends_from start ts) ≡ map length ts
+pub sizes_are : (start : ℕ) (ts : List (List ℕ)) → differences (start ∷ ends_from start ts) ≡ map length ts
 sizes_are start [] = refl
 sizes_are start (t ∷ ts) =
     let size : start + length t - start ≡ length t = omega arith in
@@ -49,11 +49,11 @@ ends_fit start (t ∷ ts) h =
 
 -- ---- the text
 
-length-concat : (ts : List (List ℕ)) → length (concat ts) ≡ sum (map length ts)
+pub length-concat : (ts : List (List ℕ)) → length (concat ts) ≡ sum (map length ts)
 length-concat [] = refl
 length-concat (t ∷ ts) = length-append t (concat ts) ∙ ap (λ n. length t + n) (length-concat ts) ∙ sym (sum_by-cons (λ n. n) (length t) (map length ts))
 
-cut-concat : (ts : List (List ℕ)) → cut (map length ts) (concat ts) ≡ ts
+pub cut-concat : (ts : List (List ℕ)) → cut (map length ts) (concat ts) ≡ ts
 unfolding cut
 cut-concat [] = refl
 cut-concat (t ∷ ts) =

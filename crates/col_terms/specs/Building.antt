@@ -1,17 +1,17 @@
 -- Terms that are numbered as they come, and put in order in the end.
-use Rattle.std.specs.Prelude.{◌≡◌, ◌<◌, ◌≤◌, ℕ, ◌-◌, ◌^◌, ◌&&◌, not, nat_le, min, Bool, true, false, List, [], ◌∷◌, ◌++◌, map, length, slice_get, sum_by, unwrap_or, bytes_eq, nat_eq, Vec, Option, Some, None, Result, Ok, Err, ◌⊎◌, if◌then◌else◌}
-use Rattle.std.specs.List.{list_any, position_or_len, range_with_len, IsDistinct}
-use Rattle.std.specs.List.Sorted.{IsPermutation}
-use Rattle.std.specs.Map.{lookup}
+use Rattle.std.specs.Prelude.{◌≡◌, ◌<◌, ℕ, ◌-◌, ◌^◌, ◌&&◌, not, nat_le, min, Bool, true, false, List, [], ◌∷◌, ◌++◌, map, length, slice_get, sum_by, take, bytes_eq, Option, Some, None, Result, Ok, Err, ◌⊎◌, if◌then◌else◌}
+use Rattle.std.specs.List.{list_any, position_or_len, concat, All, IsDistinct}
 use Rattle.std.specs.Ordering.{nat_cmp}
 use Rattle.std.specs.Cmp.Lexicographic.{slice_cmp}
 use Rattle.std.specs.Borrow.{Bor}
 use Rattle.col_common.specs.Outside.{SeenSink}
+use Rattle.col_common.specs.Reading.{IsBytes}
 use Rattle.col_common.specs.Serializing.{Serializes}
 use Rattle.col_common.specs.declared.error.ColumnarError.{ColumnarError}
 use Rattle.col_common.specs.declared.error.ColumnarError.TheVariants.{OutOfMemory, TooLarge}
 use Rattle.col_model.specs.Limits.{dictionary_length}
 use Rattle.col_model.specs.Sorted.{distinct_items}
+use Rattle.col_terms.specs.TermTable.{ends_from, head_of}
 use Rattle.col_terms.specs.Streams.{OrdTerm, numbered}
 
 -- ---- terms in the order of their ids
@@ -73,21 +73,12 @@ abbrev pub SerializesWithin : Bool → SeenSink → SeenSink → Result (Unit {0
 SerializesWithin true old new result bytes = (result ≡ Err TooLarge) × (new ≡ old)
 SerializesWithin false old new result bytes = Serializes old new result bytes
 
--- ---- a map from terms to ids
+-- ---- terms one behind another
 
--- the ids with their terms
-abbrev pub id_pairs : {Z : Type 0} → List (Vec ℕ Z × ℕ) → List OrdTerm
-id_pairs {Z} es = map (λ (e : Vec ℕ Z × ℕ). (e.1, e.0.items)) es
-
--- the terms in the order of their ids
-unfoldable pub terms_by_id : List OrdTerm → List (List ℕ)
-terms_by_id ps = map (λ i. unwrap_or (lookup (nat_eq i) ps) []) (range_with_len 0 (length ps))
-
--- the ids count the terms, which differ
-pub record IsNumbering (ps : List OrdTerm) : Type 0 where
-  pub counts : IsPermutation ps (numbered (terms_by_id ps))
-  pub differ : IsDistinct bytes_eq (terms_by_id ps)
-  pub few : length ps ≤ 2 ^ 32 - 1
+-- bytes are those of the terms, and the ends are theirs
+pub record HoldsTerms (bytes ends : List ℕ) (ts : List (List ℕ)) : Type 0 where
+  pub ends_are : ends ≡ ends_from 0 ts
+  pub bytes_are : bytes ≡ concat ts
 
 -- a sum of lengths, which stands still where 64 bits don't count it
 abbrev pub counted_bytes : List (List ℕ) → ℕ
@@ -95,20 +86,30 @@ counted_bytes ts = min (sum_by length ts) (2 ^ 64 - 1)
 
 -- ---- terms with their ids
 
--- a term that is read in place, with its id
+-- a term that is read in place, between its first bytes as a number and its id
 abbrev pub TermRef : Type 0
-TermRef = Bor (List ℕ) × ℕ
+TermRef = ℕ × Bor (List ℕ) × ℕ
 
 -- the same as the term behind the id
 abbrev pub ord_term : TermRef → OrdTerm
-ord_term p = (p.1, p.0.now)
+ord_term p = (p.2, p.1.now)
 
 -- the terms alone
 abbrev pub texts : List TermRef → List (List ℕ)
-texts ps = map (λ (p : TermRef). p.0.now) ps
+texts ps = map (λ (p : TermRef). p.1.now) ps
+
+-- the number is that of the term's first bytes
+pub record HasHead (p : TermRef) : Type 0 where
+  pub head : p.0 ≡ head_of p.1.now
+  pub bytes : IsBytes p.1.now
+
+-- the terms of a list with their ids, from the first up to one
+pub record AreNumbered (ts : List (List ℕ)) (id : ℕ) (ps : List TermRef) : Type 0 where
+  pub heads : All HasHead ps
+  pub terms : map ord_term ps ≡ numbered (take id ts)
 
 -- the terms in order, each with its id
 pub record AreOrdered (ts : List (List ℕ)) (ps : List TermRef) : Type 0 where
   pub differ : IsDistinct bytes_eq ts
   pub terms : texts ps ≡ ordered ts
-  pub ids : map (λ (p : TermRef). p.1) ps ≡ map (id_of ts) (ordered ts)
+  pub ids : map (λ (p : TermRef). p.2) ps ≡ map (id_of ts) (ordered ts)

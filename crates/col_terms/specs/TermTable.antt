@@ -4,6 +4,7 @@ use Rattle.std.specs.List.{concat}
 use Rattle.std.specs.Int.{w32, to_le_bytes, from_le_bytes}
 use Rattle.col_model.specs.Ascending.{is_before, is_ascending, is_never_falling, differences}
 use Rattle.col_model.specs.Dictionary.{cut, terms}
+use Rattle.col_terms.specs.declared.table.TheConstants.{HEAD_NUM_BYTES}
 
 -- the terms that the bytes stand for; none where they stand for nothing
 unfoldable pub terms_of : List ℕ → List (List ℕ)
@@ -49,6 +50,10 @@ unfoldable pub highest_first : ℕ → List ℕ → ℕ
 highest_first zero bytes = 0
 highest_first (suc n) [] = 0
 highest_first (suc n) (b ∷ bytes) = b * 256 ^ n + highest_first n bytes
+
+-- the number in the first bytes, as many as are compared at once
+abbrev pub head_of : List ℕ → ℕ
+head_of bytes = highest_first HEAD_NUM_BYTES bytes
 
 -- where each term ends, if the first one starts at this place
 abbrev pub ends_from : ℕ → List (List ℕ) → List ℕ

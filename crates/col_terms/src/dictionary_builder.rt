@@ -1,14 +1,18 @@
 //! The builder of a dictionary.
-ghost use Rattle.std.specs.Prelude.{◌≡◌, ◌↔◌, ◌-◌, ◌^◌, ◌<◌, ◌≤◌, min, Some, Err, true, false, ◌++◌, ◌∷◌, [], length, map, flat_map, sum_by, slice_get, IfOk, IfErr, OnOk, OnErr};
+ghost use Rattle.std.specs.Prelude.{◌≡◌, ◌↔◌, ◌-◌, ◌^◌, ◌<◌, ◌≤◌, min, Some, Err, true, false, ◌++◌, ◌∷◌, [], length, flat_map, sum_by, slice_get, IfOk, IfErr, OnOk, OnErr};
 ghost use Rattle.std.specs.Int.{w32, to_le_bytes};
 ghost use Rattle.std.specs.List.{concat};
 ghost use Rattle.col_model.specs.Limits.{dictionary_length};
 ghost use Rattle.col_terms.specs.TermTable.{ends_from, dictionary_bytes};
-ghost use Rattle.col_terms.specs.Building.{ordinals, texts, ord_term, id_pairs};
+ghost use Rattle.col_terms.specs.Building.{known_id, ordinals, texts, AreNumbered};
+ghost use Rattle.col_terms.specs.Hashing.{hash_of, AreHashed};
 
+use crate::hash_chains::HashChains;
+use crate::table::padded_head;
+use crate::term_arena::TermArena;
+use crate::term_hash::hash_of;
 use col_common::{ColumnarError, Sink, serialize_bytes};
 use std::alloc::{AllocError, Global};
-use std::collections::HashMap;
 use std::marker::Model;
 
 // How many terms there may be.
@@ -54,24 +58,23 @@ impl TermIdMapping {
 #[derive(Drop)]
 pub struct DictionaryBuilder {
     alloc: Global,
-    ids: HashMap<Vec<u8>, u32>,
-    num_bytes: u64,
+    terms: TermArena,
+    chains: HashChains,
 }
 
 impl Model for DictionaryBuilder {
-    ghost use Rattle.std.specs.Prelude.{◌≡◌, List, ℕ};
-    ghost use Rattle.col_terms.specs.Building.{id_pairs, terms_by_id, IsNumbering, counted_bytes};
+    ghost use Rattle.std.specs.Prelude.{List, ℕ};
+    ghost use Rattle.col_terms.specs.Hashing.{AreHashed};
 
     ghost Value = { List (List ℕ) };
 
-    ghost view = { λ b. terms_by_id (id_pairs b.ids.entries) };
+    ghost view = { λ b. b.terms };
 
-    ghost invariant = { λ b. IsNumbering (id_pairs b.ids.entries)
-        × (b.num_bytes ≡ counted_bytes (terms_by_id (id_pairs b.ids.entries))) };
+    ghost invariant = { λ b. AreHashed b.terms b.chains };
 }
 
 impl DictionaryBuilder {
-    ghost use Rattle.col_terms.specs.Building.{is_known, known_id, Allocates, is_past_ids, IsRefusal, counted_bytes};
+    ghost use Rattle.col_terms.specs.Building.{is_known, Allocates, is_past_ids, IsRefusal, counted_bytes};
     ghost use Rattle.col_terms.specs.Building.{ordered, is_too_long, done, SerializesWithin, AreOrdered};
 
     /// A builder without terms.
@@ -80,8 +83,8 @@ impl DictionaryBuilder {
     {
         DictionaryBuilder {
             alloc,
-            ids: HashMap::new(alloc),
-            num_bytes: 0,
+            terms: TermArena::new(alloc),
+            chains: HashChains::new(alloc),
         }
     }
 
@@ -89,14 +92,14 @@ impl DictionaryBuilder {
     pub fn num_terms(&self) -> u64
         ensures { result ≡ length self.now }
     {
-        self.ids.len() as u64
+        self.terms.len() as u64
     }
 
     /// How many bytes the terms have, as far as 64 bits count.
     pub fn terms_num_bytes(&self) -> u64
         ensures { result ≡ counted_bytes self.now }
     {
-        self.num_bytes
+        self.terms.num_bytes()
     }
 
     /// The id of a term, which gets the next one if it is new.
@@ -107,34 +110,36 @@ impl DictionaryBuilder {
         ensures refused { IfErr result IsRefusal }
         ensures kept { OnErr result (self.new ≡ self.old) }
     {
-        if let Some(id) = self.known_id(term) {
+        let hash = hash_of(term);
+        if let Some(id) = self.known_id(term, hash) {
             return Ok(UnorderedId(id));
         }
         if self.num_terms() >= MAX_NUM_TERMS {
             return Err(ColumnarError::TooLarge);
         }
-        Ok(self.allocate_id(term)?)
+        Ok(self.allocate_id(term, hash)?)
     }
 
     // The id of a term that is there.
-    fn known_id(&self, term: &[u8]) -> Option<u32>
+    fn known_id(&self, term: &[u8], hash: u32) -> Option<u32>
+        requires { hash ≡ hash_of term.now }
         ensures { result ≡ known_id self.now term.now }
     {
-        self.ids.get(term).copied()
+        find(&self.terms, &self.chains, term, hash)
     }
 
     // The next id, for a new term.
-    fn allocate_id(&mut self, term: &[u8]) -> Result<UnorderedId, AllocError>
+    fn allocate_id(&mut self, term: &[u8], hash: u32) -> Result<UnorderedId, AllocError>
         requires new { is_known self.old term.now ≡ false }
         requires room { length self.old < MAX_NUM_TERMS }
-        ensures ok { IfOk result (λ id. id.0 ≡ length self.old) }
-        ensures terms { OnOk result (self.new ≡ self.old ++ term.now ∷ []) }
+        requires hash { hash ≡ hash_of term.now }
+        ensures ok { IfOk result (λ id. Allocates self.old term.now id.0 self.new) }
         ensures kept { OnErr result (self.new ≡ self.old) }
     {
-        let id = self.ids.len() as u32;
-        let key = Vec::from_slice(self.alloc, term)?;
-        self.ids.insert(key, id)?;
-        self.num_bytes = self.num_bytes.saturating_add(term.len() as u64);
+        let id = self.terms.len() as u32;
+        self.chains.reserve()?;
+        self.terms.push(term)?;
+        self.chains.push(hash);
         Ok(UnorderedId(id))
     }
 
@@ -173,34 +178,34 @@ impl DictionaryBuilder {
     fn table_len(&self) -> u64
         ensures { result ≡ min (dictionary_length (ordered self.now)) (2 ^ 64 - 1) }
     {
-        let ends_len = (self.ids.len() as u64 + 1) * 4;
-        ends_len.saturating_add(self.num_bytes)
+        let ends_len = (self.terms.len() as u64 + 1) * 4;
+        ends_len.saturating_add(self.terms_num_bytes())
     }
 
     // The terms in order, with their ids.
-    fn ordered_terms(&self) -> Result<Vec<(&[u8], u32)>, AllocError>
+    fn ordered_terms(&self) -> Result<Vec<(u64, &[u8], u32)>, AllocError>
         ensures { IfOk result (λ terms. AreOrdered self.now terms.items) }
     {
-        let mut terms = pairs_of(self.alloc, &self.ids)?;
+        let mut terms = numbered(self.alloc, &self.terms)?;
         terms.sort_unstable();
         Ok(terms)
     }
 
     // Gives each id the place of its term in order.
-    fn map_ids(&self, terms: &[(&[u8], u32)]) -> Result<TermIdMapping, AllocError>
+    fn map_ids(&self, terms: &[(u64, &[u8], u32)]) -> Result<TermIdMapping, AllocError>
         requires { AreOrdered self.now terms.now }
         ensures { IfOk result (λ m. m ≡ ordinals self.now) }
     {
         let mut ords = vec![in self.alloc; 0; terms.len()]?;
         for (ord, term) in terms.iter().enumerate() {
-            ords[term.1 as usize] = ord as u32;
+            ords[term.2 as usize] = ord as u32;
         }
         Ok(TermIdMapping { ords })
     }
 
     // The bytes of the dictionary.
     #[tactic(auto, unfolding(crate::specs::TermTable::dictionary_bytes))]
-    fn table_bytes(&self, terms: &[(&[u8], u32)]) -> Result<Vec<u8>, AllocError>
+    fn table_bytes(&self, terms: &[(u64, &[u8], u32)]) -> Result<Vec<u8>, AllocError>
         requires terms { AreOrdered self.now terms.now }
         requires fits { is_too_long self.now ≡ false }
         ensures { IfOk result (λ bytes. bytes.items ≡ dictionary_bytes (ordered self.now)) }
@@ -213,37 +218,57 @@ impl DictionaryBuilder {
     }
 }
 
-// The terms of a map with their ids.
-fn pairs_of(alloc: Global, ids: &HashMap<Vec<u8>, u32>) -> Result<Vec<(&[u8], u32)>, AllocError>
-    ensures { IfOk result (λ terms. map ord_term terms.items ≡ id_pairs ids.now.entries) }
+// The id of a term that is there, along the chain of its hash.
+fn find(terms: &TermArena, chains: &HashChains, term: &[u8], hash: u32) -> Option<u32>
+    requires hashed { AreHashed terms.now chains.now }
+    requires hash { hash ≡ hash_of term.now }
+    ensures { result ≡ known_id terms.now term.now }
 {
-    let mut terms = Vec::with_capacity(alloc, ids.len())?;
-    for (term, id) in ids {
-        terms.push((term.as_slice(), *id))?;
+    let mut at = chains.newest(hash);
+    while at > 0 {
+        let id = at - 1;
+        if chains.hash(id) == hash && terms.get(id) == term {
+            return Some(id);
+        }
+        at = chains.older(id);
     }
-    Ok(terms)
+    None
+}
+
+// The terms with their ids, behind their first bytes.
+fn numbered(alloc: Global, terms: &TermArena) -> Result<Vec<(u64, &[u8], u32)>, AllocError>
+    requires { length terms.now < 2 ^ 32 }
+    ensures { IfOk result (λ all. AreNumbered terms.now (length terms.now) all.items) }
+{
+    let num_terms = terms.len() as u32;
+    let mut all = Vec::with_capacity(alloc, terms.len())?;
+    for id in 0..num_terms {
+        let term = terms.get(id);
+        all.push((padded_head(term), term, id))?;
+    }
+    Ok(all)
 }
 
 // Adds where each term ends.
-fn push_ends(bytes: &mut Vec<u8>, terms: &[(&[u8], u32)]) -> Result<(), AllocError>
+fn push_ends(bytes: &mut Vec<u8>, terms: &[(u64, &[u8], u32)]) -> Result<(), AllocError>
     requires { sum_by length (texts terms.now) < 2 ^ 32 }
     ensures { OnOk result (bytes.new.items
         ≡ bytes.old.items ++ flat_map (to_le_bytes w32) (ends_from 0 (texts terms.now))) }
 {
     let mut end: u32 = 0;
     for term in terms {
-        end += term.0.len() as u32;
+        end += term.1.len() as u32;
         bytes.extend_from_slice(&end.to_le_bytes())?;
     }
     Ok(())
 }
 
 // Adds the bytes of each term.
-fn push_texts(bytes: &mut Vec<u8>, terms: &[(&[u8], u32)]) -> Result<(), AllocError>
+fn push_texts(bytes: &mut Vec<u8>, terms: &[(u64, &[u8], u32)]) -> Result<(), AllocError>
     ensures { OnOk result (bytes.new.items ≡ bytes.old.items ++ concat (texts terms.now)) }
 {
     for term in terms {
-        bytes.extend_from_slice(term.0)?;
+        bytes.extend_from_slice(term.1)?;
     }
     Ok(())
 }

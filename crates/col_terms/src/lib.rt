@@ -3,9 +3,12 @@
 
 mod dictionary;
 mod dictionary_builder;
+mod hash_chains;
 mod laws;
 mod streamer;
 mod table;
+mod term_arena;
+mod term_hash;
 
 pub use dictionary::{Dictionary, TermOrdHit};
 pub use dictionary_builder::{DictionaryBuilder, OrderedId, TermIdMapping, UnorderedId};

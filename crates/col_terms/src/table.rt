@@ -1,10 +1,10 @@
 //! The bytes of a dictionary.
-ghost use Rattle.std.specs.Prelude.{◌≡◌, ◌+◌, ◌*◌, ◌<◌, ◌≤◌, Some, length, option_map, slice_get, IfOk, IfErr};
+ghost use Rattle.std.specs.Prelude.{◌≡◌, ◌+◌, ◌*◌, ◌<◌, ◌≤◌, Some, length, option_map, slice_get, slice_index, IfOk, IfErr};
 ghost use Rattle.std.specs.Ordering.{nat_cmp};
 ghost use Rattle.std.specs.Cmp.Lexicographic.{slice_cmp};
 ghost use Rattle.col_common.specs.Reading.{IsBytes};
 ghost use Rattle.col_model.specs.Dictionary.{terms};
-ghost use Rattle.col_terms.specs.TermTable.{terms_of, IsTable, number_at, numbers_in, start_at, cut_whole, follows, highest_first};
+ghost use Rattle.col_terms.specs.TermTable.{terms_of, IsTable, number_at, numbers_in, start_at, cut_whole, follows, head_of};
 ghost use Rattle.col_terms.specs.Lookups.{IsAt, IsGapFor, IsFirstFrom, IsPrefixEnd};
 
 use std::cmp::Ordering;
@@ -13,7 +13,7 @@ use std::cmp::Ordering;
 const NUMBER_NUM_BYTES: usize = 4;
 
 // How many bytes are compared at once.
-const HEAD_NUM_BYTES: usize = 8;
+pub const HEAD_NUM_BYTES: usize = 8;
 
 /// The bytes of a dictionary without terms.
 pub static EMPTY_TABLE: [u8; NUMBER_NUM_BYTES] = [0; NUMBER_NUM_BYTES];
@@ -90,11 +90,41 @@ fn compare<'a>(left: &'a [u8], right: &'a [u8]) -> Ordering
 #[inline]
 fn head(bytes: &[u8]) -> u64
     requires { HEAD_NUM_BYTES ≤ length bytes.now }
-    ensures number { result ≡ highest_first HEAD_NUM_BYTES bytes.now }
+    ensures number { result ≡ head_of bytes.now }
     ensures bytes { IsBytes bytes.now }
 {
     let b = bytes;
     u64::from_be_bytes([b[0], b[1], b[2], b[3], b[4], b[5], b[6], b[7]])
+}
+
+/// The first bytes as a number, where those past the end count as 0.
+#[inline]
+pub fn padded_head(bytes: &[u8]) -> u64
+    ensures number { result ≡ head_of bytes.now }
+    ensures bytes { IsBytes bytes.now }
+{
+    if bytes.len() >= HEAD_NUM_BYTES {
+        return head(bytes);
+    }
+    let b = bytes;
+    u64::from_be_bytes([
+        byte_at(b, 0),
+        byte_at(b, 1),
+        byte_at(b, 2),
+        byte_at(b, 3),
+        byte_at(b, 4),
+        byte_at(b, 5),
+        byte_at(b, 6),
+        byte_at(b, 7),
+    ])
+}
+
+// A byte, or 0 past the end.
+#[inline]
+fn byte_at(bytes: &[u8], at: usize) -> u8
+    ensures { result ≡ slice_index bytes.now at }
+{
+    bytes.get(at).copied().unwrap_or(0)
 }
 
 // The number in four bytes, the lowest first.

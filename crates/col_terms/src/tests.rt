@@ -25,35 +25,64 @@ fn assert_walk(rt: &impl Abort, mut walk: Streamer<'_>, expected: &[(u64, &[u8])
     assert_eq!(rt; walk.key(), b"".as_slice());
 }
 
+// Gives a builder three terms, and one of them again.
+fn assert_numbered(rt: &impl Abort, builder: &mut DictionaryBuilder) -> Result<(), ColumnarError> {
+    let terms: [(&[u8], u32); 4] = [(b"hello", 0), (b"happy", 1), (b"tax", 2), (b"happy", 1)];
+    for (term, id) in terms {
+        assert_eq!(rt; builder.get_or_allocate_id(term)?, UnorderedId(id));
+    }
+    assert_eq!(rt; builder.num_terms(), 3);
+    assert_eq!(rt; builder.terms_num_bytes(), 13);
+    Ok(())
+}
+
+// Writes the dictionary of those three terms.
+fn assert_written(
+    rt: &impl Abort,
+    builder: &DictionaryBuilder,
+    sink: &mut VecSink,
+) -> Result<(), ColumnarError> {
+    assert_eq!(rt; builder.num_terms(), 3);
+    let written = builder.serialize(sink)?;
+    assert_eq!(rt; sink.bytes(), THREE_TERMS);
+    assert_eq!(rt; written.to_ord(UnorderedId(0)), OrderedId(1));
+    assert_eq!(rt; written.to_ord(UnorderedId(1)), OrderedId(0));
+    assert_eq!(rt; written.to_ord(UnorderedId(2)), OrderedId(2));
+    Ok(())
+}
+
+// The ordinal of the first of those three terms, without writing.
+fn assert_mapped(rt: &impl Abort, builder: &DictionaryBuilder) -> Result<(), ColumnarError> {
+    assert_eq!(rt; builder.num_terms(), 3);
+    let mapping = builder.build_term_id_mapping()?;
+    assert_eq!(rt; mapping.to_ord(UnorderedId(0)), OrderedId(1));
+    Ok(())
+}
+
+// Gives a builder forty terms, each twice.
+fn assert_forty(rt: &impl Abort, builder: &mut DictionaryBuilder) -> Result<(), ColumnarError> {
+    for number in 0..80_u32 {
+        let id = builder.get_or_allocate_id(&[(number % 40) as u8])?;
+        assert_eq!(rt; id.0, number % 40);
+    }
+    assert_eq!(rt; builder.num_terms(), 40);
+    Ok(())
+}
+
 #[test]
 fn terms_are_numbered_as_they_come_and_written_in_order(rt: HostRuntime) -> Result<(), Fail> {
     let alloc = rt.alloc();
     let mut builder = DictionaryBuilder::new(alloc);
-    let hello = builder.get_or_allocate_id(b"hello")?;
-    let happy = builder.get_or_allocate_id(b"happy")?;
-    let tax = builder.get_or_allocate_id(b"tax")?;
-    assert_eq!(rt;
-        [hello, happy, tax],
-        [UnorderedId(0), UnorderedId(1), UnorderedId(2)]
-    );
-    assert_eq!(rt;
-        builder.get_or_allocate_id(b"happy")?,
-        happy,
-        "a known term"
-    );
-    assert_eq!(rt; builder.num_terms(), 3);
-    assert_eq!(rt; builder.terms_num_bytes(), 13);
+    assert_numbered(&rt, &mut builder)?;
+    assert_mapped(&rt, &builder)?;
     let mut sink = VecSink::new(Vec::new(alloc), Vec::new(alloc));
-    let written = builder.serialize(&mut sink)?;
-    assert_eq!(rt; sink.bytes(), THREE_TERMS);
-    assert_eq!(rt; written.to_ord(hello), OrderedId(1));
-    assert_eq!(rt; written.to_ord(happy), OrderedId(0));
-    assert_eq!(rt; written.to_ord(tax), OrderedId(2));
-    assert_eq!(rt;
-        builder.build_term_id_mapping()?.to_ord(hello),
-        OrderedId(1)
-    );
+    assert_written(&rt, &builder, &mut sink)?;
     Ok(())
+}
+
+#[test]
+fn ids_are_found_when_the_table_has_grown(rt: HostRuntime) -> Result<(), ColumnarError> {
+    assert_forty(&rt, &mut DictionaryBuilder::new(rt.alloc()))
 }
 
 #[test]

@@ -1,9 +1,6 @@
 use Rattle.std.proofs.Common.{sym, ◌∙◌}
-use Rattle.col_terms.proofs.PlaceLemmas.{allocates-known, allocates-new}
+use Rattle.col_terms.proofs.PlaceLemmas.{allocates-known}
 use Rattle.col_terms.proofs.dictionary_builder.DictionaryBuilder.get_or_allocate_id.Goals as goal
 
 pub returns-in-Some-clause-ok : goal.returns-in-Some-clause-ok
 returns-in-Some-clause-ok c = allocates-known c.args.self.now c.args.term.now c.in-Some.id (sym c.known_id.ensures ∙ c.in-Some.is)
-
-pub returns-clause-ok : goal.returns-clause-ok
-returns-clause-ok c = allocates-new c.args.self.now c.args.term.now c.in_ok-allocate_id.field-0.0 c.allocate_id.new.self (sym c.known_id.ensures ∙ c.in_default.is) c.in_ok-allocate_id.ensures.ok c.in_ok-allocate_id.ensures.terms

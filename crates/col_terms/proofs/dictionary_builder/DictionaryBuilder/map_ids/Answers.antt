@@ -1,16 +1,13 @@
-use Rattle.std.proofs.Common.{length, ap, sym, ◌∙◌, arith}
+use Rattle.std.proofs.Common.{length, ap, ◌∙◌, arith}
 use Rattle.std.proofs.lemmas.List.{length-set}
-use Rattle.col_terms.proofs.NumberingLemmas.{length-terms_by_id}
-use Rattle.col_terms.specs.Building.{id_pairs}
 use Rattle.col_terms.proofs.TermRefLemmas.{count-ordered, id-read, id-below, placed-more, ordinals-are}
 use Rattle.col_terms.proofs.dictionary_builder.DictionaryBuilder.map_ids.Goals as goal
 
 pub overflow_cast-ord : goal.overflow_cast-ord
 overflow_cast-ord c =
     let count = count-ordered c.args.self.now c.args.terms.now c.requires in
-    let few = c.self.invariant.0.few in
-    let many = sym (length-terms_by_id (id_pairs c.self.inside.ids.entries)) ∙ ap length c.self.view_is in
-    omega (arith, few, many, count)
+    let many = ap length c.self.view_is in
+    omega (arith, c.self.invariant.few, many, count)
 
 pub index_mut-requires : goal.index_mut-requires
 index_mut-requires c =

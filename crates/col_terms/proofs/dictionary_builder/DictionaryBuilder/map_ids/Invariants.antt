@@ -5,5 +5,5 @@ use Rattle.col_terms.proofs.dictionary_builder.DictionaryBuilder.map_ids.Given a
 abbrev pub invariant-loop-ord : goal.invariant-loop-ord
 invariant-loop-ord l = record {
   long : length l.ords.items ≡ length l.terms;
-  placed : (k : ℕ) → k < l.ord → get_or l.ords.items (get_or (map (λ (p : TermRef). p.1) l.terms) k 0) 0 ≡ k;
+  placed : (k : ℕ) → k < l.ord → get_or l.ords.items (get_or (map (λ (p : TermRef). p.2) l.terms) k 0) 0 ≡ k;
 }
