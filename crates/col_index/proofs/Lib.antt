@@ -25,3 +25,6 @@ mod RowsAtLemmas
 mod KeptLemmas
 mod TurnLemmas
 mod OldStartLemmas
+mod PartLemmas
+mod RankWordLemmas
+mod RankedLemmas

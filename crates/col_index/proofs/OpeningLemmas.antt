@@ -1,11 +1,10 @@
 -- Parts of the bytes of indexes.
-use Rattle.std.proofs.Common.{◌≡◌, ℕ, ◌+◌, ◌-◌, ◌^◌, ◌≤◌, ◌&&◌, nat_le, nat_lt, Bool, List, ◌++◌, length, take, drop, Option, Some, None, refl, sym, ◌∙◌, ap, subst, arith, length-append, true, false}
-use Rattle.std.specs.Int.{w64, from_le_bytes}
+use Rattle.std.proofs.Common.{◌≡◌, ℕ, ◌+◌, ◌-◌, ◌^◌, ◌≤◌, ◌&&◌, nat_lt, Bool, List, ◌++◌, length, drop, Option, Some, None, refl, sym, ◌∙◌, ap, subst, arith, length-append, true, false}
+use Rattle.std.specs.Int.{w64}
 use Rattle.std.proofs.lemmas.Bool.{lt-ltb}
-use Rattle.std.proofs.lemmas.List.{take-append-drop}
 use Rattle.std.proofs.lemmas.Option.{option_and_then_some, cond_some}
-use Rattle.std.proofs.Math.Seq.{take-append_seam, drop-append_seam}
-use Rattle.col_common.specs.Reading.{◌>>=◌, IsBytes, only_if, front, back, parts_by_first}
+use Rattle.std.proofs.Math.Seq.{drop-append_seam}
+use Rattle.col_common.specs.Reading.{◌>>=◌, IsBytes, only_if, parts_by_first}
 use Rattle.col_common.specs.VInt.{vint, vint_bytes}
 use Rattle.col_common.proofs.VIntLemmas.{vint_bytes-vint}
 use Rattle.col_model.specs.Index.{RowSet, row_set, row_offsets}

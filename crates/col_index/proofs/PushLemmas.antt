@@ -1,12 +1,14 @@
 -- Items that are appended to a list as far as memory reaches.
-use Rattle.std.proofs.Common.{◌≡◌, ℕ, ◌+◌, ◌-◌, ◌<◌, ◌≤◌, List, [], ◌∷◌, ◌++◌, length, map, flat_map, take, get_or, Result, Ok, Err, IfErr, IsErrAnd, sym, ap, ◌∙◌, append_assoc, append-nil, arith}
+use Rattle.std.proofs.Common.{◌≡◌, ℕ, ◌+◌, ◌-◌, ◌<◌, ◌≤◌, cond, true, List, [], ◌∷◌, ◌++◌, length, map, flat_map, take, get_or, Result, Ok, Err, IsErrAnd, sym, ap, ◌∙◌, append_assoc, append-nil, arith}
 use Rattle.std.proofs.lemmas.List.{map-append, take_more, flat_map_more}
+use Rattle.std.proofs.lemmas.List.Elements.{filter-append}
 use Rattle.col_common.specs.declared.error.ColumnarError.{ColumnarError}
 use Rattle.col_common.specs.declared.error.ColumnarError.TheVariants as refusals
 use Rattle.col_model.specs.Index.{multivalued_shape}
-use Rattle.col_model.specs.Positions.{values_in}
+use Rattle.col_model.specs.Positions.{rank, values_in}
 use Rattle.col_index.specs.Offsets.{run, docs_of, positions_of, positions_of_rows, row_positions}
 use Rattle.col_index.specs.Appending.{BeginsWith, PushesBoth}
+use Rattle.col_index.specs.Sets.{holds, held, held_ranks}
 use Rattle.col_index.proofs.ValueLemmas.{run-more}
 
 -- ---- what a refusal leaves
@@ -74,3 +76,25 @@ visited-free part counts docs front found i h none e = visited part counts docs 
 pub visited-none : (part : ℕ × ℕ → ℕ) (counts front : List ℕ) → front ≡ front ++ map part (row_positions counts [])
 unfolding positions_of_rows
 visited-none part counts front = sym (append-nil front)
+
+-- ---- the rows that are in, one after another
+
+module _ (rows docs : List ℕ) (i : ℕ) (h : i < length docs) (e : holds rows (get_or docs i 0) ≡ true) where
+  held_more : held rows (take (i + 1) docs) ≡ held rows (take i docs) ++ get_or docs i 0 ∷ []
+  held_more =
+      ap (held rows) (take_more docs i 0 h)
+      ∙ filter-append (holds rows) (take i docs) (get_or docs i 0 ∷ [])
+      ∙ ap (λ b. held rows (take i docs) ++ cond b (get_or docs i 0 ∷ []) []) e
+
+  -- a row that is in
+  pub held-pushed : (front found new : List ℕ) → found ≡ front ++ held rows (take i docs) → new ≡ found ++ get_or docs i 0 ∷ [] → new ≡ front ++ held rows (take (i + 1) docs)
+  held-pushed front found new f n =
+      n ∙ ap (λ xs. xs ++ get_or docs i 0 ∷ []) f ∙ append_assoc front (held rows (take i docs)) (get_or docs i 0 ∷ [])
+      ∙ ap (λ xs. front ++ xs) (sym held_more)
+
+  -- and its rank
+  pub rank-pushed : (front found new : List ℕ) (at : ℕ) → at ≡ rank rows (get_or docs i 0) → found ≡ front ++ held_ranks rows (take i docs) → new ≡ found ++ at ∷ [] → new ≡ front ++ held_ranks rows (take (i + 1) docs)
+  rank-pushed front found new at r f n =
+      n ∙ ap (λ xs. xs ++ at ∷ []) f ∙ append_assoc front (held_ranks rows (take i docs)) (at ∷ [])
+      ∙ ap (λ k. front ++ (held_ranks rows (take i docs) ++ k ∷ [])) r
+      ∙ ap (λ xs. front ++ xs) (sym (ap (map (rank rows)) held_more ∙ map-append (rank rows) (held rows (take i docs)) (get_or docs i 0 ∷ [])))

@@ -1,10 +1,11 @@
 -- Rows that have a value, by their ranks and one after another.
-use Rattle.std.proofs.Common.{◌≡◌, ℕ, suc, ◌+◌, ◌-◌, ◌^◌, ◌<◌, ◌≤◌, ◌&&◌, Bool, true, false, nat_eq, nat_lt, nat_le, List, [], ◌∷◌, ◌++◌, length, drop, slice_get, slice_index_or, Some, refl, sym, ap, ◌∙◌, inl, inr, arith}
+use Rattle.std.proofs.Common.{◌≡◌, ℕ, suc, ◌+◌, ◌-◌, ◌^◌, ◌<◌, ◌≤◌, ◌&&◌, Bool, true, false, nat_eq, nat_lt, nat_le, List, [], ◌∷◌, ◌++◌, length, drop, get_or, slice_get, slice_index_or, Some, None, refl, sym, ap, ◌∙◌, inl, inr, arith}
 use Rattle.std.specs.List.{list_all}
-use Rattle.std.proofs.lemmas.Bool.{and_parts, lt-ltb, le-ltb, le-leb, lt-leb, ltb-true, eq-eqb, ne_eqb, cases_lt, cases_order}
+use Rattle.std.proofs.lemmas.Bool.{and_parts, le-leb, ltb-true, eq-eqb, ne_eqb, cases_lt, cases_order}
 use Rattle.std.proofs.lemmas.Bool.Decides.{nat_tests}
 use Rattle.std.proofs.lemmas.List.{append_assoc, get_or_past, drop_more}
-use Rattle.std.proofs.lemmas.Option.{get_or_from_slice_get, slice_get_within, slice_get-get_or}
+use Rattle.std.proofs.lemmas.Option.{get_or_from_slice_get, slice_get_within, slice_get-get_or, same_Some, none-some}
+use Rattle.col_common.specs.Reading.{only_if}
 use Rattle.col_model.specs.Ascending.{is_rising}
 use Rattle.col_model.specs.Index.{RowSet}
 use Rattle.col_model.specs.Positions.{rank}
@@ -82,22 +83,44 @@ pub rises_first : (n : ℕ) (rows : List ℕ) → is_row_list n rows ≡ rest_ri
 rises_first n [] = refl
 rises_first n (row ∷ rows) = rises_from n row rows ∙ ap (λ b. b && nat_lt row n && rest_rises n (row + 1) rows) (sym (le-leb 0 row (omega arith)))
 
+-- what a test lets through
+pub only_if-some : {A : Type 0} (test : Bool) (x y : A) → Some x ≡ only_if test y → (test ≡ true) × (x ≡ y)
+only_if-some true x y e = (refl, same_Some x y e)
+only_if-some false x y e = absurd (none-some x (sym e))
+
+pub only_if-none : {A : Type 0} (test : Bool) (y : A) → None ≡ only_if test y → test ≡ false
+only_if-none true y e = absurd (none-some y e)
+only_if-none false y e = refl
+
+-- the row at a place is let through
+pub record IsTaken (n next : ℕ) (rows : List ℕ) (at row : ℕ) : Type 0 where
+  pub read : slice_get rows at ≡ Some row
+  pub below : row < n
+  pub rest : rest_rises n next (drop at rows) ≡ rest_rises n (row + 1) (drop (at + 1) rows)
+
 -- one more row
-module _ (n next : ℕ) (rows : List ℕ) (at row : ℕ) (read : slice_get rows at ≡ Some row) where
-  behind : rest_rises n next (drop at rows) ≡ (nat_le next row && nat_lt row n && rest_rises n (row + 1) (drop (at + 1) rows))
-  behind =
-      let within = slice_get_within rows at row read in
-      let same = get_or_from_slice_get rows at row 0 read in
-      ap (rest_rises n next) (drop_more rows at 0 within ∙ ap (λ x. x ∷ drop (at + 1) rows) same)
+module _ (n next : ℕ) (rows : List ℕ) (at : ℕ) (within : at < length rows) where
+  abbrev here : ℕ
+  here = get_or rows at 0
 
-  pub rises_fallen : row < next → rest_rises n next (drop at rows) ≡ false
-  rises_fallen h = rw (behind, lt-leb next row h) refl
+  abbrev fits : Bool
+  fits = nat_le next here && nat_lt here n
 
-  pub rises_large : n ≤ row → rest_rises n next (drop at rows) ≡ false
-  rises_large h = rw (behind, le-ltb row n h) grind arith
+  behind : rest_rises n next (drop at rows) ≡ (fits && rest_rises n (here + 1) (drop (at + 1) rows))
+  behind = ap (rest_rises n next) (drop_more rows at 0 within)
 
-  pub rises_more : next ≤ row → row < n → rest_rises n next (drop at rows) ≡ rest_rises n (row + 1) (drop (at + 1) rows)
-  rises_more h k = rw (behind, le-leb next row h, lt-ltb row n k) refl
+  pub rises_refused : None ≡ only_if fits here → rest_rises n next (drop at rows) ≡ false
+  rises_refused e = behind ∙ ap (λ b. b && rest_rises n (here + 1) (drop (at + 1) rows)) (only_if-none fits here e)
+
+  pub rises_taken : (row : ℕ) → Some row ≡ only_if fits here → IsTaken n next rows at row
+  rises_taken row e =
+      let told = only_if-some fits row here e in
+      let below = ltb-true here n (and_parts (nat_le next here) (nat_lt here n) told.0).1 in
+      record {
+        read = slice_get-get_or rows at 0 within ∙ ap Some (sym told.1);
+        below = omega (arith, told.1, below);
+        rest = behind ∙ ap (λ b. b && rest_rises n (here + 1) (drop (at + 1) rows)) told.0 ∙ ap (λ r. rest_rises n (r + 1) (drop (at + 1) rows)) (sym told.1);
+      }
 
 -- ---- lists that were added to
 

@@ -1,44 +1,22 @@
 -- The values of rows, each beside its row.
-use Rattle.std.proofs.Common.{◌≡◌, ℕ, ◌+◌, ◌-◌, ◌<◌, ◌^◌, nat_eq, nat_lt, not, true, false, List, [], ◌∷◌, ◌++◌, length, get_or, sym, ap, ◌∙◌, arith}
+use Rattle.std.proofs.Common.{◌≡◌, ℕ, ◌+◌, ◌-◌, ◌<◌, ◌^◌, nat_lt, not, true, false, [], ◌∷◌, ◌++◌, length, get_or, sym, ap, ◌∙◌, arith}
 use Rattle.std.specs.List.{list_all}
-use Rattle.std.proofs.lemmas.Bool.{and_from, eqb-true, eq-eqb, ne_eqb}
+use Rattle.std.proofs.lemmas.Bool.{and_from, eqb-true}
 use Rattle.std.proofs.lemmas.List.FromFn.{map-range_with_len_more}
 use Rattle.col_model.specs.Ascending.{is_rising}
 use Rattle.col_model.specs.Index.{RowOffsets, offset_counts, multivalued_shape}
 use Rattle.col_model.specs.Positions.{rank, start_of, values_in}
-use Rattle.col_index.specs.declared.search.Place.{Place}
 use Rattle.col_index.specs.Offsets.{AreOffsets, run}
-use Rattle.col_index.specs.Places.{IsPlace}
 use Rattle.col_index.specs.Sets.{holds}
+use Rattle.col_index.proofs.RankLaws.{rows_rise}
 use Rattle.col_index.proofs.StartLemmas.{start_list-parts}
 use Rattle.col_index.proofs.HeldLaws.{holds-rank}
-use Rattle.col_index.proofs.SetLemmas.{few_rows, holds_place}
+use Rattle.col_index.proofs.SetLemmas.{few_rows}
 use Rattle.col_index.proofs.CountLaws.{offset_counts-start, offset_counts-held, offset_counts-none}
 
 -- one more
 pub run-more : (doc start n place : ℕ) → place ≡ start + n → run doc start (n + 1) ≡ run doc start n ++ (doc, place) ∷ []
 run-more doc start n place e = map-range_with_len_more (λ p. (doc, p)) start n place (sym e)
-
--- ---- whether a row is at a place
-
-module _ (rows : List ℕ) (p : Place) (doc : ℕ) (e : is_rising rows ≡ true) (at : IsPlace rows p) (t : p.target ≡ doc) (small : doc < 2 ^ 32) where
-  ranked : p.at ≡ rank rows doc
-  ranked = at.count ∙ ap (rank rows) t
-
-  compared : nat_eq p.next doc ≡ holds rows doc
-  compared = holds_place rows p.at p.next doc e ranked at.first small
-
-  -- another row stands there
-  pub place-free : (p.next ≡ doc → ⊥) → holds rows doc ≡ false
-  place-free n = sym compared ∙ ne_eqb p.next doc n
-
-  -- the row stands there
-  pub place-held : p.next ≡ doc → holds rows doc ≡ true
-  place-held s = sym compared ∙ eq-eqb p.next doc s
-
-  -- then its place is one of the rows
-  pub place-inside : p.next ≡ doc → p.at < length rows
-  place-inside s = omega (arith, ranked, (holds-rank rows doc e (place-held s)).0)
 
 -- ---- the values of one row
 
@@ -65,3 +43,7 @@ pub few_held : (o : RowOffsets) → AreOffsets o → length o.set.rows < 2 ^ 32
 few_held o a =
     let s = start_list-parts (length o.set.rows) o.starts a.starts in
     omega (arith, few_rows (2 ^ 32) o.starts (and_from (is_rising o.starts) (list_all (λ n. nat_lt n (2 ^ 32)) o.starts) s.rising s.small), s.count)
+
+-- the rank of a row that is in is one of them
+pub held-inside : (o : RowOffsets) → AreOffsets o → (doc k : ℕ) → k ≡ rank o.set.rows doc → holds o.set.rows doc ≡ true → k < length o.set.rows
+held-inside o a doc k r h = omega (arith, r, (holds-rank o.set.rows doc (rows_rise o.set a.rows) h).0)

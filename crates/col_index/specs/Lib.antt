@@ -2,6 +2,8 @@ pub mod Sets
 pub mod Appending
 pub mod Search
 pub mod Places
+pub mod Ranks
+pub mod RankedRows
 pub mod Versions
 pub mod Offsets
 pub mod MultiValues

@@ -1,5 +1,5 @@
 -- Rows that have a value, as a set with ranks.
-use Rattle.std.specs.Prelude.{◌≡◌, ℕ, ◌++◌, Bool, true, List, map, filter, nat_eq, Option}
+use Rattle.std.specs.Prelude.{◌≡◌, ℕ, Bool, true, List, map, filter, nat_eq, Option}
 use Rattle.std.specs.List.{list_any}
 use Rattle.col_common.specs.Reading.{only_if}
 use Rattle.col_model.specs.Index.{RowSet, are_rows}

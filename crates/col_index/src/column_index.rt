@@ -51,7 +51,7 @@ impl From<MultiValueIndex> for ColumnIndex {
 impl ColumnIndex {
     ghost use Rattle.col_index.specs.Indexes.{shape_of};
 
-    /// The same index once more, which shares its bytes.
+    /// The same index once more, which shares its bytes and has ranks of its own.
     pub fn try_clone(&self, alloc: Global) -> Result<ColumnIndex, ColumnarError>
         ensures ok { IfOk result (λ index. shape_of index ≡ shape_of self.now) }
         ensures err { IfErr result (λ e. e ≡ refusals.OutOfMemory) }

@@ -8,10 +8,16 @@ mod format_version;
 mod laws;
 mod multivalued_index;
 mod multivalued_index_v2;
+mod non_null_docs;
 mod open;
 mod optional_counts;
 mod optional_index;
+mod rank_buckets;
+mod rank_words;
+mod ranks;
+mod rising;
 mod search;
+mod select_cursor;
 mod set;
 
 pub use cardinality::Cardinality;
@@ -23,8 +29,10 @@ pub use laws::{
 };
 pub use multivalued_index::MultiValueIndex;
 pub use multivalued_index_v2::MultiValueIndexV2;
+pub use non_null_docs::NonNullDocs;
 pub use open::{open_column_index, open_multivalued_index, open_optional_index};
-pub use optional_index::{NonNullDocs, OptionalIndex, OptionalIndexSelectCursor};
+pub use optional_index::OptionalIndex;
+pub use select_cursor::OptionalIndexSelectCursor;
 pub use set::{SelectCursor, Set};
 
 #[cfg(test)]

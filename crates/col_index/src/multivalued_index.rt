@@ -11,7 +11,7 @@ ghost use Rattle.col_index.specs.Offsets.{AreOldOffsets, row_positions, docs_of,
 ghost use Rattle.col_index.specs.Appending.{PushesBoth};
 
 use crate::multivalued_index_v2::MultiValueIndexV2;
-use crate::optional_index::NonNullDocs;
+use crate::non_null_docs::NonNullDocs;
 use col_common::{ColumnarError, DocId, RowId};
 use col_numbers::U64Values;
 use col_values::ColumnValues;
@@ -40,7 +40,7 @@ impl MultiValueIndex {
         Ok(MultiValueIndex::MultiValueIndexV2(MultiValueIndexV2::for_test(alloc, start_offsets)?))
     }
 
-    /// The same index once more, which shares its bytes.
+    /// The same index once more, which shares its bytes and has ranks of its own.
     pub fn try_clone(&self, alloc: Global) -> Result<MultiValueIndex, ColumnarError>
         ensures ok { IfOk result (λ index. counts_of index ≡ counts_of self.now) }
         ensures err { IfErr result (λ e. e ≡ refusals.OutOfMemory) }

@@ -1,5 +1,5 @@
 //! Rows that have any number of values, in version 2.
-ghost use Rattle.std.specs.Prelude.{◌≡◌, ◌≤◌, ◌-◌, ◌^◌, ◌==◌, not, true, length, take, sum, slice_index, OnOk};
+ghost use Rattle.std.specs.Prelude.{◌≡◌, ◌≤◌, ◌<◌, ◌+◌, ◌-◌, ◌^◌, ◌==◌, not, true, length, take, sum, slice_index, OnOk};
 ghost use Rattle.std.specs.Prelude.{◌++◌, IfOk, IfErr};
 ghost use Rattle.col_common.specs.declared.error.ColumnarError.TheVariants as refusals;
 ghost use Rattle.col_model.specs.Ascending.{is_rising, differences};
@@ -10,7 +10,8 @@ ghost use Rattle.col_values.specs.Values.{AreBelow};
 ghost use Rattle.col_index.specs.Offsets.{AreOldOffsets, row_positions, docs_of, positions_of, is_start_list, offsets_by, run};
 ghost use Rattle.col_index.specs.Appending.{PushesBoth};
 
-use crate::optional_index::{NonNullDocs, OptionalIndex, load_numbers};
+use crate::non_null_docs::NonNullDocs;
+use crate::optional_index::{OptionalIndex, load_numbers};
 use crate::search::Place;
 use crate::set::Set;
 use col_common::{ColumnarError, DocId, RowId};
@@ -125,7 +126,7 @@ impl MultiValueIndexV2 {
         self.optional_index.iter_non_null_docs()
     }
 
-    /// The same index once more, which shares its bytes.
+    /// The same index once more, which shares its bytes and has ranks of its own.
     pub fn try_clone(&self, alloc: Global) -> Result<MultiValueIndexV2, ColumnarError>
         ensures ok { IfOk result (λ index. index ≡ self.now) }
         ensures err { IfErr result (λ e. e ≡ refusals.OutOfMemory) }
@@ -145,6 +146,18 @@ impl MultiValueIndexV2 {
         self.start_index_column.get_val(rank) as RowId
     }
 
+    // The positions of the values of the row with a rank.
+    #[inline]
+    fn range_at(&self, rank: RowId) -> Range<RowId>
+        requires { rank < length self.now.set.rows }
+        ensures start { result.start ≡ slice_index self.now.starts rank }
+        ensures end { result.end ≡ slice_index self.now.starts (rank + 1) }
+    {
+        // There are fewer offsets than 2 ^ 32.
+        let _ = &self.start_index_column;
+        self.start_at(rank)..self.start_at(rank + 1)
+    }
+
     /// How many values stand before a row.
     pub fn start_of(&self, doc_id: DocId) -> RowId
         ensures { result ≡ start_of (offset_counts self.now) doc_id }
@@ -161,14 +174,11 @@ impl MultiValueIndexV2 {
             return 0..0;
         }
         let rank = self.optional_index.rank(doc_id);
+        if self.optional_index.holds_at(rank, doc_id) {
+            return self.range_at(rank);
+        }
         let start = self.start_at(rank);
-        if rank >= self.optional_index.num_non_nulls() {
-            return start..start;
-        }
-        if self.optional_index.select(rank) != doc_id {
-            return start..start;
-        }
-        start..self.start_at(rank + 1)
+        start..start
     }
 
     /// Appends each document once for each of its values, and these values' positions, as far as
@@ -187,13 +197,11 @@ impl MultiValueIndexV2 {
         let mut place = self.optional_index.first_place();
         for doc in docs {
             let doc = *doc;
-            place = self.optional_index.seek(place, doc);
-            if place.next != u64::from(doc) {
+            let Some(rank) = self.optional_index.rank_near(&mut place, doc) else {
                 continue;
-            }
-            let start = self.start_at(place.at);
-            let end = self.start_at(place.at + 1);
-            push_run(doc, start, end, docs_out, rows_out)?;
+            };
+            let positions = self.range_at(rank);
+            push_run(doc, positions.start, positions.end, docs_out, rows_out)?;
         }
         Ok(())
     }

@@ -26,10 +26,7 @@ pub fn open_optional_index(alloc: Global, bytes: Bytes) -> Result<OptionalIndex,
     let Some((num_rows, rows)) = split_count(bytes) else {
         return Err(ColumnarError::InvalidData);
     };
-    match OptionalIndex::from_rows(num_rows, load_u64_values(alloc, rows)?) {
-        Some(index) => Ok(index),
-        None => Err(ColumnarError::InvalidData),
-    }
+    OptionalIndex::from_rows(alloc, num_rows, load_u64_values(alloc, rows)?)
 }
 
 /// Reads an index of rows that have any number of values.

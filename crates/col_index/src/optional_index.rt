@@ -2,16 +2,22 @@
 ghost use Rattle.std.specs.Prelude.{◌≡◌, [], ◌∷◌, ◌^◌, ◌<◌, length, map, slice_get, Some};
 ghost use Rattle.std.specs.Prelude.{IfOk, IfErr};
 ghost use Rattle.col_common.specs.declared.error.ColumnarError.TheVariants as refusals;
+ghost use Rattle.col_common.specs.Decoding.{Decodes};
+ghost use Rattle.col_common.specs.Reading.{only_if};
 ghost use Rattle.col_model.specs.Index.{RowSet, set_counts};
 ghost use Rattle.col_model.specs.Positions.{rank, next_row, index_range};
 ghost use Rattle.col_values.specs.Values.{AreBelow};
 ghost use Rattle.col_index.specs.Appending.{AppendsBoth, PushesBoth};
-ghost use Rattle.col_index.specs.Sets.{AreRows, holds, held, held_ranks, is_row_list, set_by};
+ghost use Rattle.col_index.specs.RankedRows.{AreRankedRows};
+ghost use Rattle.col_index.specs.Sets.{AreRows, holds, held, held_ranks, set_by};
 ghost use Rattle.col_numbers.specs.Readers.{list_of};
 
-use crate::search::{Place, rank_in};
-use crate::set::{SelectCursor, Set};
-use col_common::{ColumnarError, DocId, Iterable, RowId, Walk};
+use crate::non_null_docs::NonNullDocs;
+use crate::ranks::Ranks;
+use crate::search::Place;
+use crate::select_cursor::OptionalIndexSelectCursor;
+use crate::set::Set;
+use col_common::{ColumnarError, DocId, RowId};
 use col_numbers::{CodecType, U64Values, serialize_and_load_u64_values};
 use col_values::ColumnValues;
 use std::alloc::Global;
@@ -24,18 +30,20 @@ use std::ops::Range;
 pub struct OptionalIndex {
     num_rows: RowId,
     rows: U64Values,
+    ranks: Ranks,
 }
 
 impl Model for OptionalIndex {
     ghost use Rattle.col_model.specs.Index.{RowSet};
     ghost use Rattle.col_numbers.specs.Readers.{list_of};
-    ghost use Rattle.col_index.specs.Sets.{AreRows};
+    ghost use Rattle.col_index.specs.RankedRows.{AreRankedRows};
 
     ghost Value = { RowSet };
 
     ghost view = { λ i. record { num_rows = i.num_rows; rows = list_of i.rows } };
 
-    ghost invariant = { λ i. AreRows (record { num_rows = i.num_rows; rows = list_of i.rows }) };
+    ghost invariant = { λ i.
+        AreRankedRows (record { num_rows = i.num_rows; rows = list_of i.rows }) i.ranks };
 }
 
 impl OptionalIndex {
@@ -50,21 +58,26 @@ impl OptionalIndex {
             index ≡ record { num_rows = num_rows; rows = row_ids.now }) }
         ensures err { IfErr result (λ e. e ≡ refusals.OutOfMemory) }
     {
-        let rows = load_numbers(alloc, row_ids)?;
-        Ok(OptionalIndex { num_rows, rows })
+        OptionalIndex::from_rows(alloc, num_rows, load_numbers(alloc, row_ids)?)
     }
 
     /// The index with a list of its rows, if this rises and stays below the count.
-    pub(crate) fn from_rows(num_rows: RowId, rows: U64Values) -> Option<OptionalIndex>
-        ensures { result ≡ set_by num_rows (list_of rows) }
+    pub(crate) fn from_rows(
+        alloc: Global,
+        num_rows: RowId,
+        rows: U64Values,
+    ) -> Result<OptionalIndex, ColumnarError>
+        ensures { Decodes (λ index. index) result (set_by num_rows (list_of rows)) }
     {
-        if !are_rows(num_rows, &rows) {
-            return None;
-        }
-        Some(OptionalIndex { num_rows, rows })
+        let ranks = Ranks::from_rows(alloc, num_rows, &rows)?;
+        Ok(OptionalIndex {
+            num_rows,
+            rows,
+            ranks,
+        })
     }
 
-    /// The same index once more, which shares its bytes.
+    /// The same index once more, which shares the bytes of its rows and has ranks of its own.
     pub fn try_clone(&self, alloc: Global) -> Result<OptionalIndex, ColumnarError>
         ensures ok { IfOk result (λ index. index ≡ self.now) }
         ensures err { IfErr result (λ e. e ≡ refusals.OutOfMemory) }
@@ -72,6 +85,7 @@ impl OptionalIndex {
         Ok(OptionalIndex {
             num_rows: self.num_rows,
             rows: self.rows.try_clone(alloc)?,
+            ranks: self.ranks.try_clone(alloc)?,
         })
     }
 
@@ -113,7 +127,7 @@ impl OptionalIndex {
     pub fn iter_non_null_docs(&self) -> NonNullDocs<'_>
         ensures { result ≡ self.now.rows }
     {
-        NonNullDocs { index: self }
+        NonNullDocs::of(self)
     }
 
     /// Appends those of the documents that have a value, and their ranks. Documents that ascend are
@@ -152,7 +166,7 @@ impl OptionalIndex {
     pub fn select_cursor(&self) -> OptionalIndexSelectCursor<'_>
         ensures { result ≡ self.now.rows }
     {
-        OptionalIndexSelectCursor { index: self }
+        OptionalIndexSelectCursor::of(self)
     }
 }
 
@@ -169,14 +183,23 @@ impl Set<RowId> for OptionalIndex {
 
     ghost IsRank = { λ s k. k < length s.rows };
 
+    #[inline]
     fn contains(&self, row_id: RowId) -> bool {
         self.holds_at(self.rank(row_id), row_id)
     }
 
+    #[inline]
     fn rank(&self, row_id: RowId) -> RowId {
-        rank_in(&self.rows, u64::from(row_id))
+        if row_id >= self.num_rows {
+            return self.num_non_nulls();
+        }
+        match &self.ranks {
+            Ranks::Words(words) => words.rank(row_id),
+            Ranks::Buckets(buckets) => buckets.rank(self.num_rows, &self.rows, row_id),
+        }
     }
 
+    #[inline]
     fn rank_if_exists(&self, row_id: RowId) -> Option<RowId> {
         let rank = self.rank(row_id);
         if self.holds_at(rank, row_id) {
@@ -207,78 +230,23 @@ impl fmt::Debug for OptionalIndex {
     }
 }
 
-/// A reader of rows by their ranks. Contracts see the rows.
-#[derive(Drop)]
-pub struct OptionalIndexSelectCursor<'a> {
-    index: &'a OptionalIndex,
-}
-
-impl<'a> Model for OptionalIndexSelectCursor<'a> {
-    ghost use Rattle.std.specs.Prelude.{List, ℕ};
-
-    ghost Value = { List ℕ };
-
-    ghost view = { λ c. c.index.now.rows };
-}
-
-impl SelectCursor<RowId> for OptionalIndexSelectCursor<'_> {
-    ghost use Rattle.std.specs.Prelude.{◌<◌, length, slice_get};
-
-    ghost at_rank = { λ rows k. slice_get rows k };
-
-    ghost IsRank = { λ rows k. k < length rows };
-
-    #[inline(always)]
-    fn select(&mut self, rank: RowId) -> RowId {
-        self.index.select(rank)
-    }
-}
-
-/// The rows with a value, ascending; `place` of a walk is the rank of the next. Contracts see the
-/// rows.
-#[derive(Drop)]
-pub struct NonNullDocs<'a> {
-    index: &'a OptionalIndex,
-}
-
-impl<'a> Model for NonNullDocs<'a> {
-    ghost use Rattle.std.specs.Prelude.{List, ℕ};
-
-    ghost Value = { List ℕ };
-
-    ghost view = { λ d. d.index.now.rows };
-}
-
-impl Iterable<DocId> for NonNullDocs<'_> {
-    ghost use Rattle.std.specs.Prelude.{◌≤◌, drop, length};
-
-    ghost items = { λ rows. rows };
-
-    ghost stands = { λ rows w. w.place ≤ length rows };
-
-    ghost left = { λ rows w. drop w.place rows };
-
-    fn walk(&self) -> Walk {
-        Walk::default()
-    }
-
-    #[inline(always)]
-    fn next(&self, at: &mut Walk) -> Option<DocId> {
-        let place = at.place;
-        if place >= u64::from(self.index.num_non_nulls()) {
-            return None;
-        }
-        at.place = place + 1;
-        Some(self.index.select(place as u32))
-    }
-}
-
 impl OptionalIndex {
     ghost use Rattle.col_index.specs.Places.{IsPlace};
 
-    // Whether the row with a rank has a value.
+    /// Whether the row with a rank has a value.
     #[inline]
-    fn holds_at(&self, at: RowId, row_id: RowId) -> bool
+    pub(crate) fn holds_at(&self, at: RowId, row_id: RowId) -> bool
+        requires { at ≡ rank self.now.rows row_id }
+        ensures { result ≡ holds self.now.rows row_id }
+    {
+        match &self.ranks {
+            Ranks::Words(words) => row_id < self.num_rows && words.holds(row_id),
+            Ranks::Buckets(_) => self.is_listed_at(at, row_id),
+        }
+    }
+
+    // The same by the list of rows.
+    fn is_listed_at(&self, at: RowId, row_id: RowId) -> bool
         requires { at ≡ rank self.now.rows row_id }
         ensures { result ≡ holds self.now.rows row_id }
     {
@@ -310,25 +278,57 @@ impl OptionalIndex {
         Place::first(&self.rows)
     }
 
-    /// The place of a row; in few steps where it isn't far behind another place.
+    // The place of a row; in few steps where it isn't far behind another place.
     #[inline(always)]
-    pub(crate) fn seek(&self, place: Place, doc_id: DocId) -> Place
+    fn seek(&self, place: Place, doc_id: DocId) -> Place
         requires { IsPlace self.now.rows place }
         ensures place { IsPlace self.now.rows result }
         ensures target { result.target ≡ doc_id }
     {
-        place.seek(&self.rows, u64::from(doc_id))
+        match place.near(&self.rows, u64::from(doc_id)) {
+            Some(near) => near,
+            None => Place::of(&self.rows, self.rank(doc_id), u64::from(doc_id)),
+        }
     }
 
-    /// Whether the row of a place has a value.
+    // Whether the row of a place has a value.
     #[inline]
-    pub(crate) fn is_at(&self, place: Place) -> bool
+    fn is_at(&self, place: Place) -> bool
         requires place { IsPlace self.now.rows place }
         requires row { place.target < 2 ^ 32 }
         ensures { result ≡ holds self.now.rows place.target }
     {
         self.rows_rise();
         place.next == place.target
+    }
+
+    // The rank of a row that has a value, by a walk.
+    #[inline(always)]
+    fn walked_rank(&self, place: &mut Place, doc_id: DocId) -> Option<RowId>
+        requires { IsPlace self.now.rows place.old }
+        ensures place { IsPlace self.now.rows place.new }
+        ensures rank { result ≡ only_if (holds self.now.rows doc_id) (rank self.now.rows doc_id) }
+    {
+        let next = self.seek(*place, doc_id);
+        *place = next;
+        if self.is_at(next) {
+            Some(next.at)
+        } else {
+            None
+        }
+    }
+
+    /// The rank of a row that has a value; in few steps where it isn't far behind a place.
+    #[inline(always)]
+    pub(crate) fn rank_near(&self, place: &mut Place, doc_id: DocId) -> Option<RowId>
+        requires { IsPlace self.now.rows place.old }
+        ensures place { IsPlace self.now.rows place.new }
+        ensures rank { result ≡ only_if (holds self.now.rows doc_id) (rank self.now.rows doc_id) }
+    {
+        match &self.ranks {
+            Ranks::Words(_) => self.rank_if_exists(doc_id),
+            Ranks::Buckets(_) => self.walked_rank(place, doc_id),
+        }
     }
 
     /// Appends those of the documents that have a value, and their ranks, as far as memory reaches.
@@ -345,10 +345,10 @@ impl OptionalIndex {
         let mut place = self.first_place();
         for doc in docs {
             let doc = *doc;
-            place = self.seek(place, doc);
-            if self.is_at(place) {
-                push_pair(docs_out, rows_out, doc, place.at)?;
-            }
+            let Some(rank) = self.rank_near(&mut place, doc) else {
+                continue;
+            };
+            push_pair(docs_out, rows_out, doc, rank)?;
         }
         Ok(())
     }
@@ -377,19 +377,4 @@ pub(crate) fn load_numbers(alloc: Global, numbers: &[u32]) -> Result<U64Values, 
     ensures err { IfErr result (λ e. e ≡ refusals.OutOfMemory) }
 {
     serialize_and_load_u64_values(alloc, &numbers, &[CodecType::Bitpacked])
-}
-
-// Whether numbers rise and stay below a count.
-fn are_rows(num_rows: RowId, rows: &U64Values) -> bool
-    ensures { result ≡ is_row_list num_rows (list_of rows.now) }
-{
-    let mut next = 0;
-    for at in 0..rows.num_vals() {
-        let row = rows.get_val(at);
-        if row < next || row >= u64::from(num_rows) {
-            return false;
-        }
-        next = row + 1;
-    }
-    true
 }

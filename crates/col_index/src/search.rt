@@ -1,5 +1,5 @@
 //! Places in rising lists.
-ghost use Rattle.std.specs.Prelude.{◌≡◌, ◌^◌, ◌-◌, ◌+◌, ◌<◌, true, length, slice_index_or};
+ghost use Rattle.std.specs.Prelude.{◌≡◌, ◌^◌, ◌-◌, ◌+◌, ◌<◌, true, length, slice_index_or, IfSome};
 ghost use Rattle.col_model.specs.Ascending.{is_rising};
 ghost use Rattle.col_model.specs.Positions.{rank};
 ghost use Rattle.col_numbers.specs.Readers.{list_of};
@@ -8,10 +8,10 @@ ghost use Rattle.col_index.specs.Search.{IsNarrowed};
 use col_numbers::U64Values;
 use col_values::ColumnValues;
 
-// How many numbers of the list are below a target, where those below `low` are, and those from
-// `high` on are not: by halves.
+/// How many numbers of the list are below a target, where those below `low` are, and those from
+/// `high` on are not: by halves.
 #[inline(never)]
-fn narrow(values: &U64Values, low: u32, high: u32, target: u64) -> u32
+pub fn narrow(values: &U64Values, low: u32, high: u32, target: u64) -> u32
     requires rising { is_rising (list_of values.now) ≡ true }
     requires narrowed { IsNarrowed (list_of values.now) target low high }
     ensures { result ≡ rank (list_of values.now) target }
@@ -87,21 +87,48 @@ impl Place {
         ensures place { IsPlace (list_of values.now) result }
         ensures target { result.target ≡ target }
     {
+        match self.near(values, target) {
+            Some(near) => near,
+            None => self.far(values, target),
+        }
+    }
+
+    /// The place of a target, where it is this one or the one behind it.
+    #[inline(always)]
+    pub fn near(self, values: &U64Values, target: u64) -> Option<Place>
+        requires rising { is_rising (list_of values.now) ≡ true }
+        requires place { IsPlace (list_of values.now) self }
+        ensures place { IfSome result (λ near. IsPlace (list_of values.now) near) }
+        ensures target { IfSome result (λ near. near.target ≡ target) }
+    {
         if target < self.target {
-            return Place::of(values, rank_in(values, target), target);
+            return None;
         }
         if target <= self.next {
-            return Place { target, ..self };
+            return Some(Place { target, ..self });
         }
         let behind = self.step(values);
         if target <= behind.next {
-            return Place { target, ..behind };
+            return Some(Place { target, ..behind });
         }
-        Place::of(values, gallop(values, behind.at, target), target)
+        None
     }
 
-    // The place of a target, by how many numbers are below it.
-    fn of(values: &U64Values, at: u32, target: u64) -> Place
+    /// The place of a target anywhere; in few steps where it isn't far behind this one.
+    pub fn far(self, values: &U64Values, target: u64) -> Place
+        requires rising { is_rising (list_of values.now) ≡ true }
+        requires place { IsPlace (list_of values.now) self }
+        ensures place { IsPlace (list_of values.now) result }
+        ensures target { result.target ≡ target }
+    {
+        if target < self.target {
+            return Place::of(values, rank_in(values, target), target);
+        }
+        Place::of(values, gallop(values, self.at, target), target)
+    }
+
+    /// The place of a target, by how many numbers are below it.
+    pub fn of(values: &U64Values, at: u32, target: u64) -> Place
         requires { at ≡ rank (list_of values.now) target }
         ensures place { IsPlace (list_of values.now) result }
         ensures target { result.target ≡ target }

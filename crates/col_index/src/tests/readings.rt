@@ -151,6 +151,23 @@ fn ranks_count_the_rows_before(rt: HostRuntime) -> Result<(), Fail> {
 }
 
 #[test]
+fn few_rows_are_ranked_by_their_parts(rt: HostRuntime) -> Result<(), Fail> {
+    let index = OptionalIndex::for_test(rt.alloc(), 1000, &[64, 700, 999])?;
+    assert_ranks(
+        &rt,
+        &index,
+        &[
+            (63, 0, None),
+            (64, 0, Some(0)),
+            (700, 1, Some(1)),
+            (999, 2, Some(2)),
+            (1000, 3, None),
+        ],
+    );
+    Ok(())
+}
+
+#[test]
 fn rows_are_selected_by_their_ranks(rt: HostRuntime) -> Result<(), Fail> {
     let index = OptionalIndex::for_test(rt.alloc(), 7, &[0, 6])?;
     index.ranks_are_undone();

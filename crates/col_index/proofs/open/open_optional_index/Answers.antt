@@ -1,6 +1,7 @@
-use Rattle.std.proofs.Common.{sym, ◌∙◌}
+use Rattle.std.proofs.Common.{sym, subst}
+use Rattle.col_common.specs.Decoding.{Decodes}
 use Rattle.std.proofs.lemmas.Result.{err_from_is_err_and}
-use Rattle.col_model.specs.Index.{row_set}
+use Rattle.col_model.specs.Index.{RowSet, row_set}
 use Rattle.col_model.specs.U64List.{values64}
 use Rattle.col_numbers.specs.Readers.{list_of}
 use Rattle.col_codecs.proofs.BlockReaderLemmas.{refuses-list}
@@ -15,8 +16,5 @@ returns-in_err-load_u64_values c =
     let p = err_from_is_err_and c.from_residual.result c.from_residual.ensures.1 in
     rw (p.1, p.2) (refuses-list c.in_err-load_u64_values.field-0.0 (values64 c.in-Some.rows) (row_set c.args.bytes) (row_set-unread c.args.bytes c.in-Some.rows c.in-Some.num_rows c.in-Some.ensures) c.in_err-load_u64_values.ensures)
 
-pub returns-in-Some-from_rows : goal.returns-in-Some-from_rows
-returns-in-Some-from_rows c = row_set-read c.args.bytes c.in-Some.rows (list_of c.in_ok-load_u64_values.field-0) c.in-Some.num_rows c.in-Some.ensures c.in_ok-load_u64_values.ensures ∙ sym c.in-Some-from_rows.ensures
-
-pub returns-in-None : goal.returns-in-None
-returns-in-None c = row_set-read c.args.bytes c.in-Some.rows (list_of c.in_ok-load_u64_values.field-0) c.in-Some.num_rows c.in-Some.ensures c.in_ok-load_u64_values.ensures ∙ sym c.in-None.ensures
+pub returns : goal.returns
+returns c = subst (Decodes (λ (index : RowSet). index) c.from_rows.result) (sym (row_set-read c.args.bytes c.in-Some.rows (list_of c.in_ok-load_u64_values.field-0) c.in-Some.num_rows c.in-Some.ensures c.in_ok-load_u64_values.ensures)) c.from_rows.ensures

@@ -1,13 +1,13 @@
-use Rattle.std.proofs.Common.{rules, ◌≡◌, ◌+◌, ◌-◌, ◌<◌, ◌^◌, ◌++◌, true, false, get_or, [], sym, ap, ◌∙◌, arith}
+use Rattle.std.proofs.Common.{rules, ◌≡◌, ◌-◌, ◌++◌, get_or, Some, None, ap, ◌∙◌}
+use Rattle.col_common.specs.Reading.{only_if}
 use Rattle.col_model.specs.Index.{offset_counts, multivalued_shape}
 use Rattle.col_model.specs.Positions.{rank, values_in}
 use Rattle.col_index.specs.Offsets.{AreOffsets, docs_of, positions_of, run}
 use Rattle.col_index.specs.Places.{IsPlace}
 use Rattle.col_index.specs.Sets.{holds}
-use Rattle.col_index.proofs.RankLaws.{rows_rise}
 use Rattle.col_index.proofs.PushLemmas.{pushes-refused, visited, visited-free, visited-none}
-use Rattle.col_index.proofs.SetLemmas.{begins_later}
-use Rattle.col_index.proofs.ValueLemmas.{place-free, place-held, place-inside, values-free, values-held, few_held}
+use Rattle.col_index.proofs.SetLemmas.{begins_later, only_if-some, only_if-none}
+use Rattle.col_index.proofs.ValueLemmas.{values-free, values-held, held-inside}
 use Rattle.col_index.proofs.multivalued_index_v2.MultiValueIndexV2.push_positions.Goals as goal
 
 pub loop-doc-init : goal.loop-doc-init
@@ -17,32 +17,28 @@ loop-doc-init c = record {
   rows = visited-none (λ p. p.1) (offset_counts c.args.self.now) c.args.rows_out.now.items;
 }
 
-pub loop-doc-preserved-then-place-from : goal.loop-doc-preserved-then-place-from
-loop-doc-preserved-then-place-from c =
+pub loop-doc-preserved-in_default : goal.loop-doc-preserved-in_default
+loop-doc-preserved-in_default c =
     let o = c.args.self.now in
     let a : AreOffsets o = search rules in
     let doc = get_or c.args.docs.now c.loop-doc.doc-index 0 in
-    let p : IsPlace o.set.rows c.seek-place.result = search rules in
-    let small : doc < 2 ^ 32 = search rules in
-    let free : holds o.set.rows doc ≡ false = place-free o.set.rows c.seek-place.result doc (rows_rise o.set a.rows) p c.seek-place.ensures.target small (λ e. c.if-place-from.true (e ∙ sym c.from.ensures)) in
-    let none : values_in (multivalued_shape (offset_counts o)) doc ≡ [] = values-free o a doc free in
+    let p : IsPlace o.set.rows c.rank_near.new.place = search rules in
+    let told : None ≡ only_if (holds o.set.rows doc) (rank o.set.rows doc) = search rules in
+    let none = values-free o a doc (only_if-none (holds o.set.rows doc) (rank o.set.rows doc) told) in
     record {
       place = p;
       docs = visited-free (λ p. p.0) (offset_counts o) c.args.docs.now _ _ c.loop-doc.doc-index c.loop-doc-test.true none c.loop-doc.invariant.docs;
       rows = visited-free (λ p. p.1) (offset_counts o) c.args.docs.now _ _ c.loop-doc.doc-index c.loop-doc-test.true none c.loop-doc.invariant.rows;
     }
 
-pub overflow_add-place : goal.overflow_add-place
-overflow_add-place c =
+pub range_at-positions-requires : goal.range_at-positions-requires
+range_at-positions-requires c =
     let o = c.args.self.now in
     let a : AreOffsets o = search rules in
     let doc = get_or c.args.docs.now c.loop-doc.doc-index 0 in
-    let p : IsPlace o.set.rows c.seek-place.result = search rules in
-    let small : doc < 2 ^ 32 = search rules in
-    let inside = place-inside o.set.rows c.seek-place.result doc (rows_rise o.set a.rows) p c.seek-place.ensures.target small (c.if-place-from.false ∙ c.from.ensures) in
-    let few = few_held o a in
-    let fits : c.seek-place.result.at + 1 < 2 ^ 32 = omega (arith, inside, few) in
-    search rules
+    let told : Some c.in-Some.rank ≡ only_if (holds o.set.rows doc) (rank o.set.rows doc) = search rules in
+    let held = only_if-some (holds o.set.rows doc) c.in-Some.rank (rank o.set.rows doc) told in
+    held-inside o a doc c.in-Some.rank held.1 held.0
 
 pub returns-in_err-push_run : goal.returns-in_err-push_run
 returns-in_err-push_run c =
@@ -55,11 +51,11 @@ loop-doc-preserved c =
     let o = c.args.self.now in
     let a : AreOffsets o = search rules in
     let doc = get_or c.args.docs.now c.loop-doc.doc-index 0 in
-    let p : IsPlace o.set.rows c.seek-place.result = search rules in
-    let small : doc < 2 ^ 32 = search rules in
-    let held : holds o.set.rows doc ≡ true = place-held o.set.rows c.seek-place.result doc (rows_rise o.set a.rows) p c.seek-place.ensures.target small (c.if-place-from.false ∙ c.from.ensures) in
-    let ranked : c.seek-place.result.at ≡ rank o.set.rows doc = p.count ∙ ap (rank o.set.rows) c.seek-place.ensures.target in
-    let values : run doc c.start_at-start.result (c.start_at-end.result - c.start_at-start.result) ≡ values_in (multivalued_shape (offset_counts o)) doc = values-held o a doc c.seek-place.result.at c.start_at-start.result c.start_at-end.result ranked held c.start_at-start.ensures c.start_at-end.ensures in
+    let p : IsPlace o.set.rows c.rank_near.new.place = search rules in
+    let told : Some c.in-Some.rank ≡ only_if (holds o.set.rows doc) (rank o.set.rows doc) = search rules in
+    let held = only_if-some (holds o.set.rows doc) c.in-Some.rank (rank o.set.rows doc) told in
+    let range = c.range_at-positions.result in
+    let values : run doc range.start (range.«end» - range.start) ≡ values_in (multivalued_shape (offset_counts o)) doc = values-held o a doc c.in-Some.rank range.start range.«end» held.1 held.0 c.range_at-positions.ensures.start c.range_at-positions.ensures.«end» in
     record {
       place = p;
       docs = visited (λ p. p.0) (offset_counts o) c.args.docs.now _ _ _ c.loop-doc.doc-index c.loop-doc-test.true c.loop-doc.invariant.docs (c.in_ok-push_run.ensures.docs ∙ ap (λ vs. c.loop-doc.docs_out.items ++ docs_of vs) values);

@@ -1,14 +1,12 @@
-use Rattle.std.proofs.Common.{sym, ◌∙◌, arith}
-use Rattle.std.proofs.lemmas.Bool.{le-ltb}
-use Rattle.col_index.proofs.RankLaws.{rows_rise}
-use Rattle.col_index.proofs.RangeLemmas.{past-free}
-use Rattle.col_index.proofs.SetLemmas.{holds_compared}
+use Rattle.std.proofs.Common.{ap, ◌∙◌}
+use Rattle.col_numbers.specs.Readers.{list_of}
+use Rattle.col_index.specs.Sets.{holds}
+use Rattle.col_index.proofs.RankedLemmas.{free_past}
 use Rattle.col_index.proofs.optional_index.OptionalIndex.holds_at.Goals as goal
 
-pub returns-then-at-num_non_nulls : goal.returns-then-at-num_non_nulls
-returns-then-at-num_non_nulls c =
-    holds_compared c.args.self.now.rows c.args.row_id c.args.at c.select.result (rows_rise c.args.self.now c.rows_rise.ensures) c.requires c.select.ensures
-
-pub returns-else-at-num_non_nulls : goal.returns-else-at-num_non_nulls
-returns-else-at-num_non_nulls c =
-    le-ltb c.args.at c.num_non_nulls.result (omega arith) ∙ sym (past-free c.args.self.now.rows c.args.row_id (rows_rise c.args.self.now c.rows_rise.ensures) (omega arith))
+pub returns-else-row_id-self : goal.returns-else-row_id-self
+returns-else-row_id-self c =
+    let s = c.self.inside in
+    let row = c.args.row_id in
+    free_past (record { num_rows = s.num_rows; rows = list_of s.rows }) row c.self.invariant.rows c.if-row_id-self.false
+    ∙ ap (λ s. holds s.rows row) c.self.view_is

@@ -1,7 +1,9 @@
-use Rattle.std.proofs.Common.{take}
+use Rattle.std.proofs.Common.{take, get_or}
 use Rattle.std.proofs.lemmas.Result.{err_from_is_err_and}
-use Rattle.col_index.specs.Sets.{held, held_ranks}
-use Rattle.col_index.proofs.SetLemmas.{begins_later}
+use Rattle.col_model.specs.Positions.{rank}
+use Rattle.col_index.specs.Sets.{holds, held, held_ranks}
+use Rattle.col_index.proofs.PushLemmas.{held-pushed, rank-pushed}
+use Rattle.col_index.proofs.SetLemmas.{begins_later, only_if-some}
 use Rattle.col_index.proofs.optional_index.OptionalIndex.push_ranks.Goals as goal
 
 pub returns-in_err-push_pair : goal.returns-in_err-push_pair
@@ -15,3 +17,15 @@ returns-in_err-push_pair c =
       rows = tt;
       err = (told.0, begins_later c.loop-doc.docs_out.items c.push_pair.new.docs_out.items c.args.docs_out.now.items (held rows front) c.loop-doc.invariant.docs told.1, begins_later c.loop-doc.rows_out.items c.push_pair.new.rows_out.items c.args.rows_out.now.items (held_ranks rows front) c.loop-doc.invariant.rows told.2);
     })
+
+pub loop-doc-preserved : goal.loop-doc-preserved
+loop-doc-preserved c =
+    let xs = c.args.self.now.rows in
+    let docs = c.args.docs.now in
+    let at = c.loop-doc.doc-index in
+    let told = only_if-some (holds xs (get_or docs at 0)) c.in-Some.rank (rank xs (get_or docs at 0)) c.in-Some.ensures.rank in
+    record {
+      place = c.rank_near.ensures.place;
+      docs = held-pushed xs docs at c.loop-doc-test.true told.0 _ _ _ c.loop-doc.invariant.docs c.in_ok-push_pair.ensures.docs;
+      rows = rank-pushed xs docs at c.loop-doc-test.true told.0 _ _ _ c.in-Some.rank told.1 c.loop-doc.invariant.rows c.in_ok-push_pair.ensures.rows;
+    }

@@ -21,7 +21,7 @@ returns-then-doc_id-self-clause-end c =
 pub overflow_add-result : goal.overflow_add-result
 overflow_add-result c =
     let s = c.args.self.now in
-    let own = subst AreRows c.self.view_is c.self.invariant in
+    let own = subst AreRows c.self.view_is c.self.invariant.rows in
     let count = ap (λ s. s.num_rows) c.self.view_is in
     let few = few_rows s.num_rows s.rows own in
     let inside = (holds-rank s.rows c.args.doc_id (rows_rise s own) (sym c.holds_at.ensures ∙ c.if-holds_at.true)).0 in
@@ -30,27 +30,27 @@ overflow_add-result c =
 pub returns-then-holds_at-clause-start : goal.returns-then-holds_at-clause-start
 returns-then-holds_at-clause-start c =
     let s = c.args.self.now in
-    let own = subst AreRows c.self.view_is c.self.invariant in
+    let own = subst AreRows c.self.view_is c.self.invariant.rows in
     let count = ap (λ s. s.num_rows) c.self.view_is in
     c.rank-rank.ensures ∙ sym (range_start s c.args.doc_id own (omega arith))
 
 pub returns-then-holds_at-clause-end : goal.returns-then-holds_at-clause-end
 returns-then-holds_at-clause-end c =
     let s = c.args.self.now in
-    let own = subst AreRows c.self.view_is c.self.invariant in
+    let own = subst AreRows c.self.view_is c.self.invariant.rows in
     let count = ap (λ s. s.num_rows) c.self.view_is in
     ap (λ n. n + 1) c.rank-rank.ensures ∙ sym (range_end-held s c.args.doc_id own (omega arith) (sym c.holds_at.ensures ∙ c.if-holds_at.true))
 
 pub returns-else-holds_at-clause-start : goal.returns-else-holds_at-clause-start
 returns-else-holds_at-clause-start c =
     let s = c.args.self.now in
-    let own = subst AreRows c.self.view_is c.self.invariant in
+    let own = subst AreRows c.self.view_is c.self.invariant.rows in
     let count = ap (λ s. s.num_rows) c.self.view_is in
     c.rank-rank.ensures ∙ sym (range_start s c.args.doc_id own (omega arith))
 
 pub returns-else-holds_at-clause-end : goal.returns-else-holds_at-clause-end
 returns-else-holds_at-clause-end c =
     let s = c.args.self.now in
-    let own = subst AreRows c.self.view_is c.self.invariant in
+    let own = subst AreRows c.self.view_is c.self.invariant.rows in
     let count = ap (λ s. s.num_rows) c.self.view_is in
     c.rank-rank.ensures ∙ sym (range_end-none s c.args.doc_id own (omega arith) (sym c.holds_at.ensures ∙ c.if-holds_at.false))

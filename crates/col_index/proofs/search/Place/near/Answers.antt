@@ -1,7 +1,7 @@
 use Rattle.std.proofs.Common.{◌≤◌, arith}
 use Rattle.col_numbers.specs.Readers.{list_of}
-use Rattle.col_index.proofs.SearchLemmas.{narrowed_from, rank_kept}
-use Rattle.col_index.proofs.search.Place.seek.Goals as goal
+use Rattle.col_index.proofs.SearchLemmas.{rank_kept}
+use Rattle.col_index.proofs.search.Place.near.Goals as goal
 
 pub returns-then-target-self-2-clause-place : goal.returns-then-target-self-2-clause-place
 returns-then-target-self-2-clause-place c =
@@ -20,9 +20,3 @@ returns-then-target-behind-clause-place c =
       count = rank_kept (list_of c.args.values.now) p.at p.next p.target c.args.target c.requires.rising place.count on place.first c.if-target-behind.true;
       first = place.first;
     }
-
-pub gallop-requires-clause-narrowed : goal.gallop-requires-clause-narrowed
-gallop-requires-clause-narrowed c =
-    let p = c.step-behind.result in
-    let on : p.target ≤ c.args.target = omega (arith, c.step-behind.ensures.target, c.if-target-self-2.false) in
-    narrowed_from (list_of c.args.values.now) p.at p.next p.target c.args.target c.requires.rising c.step-behind.ensures.place.count on

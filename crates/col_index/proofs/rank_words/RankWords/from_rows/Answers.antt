@@ -1,0 +1,24 @@
+use Rattle.std.proofs.Common.{◌≡◌, ◌∙◌, true, length, drop, sym, ap, subst, arith}
+use Rattle.std.proofs.lemmas.List.{take_at}
+use Rattle.col_numbers.specs.Readers.{list_of}
+use Rattle.col_index.specs.Sets.{is_row_list}
+use Rattle.col_index.specs.Ranks.{AreCounts, AreRanks}
+use Rattle.col_index.proofs.SetLemmas.{few_rows}
+use Rattle.col_index.proofs.rank_words.RankWords.from_rows.Goals as goal
+
+pub returns-clause-ranks : goal.returns-clause-ranks
+returns-clause-ranks c =
+    let rows = list_of c.args.rows.now in
+    let n = c.args.num_rows in
+    let words = c.set_rows.new.words in
+    let before = c.in_ok-before.before.items in
+    let same = take_at words (drop (length words) c.in_ok-words.words.items) c.in_ok-words.words.len (c.set_rows.auto.words ∙ c.deref_mut.ensures.len) in
+    let own : is_row_list n rows ≡ true = sym c.set_rows.ensures.rows ∙ c.if-not-set_rows.false in
+    let few = few_rows n rows own in
+    let long = ap length (c.deref.ensures.value ∙ same) in
+    subst (λ ws. AreRanks rows n ws before) (sym same) (record {
+      few = omega (arith, few, c.ranges.num_rows.fits);
+      room = omega (arith, c.set_rows.auto.words, c.deref_mut.ensures.len, c.in_ok-words.ensures.len, c.div_ceil.ensures);
+      flags = c.set_rows.ensures.flags c.if-not-set_rows.false;
+      counts = subst (λ k. AreCounts rows 64 k before) long c.in_ok-before.ensures.ok;
+    })

@@ -1,0 +1,119 @@
+//! Few rows with ranks for parts of them.
+ghost use Rattle.std.specs.Prelude.{◌≡◌, ◌≤◌, ◌<◌, ◌+◌, ◌*◌, ◌/◌, ◌^◌, true, length, replicate, sum, take, slice_index};
+ghost use Rattle.std.specs.Prelude.{IfOk, IfErr};
+ghost use Rattle.col_common.specs.declared.error.ColumnarError.TheVariants as refusals;
+ghost use Rattle.col_common.specs.Decoding.{Decodes};
+ghost use Rattle.col_model.specs.Ascending.{is_rising};
+ghost use Rattle.col_model.specs.Positions.{rank};
+ghost use Rattle.col_numbers.specs.Readers.{list_of};
+ghost use Rattle.col_index.specs.Sets.{is_row_list, set_by};
+ghost use Rattle.col_index.specs.Ranks.{AreBuckets, AreCounts, ArePartCounts, AreSums};
+
+use crate::rising::rising_row;
+use crate::search::narrow;
+use col_common::{ColumnarError, RowId};
+use col_numbers::U64Values;
+use col_values::ColumnValues;
+use std::alloc::Global;
+
+/// For parts of 2 ^ shift rows how many rows before each part, and before the end, have a value.
+#[derive(Drop)]
+pub struct RankBuckets {
+    pub shift: u32,
+    pub before: Vec<u32>,
+}
+
+impl RankBuckets {
+    /// The parts of rows, if these rise and stay below the count.
+    pub fn from_rows(
+        alloc: Global,
+        num_rows: RowId,
+        rows: &U64Values,
+    ) -> Result<RankBuckets, ColumnarError>
+        ensures rows { Decodes (λ ranks. record { num_rows = num_rows; rows = list_of rows.now })
+            result (set_by num_rows (list_of rows.now)) }
+        ensures ranks { IfOk result (λ ranks.
+            AreBuckets (list_of rows.now) num_rows ranks.shift ranks.before.items) }
+    {
+        let shift = part_shift(num_rows, rows.num_vals());
+        let mut counts = vec![in alloc; 0; (num_rows >> shift) as usize + 1]?;
+        if !count_rows(num_rows, rows, shift, &mut counts) {
+            return Err(ColumnarError::InvalidData);
+        }
+        let before = sums_before(alloc, &counts)?;
+        Ok(RankBuckets { shift, before })
+    }
+
+    /// The same once more.
+    pub fn try_clone(&self, alloc: Global) -> Result<RankBuckets, ColumnarError>
+        ensures shift { IfOk result (λ ranks. ranks.shift ≡ self.now.shift) }
+        ensures before { IfOk result (λ ranks. ranks.before.items ≡ self.now.before.items) }
+        ensures err { IfErr result (λ e. e ≡ refusals.OutOfMemory) }
+    {
+        Ok(RankBuckets {
+            shift: self.shift,
+            before: Vec::from_clones(alloc, &self.before)?,
+        })
+    }
+
+    /// How many rows before a row have a value, by the list of those that have one.
+    #[inline]
+    pub fn rank(&self, num_rows: RowId, rows: &U64Values, row: RowId) -> RowId
+        requires rising { is_rising (list_of rows.now) ≡ true }
+        requires buckets { AreBuckets (list_of rows.now) num_rows
+            self.now.shift self.now.before.items }
+        requires row { row < num_rows }
+        ensures { result ≡ rank (list_of rows.now) row }
+    {
+        let part = (row >> self.shift) as usize;
+        narrow(
+            rows,
+            self.before[part],
+            self.before[part + 1],
+            u64::from(row),
+        )
+    }
+}
+
+// A shift with about two of the rows that have a value in each part.
+fn part_shift(num_rows: RowId, num_vals: u32) -> u32
+    ensures { result < 32 }
+{
+    let apart = num_rows / num_vals.max(1);
+    (u32::BITS - apart.leading_zeros()).min(31)
+}
+
+// Counts rows by their parts as far as they rise and stay below the count; whether all of them do.
+fn count_rows(num_rows: RowId, rows: &U64Values, shift: u32, counts: &mut [u32]) -> bool
+    requires short { shift < 32 }
+    requires room { length counts.old ≡ num_rows / 2 ^ shift + 1 }
+    requires clear { counts.old ≡ replicate (length counts.old) 0 }
+    ensures rows { result ≡ is_row_list num_rows (list_of rows.now) }
+    ensures counts { result ≡ true → ArePartCounts (list_of rows.now) (2 ^ shift) counts.new }
+{
+    let mut next = 0;
+    for at in 0..rows.num_vals() {
+        let Some(row) = rising_row(num_rows, next, rows, at) else {
+            return false;
+        };
+        counts[(row >> shift) as usize] += 1;
+        next = row + 1;
+    }
+    true
+}
+
+// The sum of the counts before each, and of all of them.
+fn sums_before(alloc: Global, counts: &[u32]) -> Result<Vec<u32>, ColumnarError>
+    requires { sum counts.now < 2 ^ 32 }
+    ensures ok { IfOk result (λ before. AreSums counts.now before.items) }
+    ensures err { IfErr result (λ e. e ≡ refusals.OutOfMemory) }
+{
+    let mut before = Vec::with_capacity(alloc, counts.len() + 1)?;
+    let mut total = 0;
+    for count in counts {
+        before.push(total)?;
+        total += count;
+    }
+    before.push(total)?;
+    Ok(before)
+}
