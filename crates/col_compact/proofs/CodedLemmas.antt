@@ -1,5 +1,5 @@
 -- Codes and their numbers have the same least and the same greatest item.
-use Rattle.std.proofs.Common.{◌≡◌, ℕ, zero, suc, ◌+◌, ◌-◌, ◌^◌, ◌<◌, ◌≤◌, ◌*◌, ◌==◌, ◌&&◌, ◌||◌, Bool, true, false, List, [], ◌∷◌, ◌++◌, length, map, fold, min, max, Option, Some, None, refl, sym, ◌∙◌, ap, inl, inr, arith}
+use Rattle.std.proofs.Common.{◌≡◌, ℕ, zero, suc, ◌+◌, ◌-◌, ◌^◌, ◌<◌, ◌≤◌, ◌*◌, ◌==◌, ◌&&◌, ◌||◌, Bool, true, false, List, [], ◌∷◌, ◌++◌, length, map, fold, min, max, slice_index_or, Option, Some, None, refl, sym, ◌∙◌, ap, subst, inl, inr, arith}
 use Rattle.std.specs.Prelude.{nat_le, nat_lt}
 use Rattle.std.specs.Int.{is_in_range}
 use Rattle.std.specs.List.{list_all, AllByRecursion}
@@ -10,7 +10,7 @@ use Rattle.std.proofs.lemmas.List.Sums.{fold-append}
 use Rattle.col_bits.specs.Packed.{item, items}
 use Rattle.col_model.specs.Stats.{least_of, greatest_of}
 use Rattle.std.specs.Int.{w64}
-use Rattle.std.proofs.lemmas.List.FromFn.{length-map-range_with_len}
+use Rattle.std.proofs.lemmas.List.FromFn.{length-map-range_with_len, get_or-map-range_with_len}
 use Rattle.col_common.specs.Reading.{◌>>=◌, only_if, parts_by_second}
 use Rattle.col_bits.specs.Packed.{is_packed}
 use Rattle.col_model.specs.AddressList.{AddressFooter, address_footer, are_bounds, range_size, code_count, coded_number, first_start, last_end}
@@ -240,6 +240,14 @@ bounds_more bytes w (suc n) low high x low2 high2 b e l h = record {
   greatest_is = h ∙ ap (λ a. max a x) b.greatest_is ∙ ap (λ a. max (greatest_of (items bytes w 0 (suc n))) a) e
       ∙ sym (fold-append max 0 (items bytes w 0 (suc n)) (item bytes w (suc n) ∷ [])) ∙ ap greatest_of (sym (items_push bytes w (suc n)));
 }
+
+-- the same by an item of a block
+pub bounds_block : (bytes block : List ℕ) (w start n at low high low2 high2 : ℕ) → AreBounds bytes w (start + at) low high → block ≡ items bytes w start n → at < n
+    → low2 ≡ min low (slice_index_or block at 0) → high2 ≡ max high (slice_index_or block at 0) → AreBounds bytes w (start + (at + 1)) low2 high2
+bounds_block bytes block w start n at low high low2 high2 b e below l h =
+    let there : slice_index_or block at 0 ≡ item bytes w (start + at) = ap (λ ys. slice_index_or ys at 0) e ∙ get_or-map-range_with_len (item bytes w) start n at (start + at) 0 below refl in
+    let next : start + at + 1 ≡ start + (at + 1) = omega arith in
+    subst (λ k. AreBounds bytes w k low2 high2) next (bounds_more bytes w (start + at) low high (slice_index_or block at 0) low2 high2 b there l h)
 
 -- ---- lists by their parts
 

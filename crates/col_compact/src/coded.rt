@@ -17,6 +17,9 @@ use std::alloc::Global;
 // The bytes of a length.
 const LEN_NUM_BYTES: usize = 8;
 
+// How many codes are read at once.
+const BLOCK_LEN: usize = 256;
+
 // The parameters behind a list's codes, and how many bytes these take.
 pub(crate) fn read_list(
     alloc: Global,
@@ -71,7 +74,17 @@ fn code_bounds(unpacker: BitUnpacker, codes: &[u8], count: u32) -> (u64, u64)
     let first = unpacker.get(0, codes);
     let mut least = first;
     let mut greatest = first;
-    for idx in 1..count {
+    let mut block = [0; BLOCK_LEN];
+    let mut start = 1;
+    while (count - start) as usize >= BLOCK_LEN {
+        unpacker.get_range(start, codes, &mut block);
+        for at in 0..BLOCK_LEN {
+            least = least.min(block[at]);
+            greatest = greatest.max(block[at]);
+        }
+        start += BLOCK_LEN as u32;
+    }
+    for idx in start..count {
         let code = unpacker.get(idx, codes);
         least = least.min(code);
         greatest = greatest.max(code);
