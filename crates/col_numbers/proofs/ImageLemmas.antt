@@ -1,5 +1,5 @@
 -- Lists of numbers that stand for values of a type.
-use Rattle.std.proofs.Common.{◌≡◌, ℕ, zero, suc, ◌==◌, ◌&&◌, ◌<◌, ◌≤◌, ◌^◌, nat_lt, min, max, fold, Bool, true, false, List, [], ◌∷◌, length, map, Contains, Option, Some, None, refl, sym, ap, ◌∙◌, arith, subst, slice_index, cond, inl, inr}
+use Rattle.std.proofs.Common.{◌≡◌, ℕ, zero, suc, ◌<◌, ◌≤◌, ◌^◌, nat_lt, min, max, fold, Bool, true, false, List, [], ◌∷◌, length, Contains, Option, Some, None, refl, sym, ap, ◌∙◌, arith, subst, slice_index, cond, inl, inr}
 use Rattle.std.specs.Option.{option_map, IfNone}
 use Rattle.std.proofs.lemmas.Option.{none-some}
 use Rattle.col_numbers.specs.CodecTypes.{code_of}
@@ -13,9 +13,10 @@ use Rattle.col_model.specs.Stats.{Stats, stats_of, stats_at, same_stats, least_o
 use Rattle.col_model.specs.U64List.{values64, values_by}
 use Rattle.col_model.proofs.StatsLaws.{all_by, fold-max, fold-max-one}
 use Rattle.col_values.specs.Bounds.{IsOfValues}
-use Rattle.col_values.specs.Monotonic.{Passes, AllMapped}
+use Rattle.col_values.specs.Monotonic.{Passes}
 use Rattle.col_values.specs.Laws.{ImagesReachDown}
 use Rattle.col_values.specs.Codes.{is_below}
+use Rattle.col_numbers.specs.Views.{is_seen}
 
 -- ---- the bounds of a list are items of it
 
@@ -43,6 +44,12 @@ greatest-in (x ∷ xs) v some e =
 
 -- ---- images
 
+-- tests that follow from each other are the same
+pub same_test : (s t : Bool) → (s ≡ true → t ≡ true) → (t ≡ true → s ≡ true) → s ≡ t
+same_test true t f g = sym (f refl)
+same_test false true f g = g refl
+same_test false false f g = refl
+
 module _ (is_image : ℕ → Bool) where
   all-below : ImagesReachDown is_image → (xs : List ℕ) (top : ℕ) → AllByRecursion (λ x. x ≤ top) xs → is_image top ≡ true → list_all is_image xs ≡ true
   all-below down [] top below t = refl
@@ -52,28 +59,20 @@ module _ (is_image : ℕ → Bool) where
   greatest-image : (xs : List ℕ) → 0 < length xs → list_all is_image xs ≡ true → is_image (greatest_of xs) ≡ true
   greatest-image xs some t = All-contains (Passes is_image) xs (greatest_of xs) (AllPass-from_list_all is_image xs t) (greatest-in xs (greatest_of xs) some refl)
 
-  same_test : (s t : Bool) → (s ≡ true → t ≡ true) → (t ≡ true → s ≡ true) → s ≡ t
-  same_test true t f g = sym (f refl)
-  same_test false true f g = g refl
-  same_test false false f g = refl
-
   -- where images reach down, the greatest item tells of all
   pub greatest-tells : ImagesReachDown is_image → (xs : List ℕ) → 0 < length xs → is_image (greatest_of xs) ≡ list_all is_image xs
   greatest-tells down xs some = same_test _ _ (all-below down xs (greatest_of xs) (fold-max 0 xs).1) (greatest-image xs some)
 
-  all_passed : (xs : List ℕ) → AllByRecursion (λ n. n < 2 ^ 64) xs → list_all is_image xs ≡ true → AllByRecursion (Passes (λ n. is_below (2 ^ 64) n && is_image n)) xs
+  all_passed : (xs : List ℕ) → AllByRecursion (λ n. n < 2 ^ 64) xs → list_all is_image xs ≡ true → AllByRecursion (Passes (is_seen (is_below (2 ^ 64)) (λ n. n) is_image)) xs
   all_passed [] fit t = tt
-  all_passed (x ∷ xs) fit t = let p = and_parts _ _ t in (and_from _ _ (lt-ltb x (2 ^ 64) fit.0) p.0, all_passed xs fit.1 p.1)
+  all_passed (x ∷ xs) fit t =
+      let p = and_parts _ _ t in
+      let below = lt-ltb x (2 ^ 64) fit.0 in
+      (and_from _ _ below (and_from _ _ below p.0), all_passed xs fit.1 p.1)
 
-  -- each image of 64 bits is in the domain of the map to values
-  pub images-mapped : (xs : List ℕ) → AllByRecursion (λ n. n < 2 ^ 64) xs → list_all is_image xs ≡ true → AllMapped (λ n. is_below (2 ^ 64) n && is_image n) xs (λ v. v ≡ least_of xs) (λ v. v ≡ greatest_of xs)
-  images-mapped xs fit t =
-      let all = All-from_recursion (Passes (λ n. is_below (2 ^ 64) n && is_image n)) xs (all_passed xs fit t) in
-      record {
-        each = all;
-        least = λ x some e. All-contains (Passes (λ n. is_below (2 ^ 64) n && is_image n)) xs x all (least-in xs x some e);
-        greatest = λ x some e. All-contains (Passes (λ n. is_below (2 ^ 64) n && is_image n)) xs x all (greatest-in xs x some e);
-      }
+  -- images of 64 bits can be seen as they are
+  pub images-seen : (xs : List ℕ) → AllByRecursion (λ n. n < 2 ^ 64) xs → list_all is_image xs ≡ true → All (Passes (is_seen (is_below (2 ^ 64)) (λ n. n) is_image)) xs
+  images-seen xs fit t = All-from_recursion (Passes (is_seen (is_below (2 ^ 64)) (λ n. n) is_image)) xs (all_passed xs fit t)
 
 -- each item fits where the greatest one does
 pub all-fit : (xs : List ℕ) (top : ℕ) → top ≡ greatest_of xs → top < 2 ^ 64 → AllByRecursion (λ n. n < 2 ^ 64) xs

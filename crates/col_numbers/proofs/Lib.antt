@@ -1,4 +1,6 @@
 pub mod ChoiceLemmas
+pub mod CoercionLemmas
 pub mod CollectingLemmas
 pub mod ImageLemmas
+pub mod ViewLemmas
 pub mod WrittenLemmas

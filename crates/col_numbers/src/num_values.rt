@@ -1,37 +1,49 @@
-//! A list of numbers, seen as values of a type.
-ghost use Rattle.std.specs.Prelude.{◌≡◌, ◌≤◌, ◌<◌, ◌^◌, ◌∷◌, length, map, drop, option_map, None, IfOk, IfSome, IfNone};
+//! Values of a type: a list of numbers that is read, one that is coerced, or none.
+ghost use Rattle.std.specs.Prelude.{◌≡◌, ◌≤◌, ◌<◌, ◌^◌, ◌∷◌, length, map, drop, pos, nat_abs, true, option_map, None, IfSome, IfNone};
 ghost use Rattle.std.specs.List.{AllByRecursion, list_all};
 ghost use Rattle.col_common.specs.Decoding.{Decodes};
 ghost use Rattle.col_model.specs.Images.{images64};
 ghost use Rattle.col_model.specs.U64List.{values64};
-ghost use Rattle.col_numbers.specs.NumValues.{num_values_of, images_of, HasExactBounds};
+ghost use Rattle.col_numbers.specs.Coercions.{as_i64, as_u64, fits_i64, is_not_negative};
+ghost use Rattle.col_numbers.specs.NumValues.{num_values_of, images_of};
 ghost use Rattle.col_numbers.specs.Readers.{list_of};
 ghost use Rattle.col_numbers.specs.CodecTypes.{code_of};
 
-use crate::{CodecType, U64Values};
+use crate::{CodecType, MapToOtherHalf, NumView, U64Values};
 use bytes::Bytes;
 use col_codecs::{BitpackedCodec, BlockwiseLinearCodec, ColumnCodec, LinearCodec};
 use col_common::{ColumnarError, Iterable, RowId, Walk};
 use col_values::{
-    ColumnValues, EmptyColumnValues, MonotonicColumn, MonotonicallyMappableToU64,
-    StrictlyMonotonicMappingInverter, StrictlyMonotonicMappingToInternal, monotonic_map_column,
+    ColumnValues, EmptyColumnValues, MonotonicallyMappableToU64, StrictlyMonotonicMappingToInternal,
 };
 use std::alloc::Global;
 use std::ops::Range;
 
-/// A list of numbers, seen as values of a type.
-pub type NumView<T> = MonotonicColumn<
-    u64,
-    T,
-    U64Values,
-    StrictlyMonotonicMappingInverter<StrictlyMonotonicMappingToInternal<T>>,
->;
-
-/// Values of a type: a list of numbers seen as them, or none.
+/// Values of a type: those whose numbers are read, numbers of the other numerical type, or none.
 #[derive(Drop)]
 pub enum NumValues<T: MonotonicallyMappableToU64> {
-    Read(NumView<T>),
+    Read(NumView<T, StrictlyMonotonicMappingToInternal<u64>>),
+    Coerced(NumView<T, MapToOtherHalf>),
     Empty(EmptyColumnValues),
+}
+
+impl<T: MonotonicallyMappableToU64 + Default> NumValues<T> {
+    ghost use Rattle.col_values.specs.Monotonic.{AllMapped};
+    ghost use Rattle.col_numbers.specs.NumValues.{num_values_of, IsLow, IsHigh, HasExactBounds};
+
+    /// Each value is one of its type, and so is each bound of values; the bounds are exact.
+    pub fn tell(&self)
+        ensures values { AllMapped T.in_type (num_values_of self.now)
+            (IsLow T.partial_cmp T.is_default self.now)
+            (IsHigh T.partial_cmp T.is_default self.now) }
+        ensures bounds { HasExactBounds T.partial_cmp T.is_default self.now }
+    {
+        match self {
+            NumValues::Read(values) => values.tell(),
+            NumValues::Coerced(values) => values.tell(),
+            NumValues::Empty(_) => {}
+        }
+    }
 }
 
 impl<T: MonotonicallyMappableToU64 + Default> ColumnValues<T> for NumValues<T> {
@@ -39,13 +51,14 @@ impl<T: MonotonicallyMappableToU64 + Default> ColumnValues<T> for NumValues<T> {
 
     ghost values = { num_values_of };
 
-    ghost IsLeast = { IsLow T.is_default };
+    ghost IsLeast = { IsLow T.partial_cmp T.is_default };
 
-    ghost IsGreatest = { IsHigh T.is_default };
+    ghost IsGreatest = { IsHigh T.partial_cmp T.is_default };
 
     fn num_vals(&self) -> u32 {
         match self {
             NumValues::Read(values) => values.num_vals(),
+            NumValues::Coerced(values) => values.num_vals(),
             NumValues::Empty(_) => 0,
         }
     }
@@ -54,6 +67,7 @@ impl<T: MonotonicallyMappableToU64 + Default> ColumnValues<T> for NumValues<T> {
     fn get_val(&self, idx: u32) -> T {
         match self {
             NumValues::Read(values) => values.get_val(idx),
+            NumValues::Coerced(values) => values.get_val(idx),
             NumValues::Empty(values) => values.get_val(idx),
         }
     }
@@ -61,6 +75,7 @@ impl<T: MonotonicallyMappableToU64 + Default> ColumnValues<T> for NumValues<T> {
     fn min_value(&self) -> T {
         match self {
             NumValues::Read(values) => values.min_value(),
+            NumValues::Coerced(values) => values.min_value(),
             NumValues::Empty(values) => values.min_value(),
         }
     }
@@ -68,6 +83,7 @@ impl<T: MonotonicallyMappableToU64 + Default> ColumnValues<T> for NumValues<T> {
     fn max_value(&self) -> T {
         match self {
             NumValues::Read(values) => values.max_value(),
+            NumValues::Coerced(values) => values.max_value(),
             NumValues::Empty(values) => values.max_value(),
         }
     }
@@ -75,6 +91,7 @@ impl<T: MonotonicallyMappableToU64 + Default> ColumnValues<T> for NumValues<T> {
     fn get_vals(&self, indexes: &[u32], output: &mut [T]) {
         match self {
             NumValues::Read(values) => values.get_vals(indexes, output),
+            NumValues::Coerced(values) => values.get_vals(indexes, output),
             NumValues::Empty(values) => values.get_vals(indexes, output),
         }
     }
@@ -82,13 +99,15 @@ impl<T: MonotonicallyMappableToU64 + Default> ColumnValues<T> for NumValues<T> {
     fn get_vals_opt(&self, indexes: &[u32], output: &mut [Option<T>]) {
         match self {
             NumValues::Read(values) => values.get_vals_opt(indexes, output),
+            NumValues::Coerced(values) => values.get_vals_opt(indexes, output),
             NumValues::Empty(values) => values.get_vals_opt(indexes, output),
         }
     }
 
     fn get_range(&self, start: u64, output: &mut [T]) {
         match self {
-            NumValues::Read(values) => values.get_mapped_range(start, output),
+            NumValues::Read(values) => values.get_range(start, output),
+            NumValues::Coerced(values) => values.get_range(start, output),
             NumValues::Empty(values) => values.get_range(start, output),
         }
     }
@@ -102,6 +121,7 @@ impl<T: MonotonicallyMappableToU64 + Default> ColumnValues<T> for NumValues<T> {
     ) -> Result<(), ColumnarError> {
         match self {
             NumValues::Read(values) => values.get_row_ids_between(low, high, row_ids, hits),
+            NumValues::Coerced(values) => values.get_row_ids_between(low, high, row_ids, hits),
             NumValues::Empty(values) => values.get_row_ids_between(low, high, row_ids, hits),
         }
     }
@@ -157,13 +177,11 @@ fn see_as<T: MonotonicallyMappableToU64 + Default>(
 ) -> Result<NumValues<T>, ColumnarError>
     ensures ok { Decodes num_values_of result
         (option_map (map T.value) (images_of T.is_code (list_of values))) }
-    ensures bounds { IfOk result (HasExactBounds T.partial_cmp T.is_default) }
 {
     if !are_images::<T>(&values) {
         return Err(ColumnarError::InvalidData);
     }
-    let map = StrictlyMonotonicMappingToInternal::new();
-    Ok(NumValues::Read(monotonic_map_column(values, StrictlyMonotonicMappingInverter::from(map))))
+    Ok(NumValues::Read(NumView::new(values, StrictlyMonotonicMappingToInternal::new())))
 }
 
 impl CodecType {
@@ -192,7 +210,6 @@ impl CodecType {
     ) -> Result<NumValues<T>, ColumnarError>
         ensures ok { Decodes num_values_of result
             (option_map (map T.value) (images64 T.is_code (code_of self ∷ bytes))) }
-        ensures bounds { IfOk result (HasExactBounds T.partial_cmp T.is_default) }
     {
         see_as(self.load_u64(alloc, bytes)?)
     }
@@ -228,7 +245,6 @@ pub fn load_u64_based_column_values<T: MonotonicallyMappableToU64 + Default>(
 ) -> Result<NumValues<T>, ColumnarError>
     ensures ok { Decodes num_values_of result
         (option_map (map T.value) (images64 T.is_code bytes)) }
-    ensures bounds { IfOk result (HasExactBounds T.partial_cmp T.is_default) }
 {
     let Some(codec) = codec_of(bytes.as_slice()) else {
         return Err(ColumnarError::InvalidData);
@@ -236,4 +252,72 @@ pub fn load_u64_based_column_values<T: MonotonicallyMappableToU64 + Default>(
     let mut behind = bytes;
     behind.advance(1);
     codec.load(alloc, behind)
+}
+
+// Whether each number is at most the greatest signed one.
+fn are_i64(values: &NumValues<u64>) -> bool
+    ensures { result ≡ list_all fits_i64 (num_values_of values.now) }
+{
+    values.max_value() <= i64::MAX.cast_unsigned()
+}
+
+// Whether each number is at least 0.
+fn are_u64(values: &NumValues<i64>) -> bool
+    ensures { result ≡ list_all is_not_negative (num_values_of values.now) }
+{
+    values.min_value() >= 0
+}
+
+// The same numbers with a sign.
+fn see_as_i64(values: NumValues<u64>) -> NumValues<i64>
+    requires { list_all fits_i64 (num_values_of values) ≡ true }
+    ensures { num_values_of result ≡ map pos (num_values_of values) }
+{
+    match values {
+        NumValues::Read(view) => {
+            NumValues::Coerced(NumView::new(view.into_parts().0, MapToOtherHalf { rises: true }))
+        }
+        NumValues::Coerced(view) => NumValues::Read(NumView::new(
+            view.into_parts().0,
+            StrictlyMonotonicMappingToInternal::new(),
+        )),
+        NumValues::Empty(values) => NumValues::Empty(values),
+    }
+}
+
+// The same numbers without a sign.
+fn see_as_u64(values: NumValues<i64>) -> NumValues<u64>
+    requires { list_all is_not_negative (num_values_of values) ≡ true }
+    ensures { num_values_of result ≡ map nat_abs (num_values_of values) }
+{
+    match values {
+        NumValues::Read(view) => {
+            NumValues::Coerced(NumView::new(view.into_parts().0, MapToOtherHalf { rises: false }))
+        }
+        NumValues::Coerced(view) => NumValues::Read(NumView::new(
+            view.into_parts().0,
+            StrictlyMonotonicMappingToInternal::new(),
+        )),
+        NumValues::Empty(values) => NumValues::Empty(values),
+    }
+}
+
+/// The same numbers with a sign, exactly where all are at most the greatest signed one.
+pub fn coerce_to_i64(values: NumValues<u64>) -> Option<NumValues<i64>>
+    ensures { option_map num_values_of result ≡ as_i64 (num_values_of values) }
+{
+    if !are_i64(&values) {
+        return None;
+    }
+    Some(see_as_i64(values))
+}
+
+/// The same numbers without a sign, exactly where all are at least 0.
+pub fn coerce_to_u64(values: NumValues<i64>) -> Option<NumValues<u64>>
+    ensures { option_map num_values_of result ≡ as_u64 (num_values_of values) }
+{
+    if !are_u64(&values) {
+        return None;
+    }
+    Some(see_as_u64(values))
 }

@@ -2,7 +2,7 @@
 ghost use Rattle.std.specs.Prelude.{◌≡◌, ◌≤◌, ◌<◌, ◌^◌, ℕ, List, [], ◌∷◌, ◌++◌, map, length, option_map, ◌⊎◌, Some, None, Err, IfOk, IfErr, IfSome, IfNone, OnOk};
 ghost use Rattle.std.specs.List.{AllByRecursion};
 ghost use Rattle.col_common.specs.Decoding.{Decodes};
-ghost use Rattle.col_numbers.specs.NumValues.{num_values_of, images_of, HasExactBounds};
+ghost use Rattle.col_numbers.specs.NumValues.{num_values_of, images_of};
 ghost use Rattle.col_numbers.specs.Readers.{list_of};
 ghost use Rattle.col_common.specs.Serializing.{Serializes, Stopped};
 ghost use Rattle.col_model.specs.Stats.{stats_of};
@@ -234,7 +234,6 @@ where
     ensures ok { IfNone (list_refusal (I.items vals.now) (map code_of codec_types.now))
         (Decodes num_values_of result
         (option_map (map T.value) (images_of T.is_code (I.items vals.now)))) }
-    ensures bounds { IfOk result (HasExactBounds T.partial_cmp T.is_default) }
     ensures refused { IfSome (list_refusal (I.items vals.now) (map code_of codec_types.now)) (λ e.
         (result ≡ Err e) ⊎ (result ≡ Err refusals.OutOfMemory)) }
 {

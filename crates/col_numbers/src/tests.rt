@@ -2,6 +2,7 @@
 
 mod choice;
 mod codecs;
+mod coercions;
 mod line;
 mod lists;
 mod stats;

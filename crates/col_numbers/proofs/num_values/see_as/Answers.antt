@@ -1,12 +1,8 @@
 use Rattle.std.proofs.Common.{sym, ◌∙◌}
 use Rattle.col_numbers.specs.Readers.{list_of}
-use Rattle.col_numbers.proofs.ImageLemmas.{images-mapped, least-in, greatest-in}
+use Rattle.col_numbers.proofs.ImageLemmas.{images-seen}
 use Rattle.col_numbers.proofs.num_values.see_as.Goals as goal
 
-pub monotonic_map_column-requires : goal.monotonic_map_column-requires
-monotonic_map_column-requires g c =
-    images-mapped g.T.MonotonicallyMappableToU64.is_code (list_of c.args.values) c.are_images.ensures.fit (sym c.are_images.ensures.images ∙ c.if-not-are_images.false)
-
-pub returns-clause-bounds : goal.returns-clause-bounds
-returns-clause-bounds g c low high l h =
-    rw (l, h) (c.monotonic_map_column.ensures.exact (least-in (list_of c.args.values)) (greatest-in (list_of c.args.values)))
+pub new-requires-2 : goal.new-requires-2
+new-requires-2 g c =
+    images-seen g.T.MonotonicallyMappableToU64.is_code (list_of c.args.values) c.are_images.ensures.fit (sym c.are_images.ensures.images ∙ c.if-not-are_images.false)

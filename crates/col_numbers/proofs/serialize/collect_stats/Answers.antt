@@ -1,5 +1,4 @@
-use Rattle.std.proofs.Common.{refl, sym, ap, ◌∙◌, arith, length}
-use Rattle.col_codecs.proofs.StatsLemmas.{collected-count}
+use Rattle.std.proofs.Common.{refl, sym, ap, arith, length}
 use Rattle.col_numbers.proofs.CollectingLemmas.{collecting-init, collecting-step, collecting-done, collected-more, collected-room, fits-below, too-many}
 use Rattle.col_numbers.proofs.serialize.collect_stats.Goals as goal
 

@@ -1,4 +1,4 @@
-use Rattle.std.proofs.Common.{◌≡◌, length}
+use Rattle.std.proofs.Common.{length}
 use Rattle.col_numbers.proofs.CollectingLemmas.{Collecting, IsCollected}
 use Rattle.col_numbers.proofs.serialize.collect_stats.Given as goal
 
