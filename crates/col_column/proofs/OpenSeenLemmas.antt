@@ -1,0 +1,101 @@
+-- Columns that are read, as calls see them: an index with values.
+use Rattle.std.proofs.Common.{◌≡◌, ℕ, Bool, true, false, List, [], ◌∷◌, length, map, Option, Some, None, Result, Ok, Err, option_map, is_some, refl, sym, ap, ◌∙◌}
+use Rattle.std.specs.Int.{w64}
+use Rattle.std.specs.List.{list_all}
+use Rattle.std.proofs.lemmas.List.{length-map}
+use Rattle.std.proofs.lemmas.Option.{same_Some}
+use Rattle.col_common.specs.Decoding.{Decodes}
+use Rattle.col_common.specs.Reading.{◌>>=◌, only_if, parts_by_first}
+use Rattle.col_common.specs.declared.error.ColumnarError.{ColumnarError}
+use Rattle.col_common.proofs.DecodingLemmas.{refuses-as}
+use Rattle.col_compact.specs.Coded.{Coded, numbers_of}
+use Rattle.col_model.specs.AddressList.{values128, coded_number}
+use Rattle.col_model.specs.Column.{is_stored, stored_numbers, number_rows, column}
+use Rattle.col_model.specs.ColumnType.{ColumnType}
+use Rattle.col_model.specs.ColumnType as types
+use Rattle.col_model.specs.Index.{Shape, shape}
+use Rattle.col_model.specs.Table.{Cell, Content}
+use Rattle.col_types.specs.Stored.{IsStoredAs}
+use Rattle.col_column.specs.Columns.{Seen, content_seen}
+use Rattle.col_column.specs.Opened.{counts_exactly, counted_rows, seen_by, indexed_by}
+use Rattle.col_column.proofs.OpenRowsLemmas.{images, made_of, made_of-unparted, made_of-unread, made_of-read, number_rows-made}
+use Rattle.col_column.proofs.OpenCellLemmas.{column-made}
+
+-- a decoder's answer, seen otherwise
+pub decodes-as : {T W : Type 0} (view : T → W) (r : Result T ColumnarError) (x : Option T) (y : Option W) → y ≡ option_map view x → Decodes (λ c. c) r x → Decodes view r y
+decodes-as view (Ok c) x y e h = e ∙ ap (option_map view) h
+decodes-as view (Err f) x y e h = refuses-as f x y (λ n. e ∙ ap (option_map view) n) h
+
+-- an index with values, seen as what both make
+indexed-as : {V R : Type 0} (view : Seen V → R) (rows count : ℕ) (values : V) (found : Option Shape) → (found >>= λ s. only_if (is_some (counts_exactly rows count s)) (view (record { shape = s; values = values }))) ≡ option_map view (found >>= seen_by rows count values)
+indexed-as view rows count values None = refl
+indexed-as view rows count values (Some s) = at (is_some (counts_exactly rows count s))
+  where
+    at : (t : Bool) → only_if t (view (record { shape = s; values = values })) ≡ option_map view (only_if t (record { shape = s; values = values }))
+    at true = refl
+    at false = refl
+
+-- numbers that all stand for values
+all-pass : (xs : List ℕ) → list_all (λ n. true) xs ≡ true
+all-pass [] = refl
+all-pass (x ∷ xs) = all-pass xs
+
+pub images-all : (o : Option (List ℕ)) → images (λ n. true) o ≡ o
+images-all None = refl
+images-all (Some xs) = ap (λ t. only_if t xs) (all-pass xs)
+
+-- ---- columns of a type without terms
+
+pub column-unparted : {T : Type 0} (list : List ℕ → Option (List ℕ)) (kind : ColumnType) (cell : T → Cell) (value : ℕ → T) (is_code : ℕ → Bool) → IsStoredAs list kind cell value is_code → (bytes : List ℕ) (version rows : ℕ) → parts_by_first w64 bytes ≡ None → column bytes kind version rows ≡ None
+column-unparted list kind cell value is_code stored bytes version rows e =
+    column-made list kind cell value is_code stored bytes version rows ∙ made_of-unparted _ _ bytes version rows e
+
+pub column-unread : {T : Type 0} (list : List ℕ → Option (List ℕ)) (kind : ColumnType) (cell : T → Cell) (value : ℕ → T) (is_code : ℕ → Bool) → IsStoredAs list kind cell value is_code → (bytes : List ℕ) (version rows : ℕ) (a b : List ℕ) → parts_by_first w64 bytes ≡ Some (a, b) → option_map (map value) (images is_code (list b)) ≡ None → column bytes kind version rows ≡ None
+column-unread list kind cell value is_code stored bytes version rows a b e f =
+    column-made list kind cell value is_code stored bytes version rows
+    ∙ made_of-unread (λ s xs. content_seen [] cell s (map value xs)) (λ b. images is_code (list b)) bytes version rows a b e (at (images is_code (list b)) f)
+  where
+    at : (o : Option (List ℕ)) → option_map (map value) o ≡ None → o ≡ None
+    at None g = refl
+    at (Some xs) g = cc
+
+-- values that are read, behind their index
+pub column-read : {T V : Type 0} (list_of : V → List T) (values : V) (list : List ℕ → Option (List ℕ)) (kind : ColumnType) (cell : T → Cell) (value : ℕ → T) (is_code : ℕ → Bool) → IsStoredAs list kind cell value is_code → (bytes : List ℕ) (version rows : ℕ) (a b : List ℕ) → parts_by_first w64 bytes ≡ Some (a, b) → option_map (map value) (images is_code (list b)) ≡ Some (list_of values) → column bytes kind version rows ≡ option_map (λ (c : Seen V). content_seen [] cell c.shape (list_of c.values)) (indexed_by a version rows (length (list_of values)) values)
+column-read {T = T} {V = V} list_of values list kind cell value is_code stored bytes version rows a b e f =
+    column-made list kind cell value is_code stored bytes version rows ∙ at (images is_code (list b)) refl f
+  where
+    view : Seen V → Content
+    view c = content_seen [] cell c.shape (list_of c.values)
+
+    of_values : ℕ → List T → Option Content
+    of_values n vs = shape a version >>= λ s. only_if (is_some (counts_exactly rows n s)) (content_seen [] cell s vs)
+
+    at : (o : Option (List ℕ)) → images is_code (list b) ≡ o → option_map (map value) o ≡ Some (list_of values) → made_of (λ s xs. content_seen [] cell s (map value xs)) (λ b. images is_code (list b)) bytes version rows ≡ option_map view (indexed_by a version rows (length (list_of values)) values)
+    at None g h = cc
+    at (Some xs) g h =
+        made_of-read (λ s xs. content_seen [] cell s (map value xs)) (λ b. images is_code (list b)) bytes version rows a b xs e g
+        ∙ ap (λ n. of_values n (map value xs)) (sym (length-map xs value))
+        ∙ ap (λ vs. of_values (length vs) vs) (same_Some (map value xs) (list_of values) h)
+        ∙ indexed-as view rows (length (list_of values)) values (shape a version)
+
+-- ---- rows of numbers of 128 bits
+
+-- each number may be stored
+stored-ip : (bytes : List ℕ) → images (is_stored types.ip) (stored_numbers types.ip bytes) ≡ values128 bytes
+stored-ip bytes = images-all (values128 bytes)
+
+pub ip_rows-unparted : (bytes : List ℕ) (version rows : ℕ) → parts_by_first w64 bytes ≡ None → number_rows bytes types.ip version rows ≡ None
+ip_rows-unparted bytes version rows e =
+    number_rows-made bytes types.ip version rows ∙ made_of-unparted _ _ bytes version rows e
+
+pub ip_rows-unread : (bytes : List ℕ) (version rows : ℕ) (a b : List ℕ) → parts_by_first w64 bytes ≡ Some (a, b) → values128 b ≡ None → number_rows bytes types.ip version rows ≡ None
+ip_rows-unread bytes version rows a b e f =
+    number_rows-made bytes types.ip version rows ∙ made_of-unread _ _ bytes version rows a b e (stored-ip b ∙ f)
+
+-- codes that are read, behind their index
+pub ip_rows-read : (values : Coded) (bytes : List ℕ) (version rows : ℕ) (a b : List ℕ) → parts_by_first w64 bytes ≡ Some (a, b) → values128 b ≡ Some (numbers_of values) → number_rows bytes types.ip version rows ≡ option_map (λ (c : Seen Coded). counted_rows c.shape (numbers_of c.values)) (indexed_by a version rows (length values.codes) values)
+ip_rows-read values bytes version rows a b e f =
+    number_rows-made bytes types.ip version rows
+    ∙ made_of-read _ _ bytes version rows a b (numbers_of values) e (stored-ip b ∙ f)
+    ∙ ap (λ n. shape a version >>= λ s. only_if (is_some (counts_exactly rows n s)) (counted_rows s (numbers_of values))) (length-map values.codes (coded_number values.ranges))
+    ∙ indexed-as (λ (c : Seen Coded). counted_rows c.shape (numbers_of c.values)) rows (length values.codes) values (shape a version)
