@@ -2,19 +2,19 @@
 use Rattle.std.proofs.Common.{◌≡◌, ℕ, Bool, true, false, List, [], ◌∷◌, length, map, Option, Some, None, Result, Ok, Err, option_map, is_some, refl, sym, ap, ◌∙◌}
 use Rattle.std.specs.Int.{w64}
 use Rattle.std.specs.List.{list_all}
-use Rattle.std.proofs.lemmas.List.{length-map}
+use Rattle.std.proofs.lemmas.List.{length-map, map-id}
 use Rattle.std.proofs.lemmas.Option.{same_Some}
 use Rattle.col_common.specs.Decoding.{Decodes}
 use Rattle.col_common.specs.Reading.{◌>>=◌, only_if, parts_by_first}
 use Rattle.col_common.specs.declared.error.ColumnarError.{ColumnarError}
 use Rattle.col_common.proofs.DecodingLemmas.{refuses-as}
-use Rattle.col_compact.specs.Coded.{Coded, numbers_of}
-use Rattle.col_model.specs.AddressList.{values128, coded_number}
+use Rattle.col_model.specs.AddressList.{values128}
 use Rattle.col_model.specs.Column.{is_stored, stored_numbers, number_rows, column}
 use Rattle.col_model.specs.ColumnType.{ColumnType}
 use Rattle.col_model.specs.ColumnType as types
 use Rattle.col_model.specs.Index.{Shape, shape}
 use Rattle.col_model.specs.Table.{Cell, Content}
+use Rattle.col_model.specs.U64List.{values64}
 use Rattle.col_types.specs.Stored.{IsStoredAs}
 use Rattle.col_column.specs.Columns.{Seen, content_seen}
 use Rattle.col_column.specs.Opened.{counts_exactly, counted_rows, seen_by, indexed_by}
@@ -78,24 +78,35 @@ column-read {T = T} {V = V} list_of values list kind cell value is_code stored b
         ∙ ap (λ vs. of_values (length vs) vs) (same_Some (map value xs) (list_of values) h)
         ∙ indexed-as view rows (length (list_of values)) values (shape a version)
 
--- ---- rows of numbers of 128 bits
+-- ---- rows of the numbers of a type that stores all
 
--- each number may be stored
-stored-ip : (bytes : List ℕ) → images (is_stored types.ip) (stored_numbers types.ip bytes) ≡ values128 bytes
-stored-ip bytes = images-all (values128 bytes)
+-- the numbers that bytes stand for are those of a list, each of which may be stored
+abbrev pub StoresAll : ColumnType → (List ℕ → Option (List ℕ)) → Type 0
+StoresAll t list = (bytes : List ℕ) → images (is_stored t) (stored_numbers t bytes) ≡ list bytes
 
-pub ip_rows-unparted : (bytes : List ℕ) (version rows : ℕ) → parts_by_first w64 bytes ≡ None → number_rows bytes types.ip version rows ≡ None
-ip_rows-unparted bytes version rows e =
-    number_rows-made bytes types.ip version rows ∙ made_of-unparted _ _ bytes version rows e
+pub addresses-all : StoresAll types.ip values128
+addresses-all bytes = images-all (values128 bytes)
 
-pub ip_rows-unread : (bytes : List ℕ) (version rows : ℕ) (a b : List ℕ) → parts_by_first w64 bytes ≡ Some (a, b) → values128 b ≡ None → number_rows bytes types.ip version rows ≡ None
-ip_rows-unread bytes version rows a b e f =
-    number_rows-made bytes types.ip version rows ∙ made_of-unread _ _ bytes version rows a b e (stored-ip b ∙ f)
+pub ordinals-all : StoresAll types.bytes values64
+ordinals-all bytes = images-all (values64 bytes)
 
--- codes that are read, behind their index
-pub ip_rows-read : (values : Coded) (bytes : List ℕ) (version rows : ℕ) (a b : List ℕ) → parts_by_first w64 bytes ≡ Some (a, b) → values128 b ≡ Some (numbers_of values) → number_rows bytes types.ip version rows ≡ option_map (λ (c : Seen Coded). counted_rows c.shape (numbers_of c.values)) (indexed_by a version rows (length values.codes) values)
-ip_rows-read values bytes version rows a b e f =
-    number_rows-made bytes types.ip version rows
-    ∙ made_of-read _ _ bytes version rows a b (numbers_of values) e (stored-ip b ∙ f)
-    ∙ ap (λ n. shape a version >>= λ s. only_if (is_some (counts_exactly rows n s)) (counted_rows s (numbers_of values))) (length-map values.codes (coded_number values.ranges))
-    ∙ indexed-as (λ (c : Seen Coded). counted_rows c.shape (numbers_of c.values)) rows (length values.codes) values (shape a version)
+pub rows-unparted : (t : ColumnType) (bytes : List ℕ) (version rows : ℕ) → parts_by_first w64 bytes ≡ None → number_rows bytes t version rows ≡ None
+rows-unparted t bytes version rows e =
+    number_rows-made bytes t version rows ∙ made_of-unparted _ _ bytes version rows e
+
+pub rows-unread : (t : ColumnType) (list : List ℕ → Option (List ℕ)) → StoresAll t list → (bytes : List ℕ) (version rows : ℕ) (a b : List ℕ) → parts_by_first w64 bytes ≡ Some (a, b) → list b ≡ None → number_rows bytes t version rows ≡ None
+rows-unread t list all bytes version rows a b e f =
+    number_rows-made bytes t version rows ∙ made_of-unread _ _ bytes version rows a b e (all b ∙ f)
+
+-- numbers that are read, so many, behind their index
+pub rows-read : {V : Type 0} (list_of : V → List ℕ) (values : V) (count : ℕ) → length (list_of values) ≡ count → (t : ColumnType) (list : List ℕ → Option (List ℕ)) → StoresAll t list → (bytes : List ℕ) (version rows : ℕ) (a b : List ℕ) → parts_by_first w64 bytes ≡ Some (a, b) → list b ≡ Some (list_of values) → number_rows bytes t version rows ≡ option_map (λ (c : Seen V). counted_rows c.shape (list_of c.values)) (indexed_by a version rows count values)
+rows-read {V = V} list_of values count long t list all bytes version rows a b e f =
+    number_rows-made bytes t version rows
+    ∙ made_of-read _ _ bytes version rows a b (list_of values) e (all b ∙ f)
+    ∙ ap (λ n. shape a version >>= λ s. only_if (is_some (counts_exactly rows n s)) (counted_rows s (list_of values))) long
+    ∙ indexed-as (λ (c : Seen V). counted_rows c.shape (list_of c.values)) rows count values (shape a version)
+
+-- numbers that are values themselves, and all stand for one
+pub values-all : (o : Option (List ℕ)) → option_map (map (λ n. n)) (images (λ _. true) o) ≡ o
+values-all None = refl
+values-all (Some xs) = rw (all-pass xs) (ap Some (map-id xs))

@@ -16,7 +16,9 @@ pub use doc_values::DocValues;
 pub use first_value_with_default::FirstValueWithDefault;
 pub use ip_values::{IpColumn, IpValues};
 pub use laws::lookups_are_those_of_cells;
-pub use open::{open_column_u64, open_column_u128, open_column_u128_as_compact_u64};
+pub use open::{
+    open_column_u64, open_column_u128, open_column_u128_as_compact_u64, open_term_ords,
+};
 pub use serialize::{
     serialize_column_mappable_to_u64, serialize_column_mappable_to_u128,
     serialize_generated_tie_breaker_column,

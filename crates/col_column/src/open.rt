@@ -70,6 +70,21 @@ pub fn open_column_u128_as_compact_u64(
     column_of_values(alloc, index, format_version, num_rows, values)
 }
 
+/// Reads the ordinals of a column of terms of so many rows, from the bytes behind its dictionary.
+pub fn open_term_ords(
+    alloc: Global,
+    bytes: Bytes,
+    format_version: Version,
+    num_rows: RowId,
+) -> Result<NumColumn<u64>, ColumnarError>
+    ensures { Decodes (λ c. counted_rows c.shape (num_values_of c.values)) result
+        (number_rows bytes types.bytes (version_number format_version) num_rows) }
+{
+    let (index, values) = cut_by_first(bytes)?;
+    let values = load_u64_based_column_values::<u64>(alloc, values)?;
+    column_of_values(alloc, index, format_version, num_rows, values)
+}
+
 // Reads an index, and joins it with the values that it counts.
 fn column_of_values<T, V>(
     alloc: Global,

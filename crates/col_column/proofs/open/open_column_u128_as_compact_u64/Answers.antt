@@ -1,15 +1,16 @@
 use Rattle.std.proofs.Common.{length}
+use Rattle.std.proofs.lemmas.List.{length-map}
 use Rattle.std.proofs.lemmas.Result.{err_from_is_err_and}
 use Rattle.std.specs.Int.{w64}
 use Rattle.col_common.specs.Reading.{parts_by_first}
 use Rattle.col_common.proofs.DecodingLemmas.{refuses-as}
 use Rattle.col_compact.specs.Coded.{numbers_of}
 use Rattle.col_index.specs.Versions.{version_number}
-use Rattle.col_model.specs.AddressList.{values128}
+use Rattle.col_model.specs.AddressList.{values128, coded_number}
 use Rattle.col_model.specs.Column.{number_rows}
 use Rattle.col_model.specs.ColumnType as types
 use Rattle.col_column.specs.Opened.{counted_rows, indexed_by}
-use Rattle.col_column.proofs.OpenSeenLemmas.{decodes-as, ip_rows-unparted, ip_rows-unread, ip_rows-read}
+use Rattle.col_column.proofs.OpenSeenLemmas.{decodes-as, addresses-all, rows-unparted, rows-unread, rows-read}
 use Rattle.col_column.proofs.open.open_column_u128_as_compact_u64.Goals as goal
 
 pub returns-in_err-index : goal.returns-in_err-index
@@ -17,7 +18,7 @@ returns-in_err-index c =
     let v = version_number c.args.format_version in
     let p = err_from_is_err_and c.from_residual.result c.from_residual.ensures.1 in
     rw (p.1, p.2) (refuses-as c.in_err-index.field-0.0 (parts_by_first w64 c.args.bytes) (number_rows c.args.bytes types.ip v c.args.num_rows)
-    (ip_rows-unparted c.args.bytes v c.args.num_rows)
+    (rows-unparted types.ip c.args.bytes v c.args.num_rows)
     c.in_err-index.ensures)
 
 pub returns-in_err-values : goal.returns-in_err-values
@@ -25,7 +26,7 @@ returns-in_err-values c =
     let v = version_number c.args.format_version in
     let p = err_from_is_err_and c.from_residual-in_err-values.result c.from_residual-in_err-values.ensures.1 in
     rw (p.1, p.2) (refuses-as c.in_err-values.field-0.0 (values128 c.in_ok-index.values) (number_rows c.args.bytes types.ip v c.args.num_rows)
-    (ip_rows-unread c.args.bytes v c.args.num_rows c.in_ok-index.index c.in_ok-index.values c.in_ok-index.ensures)
+    (rows-unread types.ip values128 addresses-all c.args.bytes v c.args.num_rows c.in_ok-index.index c.in_ok-index.values c.in_ok-index.ensures)
     c.in_err-values.ensures.numbers)
 
 pub returns : goal.returns
@@ -34,5 +35,6 @@ returns c =
     let values = c.in_ok-values.values in
     decodes-as (λ column. counted_rows column.shape (numbers_of column.values)) c.column_of_values.result
     (indexed_by c.in_ok-index.index v c.args.num_rows (length values.codes) values) (number_rows c.args.bytes types.ip v c.args.num_rows)
-    (ip_rows-read values c.args.bytes v c.args.num_rows c.in_ok-index.index c.in_ok-index.values c.in_ok-index.ensures c.in_ok-values.ensures.numbers)
+    (rows-read numbers_of values (length values.codes) (length-map values.codes (coded_number values.ranges)) types.ip values128 addresses-all
+    c.args.bytes v c.args.num_rows c.in_ok-index.index c.in_ok-index.values c.in_ok-index.ensures c.in_ok-values.ensures.numbers)
     c.column_of_values.ensures

@@ -1,0 +1,3 @@
+mod TermRangeLemmas
+mod TermLookupLemmas
+mod OpenTextLemmas

@@ -1,0 +1,12 @@
+//! Columns of terms: a dictionary, and a column of the ordinals of its terms. Contracts see the
+//! terms, and the column of ordinals.
+#![tactic(auto)]
+
+mod dictionary_encoded;
+mod open;
+
+pub use dictionary_encoded::{BytesColumn, StrColumn};
+pub use open::{open_column_bytes, open_column_str};
+
+#[cfg(test)]
+mod tests;

@@ -1,0 +1,3 @@
+//! Columns of terms, by examples.
+
+mod texts;
