@@ -17,3 +17,4 @@ pub mod WritingLemmas
 pub mod CodedLemmas
 pub mod LookupLemmas
 pub mod HeaderLemmas
+mod NearLemmas

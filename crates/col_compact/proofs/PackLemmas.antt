@@ -3,10 +3,10 @@ use Rattle.std.proofs.Common.{◌≡◌, ℕ, ◌+◌, ◌*◌, ◌^◌, ◌<◌
 use Rattle.std.specs.Int.{div_ceil}
 use Rattle.std.specs.Prelude.{◌==◌, nat_le}
 use Rattle.std.proofs.lemmas.Bool.{or_cases, leb-true, eqb-true}
-use Rattle.std.proofs.lemmas.List.{map-append, drop_more, get_or-take, length-take-le, drop_all}
+use Rattle.std.proofs.lemmas.List.{map-append, drop_more, get_or-take, length-take-le}
 use Rattle.col_bits.specs.Packed.{number_of, packed_bytes, width}
-use Rattle.col_bits.specs.Packing.{Held, nothing_held, bits_of, count_of, AddsBytes}
-use Rattle.col_bits.proofs.PackingLemmas.{IsPacking, IsPacking-nil, IsPacking-push, IsPacking-close}
+use Rattle.col_bits.specs.Packing.{Held, bits_of, count_of, AddsBytes}
+use Rattle.col_bits.proofs.PackingLemmas.{IsPacking, IsPacking-push, IsPacking-close}
 use Rattle.col_model.proofs.WidthLaws.{width-above}
 use Rattle.col_model.proofs.CodecLaws.{is_width-width}
 
@@ -21,12 +21,6 @@ pub block-next : (block left : List ℕ) (n i : ℕ) → i < n → n ≤ length 
 block-next block left n i below room =
     let long : length (take n block) ≡ n = length-take-le n block room in
     ap (λ ys. ys ++ left) (drop_more (take n block) i 0 (omega (arith, long, below)) ∙ ap (λ x. x ∷ drop (i + 1) (take n block)) (get_or-take n block i 0 below))
-
--- behind a block's last item is what is left
-pub block-behind : (block left : List ℕ) (n i : ℕ) → n ≤ i → n ≤ length block → drop i (take n block) ++ left ≡ left
-block-behind block left n i past room =
-    let long : length (take n block) ≡ n = length-take-le n block room in
-    ap (λ ys. ys ++ left) (drop_all i (take n block) (omega (arith, long, past)))
 
 -- a block that took nothing, before nothing
 pub block-none : (block left whole : List ℕ) (n : ℕ) → take n block ++ left ≡ whole → left ≡ [] → n ≡ 0 → whole ≡ []
@@ -46,10 +40,6 @@ pub packs-more : (f : ℕ → ℕ) (w : ℕ) (found : List ℕ) (x code : ℕ) (
 packs-more f w found x code held now bytes out h e bits count adds =
     subst (λ items. IsPacking [] w items now out) (ap (λ c. map f found ++ c ∷ []) e ∙ sym (map-append f found (x ∷ [])))
     (IsPacking-push [] w (map f found) held now bytes out code h bits count adds)
-
--- nothing yet
-pub packs-none : (w : ℕ) (held : Held) (bytes : List ℕ) → held ≡ nothing_held → bytes ≡ [] → IsPacking [] w [] held bytes
-packs-none w held bytes e f = rw (e, f) (IsPacking-nil [] w)
 
 -- all
 pub packs-all : (f : ℕ → ℕ) (w n : ℕ) (xs : List ℕ) (held : Held) (bytes out : List ℕ) → w ≡ n → IsPacking [] w (map f xs) held bytes

@@ -9,9 +9,6 @@ pub record Walked {T : Type 0} (P : List T → Type 0) (left all : List T) : Typ
   pub holds : P found
   pub whole : found ++ left ≡ all
 
-pub walked-none : {T : Type 0} (P : List T → Type 0) (left all : List T) → P [] → left ≡ all → Walked P left all
-walked-none P left all holds e = record { found = []; holds = holds; whole = e }
-
 pub walked-more : {T : Type 0} (P Q : List T → Type 0) (left rest all : List T) (x : T) (w : Walked P left all) → left ≡ x ∷ rest → Q (w.found ++ x ∷ []) → Walked Q rest all
 walked-more P Q left rest all x w e holds = record {
   found = w.found ++ x ∷ [];

@@ -8,7 +8,8 @@ ghost use Rattle.col_compact.specs.Mapped.{IsSpace, ranges_of};
 ghost use Rattle.col_compact.specs.Written.{pairs_of, pair_bytes, ranges_bytes, footer_bytes};
 
 use crate::codec_params::IPCodecParams;
-use crate::compact_space::{CompactSpace, RangeMapping};
+use crate::compact_space::CompactSpace;
+use crate::kept_range::KeptRange;
 use col_common::{ColumnarError, Sink, VInt, VIntU128, serialize_bytes};
 
 // How many bytes at the front of a footer are 0.
@@ -30,13 +31,14 @@ impl CompactSpace {
 }
 
 // Adds the ranges.
-fn serialize_ranges<K: Sink>(ranges: &[RangeMapping], sink: &mut K) -> Result<(), ColumnarError>
+fn serialize_ranges<K: Sink>(ranges: &[KeptRange], sink: &mut K) -> Result<(), ColumnarError>
     requires { IsSpace ranges.now }
     ensures { Serializes (K.seen sink.old) (K.seen sink.new) result
         (flat_map pair_bytes (pairs_of 0 (ranges_of ranges.now))) }
 {
     let mut before = 0;
     for range in ranges {
+        let range = range.get();
         serialize_pair(range.start - before, range.end - range.start, sink)?;
         before = range.end;
     }

@@ -7,6 +7,7 @@ ghost use Rattle.col_compact.specs.Reading.{range_at, ranges_behind};
 
 use crate::build_compact_space::MIN_BLANK_SIZE;
 use crate::compact_space::{CompactSpace, RangeMapping};
+use crate::kept_range::KeptRange;
 use col_common::{ColumnarError, read_vint, read_vint_u128};
 use std::alloc::Global;
 
@@ -54,7 +55,7 @@ fn read_ranges(
     alloc: Global,
     count: u64,
     bytes: &[u8],
-) -> Result<(Vec<RangeMapping>, &[u8]), ColumnarError>
+) -> Result<(Vec<KeptRange>, &[u8]), ColumnarError>
     requires { 1 ≤ count }
     ensures ranges { Decodes (λ r. (ranges_of r.0.items, r.1.now)) result
         (ranges_behind 0 0 0 count bytes.now) }
@@ -73,7 +74,7 @@ fn read_ranges(
         before = range.end;
         apart = LEAST_DISTANCE;
         codes = range.compact_start + (range.end - range.start) as u32;
-        ranges.push(range)?;
+        ranges.push(KeptRange::new(range))?;
     }
     Ok((ranges, rest))
 }

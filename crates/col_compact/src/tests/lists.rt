@@ -11,7 +11,7 @@ use std::process::Abort;
 use std::test::Fail;
 
 // Addresses 2 and 4: the header, codes 1 and 3 of two bits, the footer, and its length.
-const TWO: [u8; 26] = [
+pub(super) const TWO: [u8; 26] = [
     0x82, 0x01, 0x0d, 0, 0, 0, 0, 0, 0, 0, 0, 0x82, 0x84, 0x82, 0x02, 0x81, 0x82, 0x82, 0x0f, 0, 0,
     0, 0, 0, 0, 0,
 ];
@@ -25,53 +25,56 @@ fn opened(alloc: Global, bytes: &[u8]) -> Result<CompactSpaceU64Accessor, Column
     open_u128_as_compact_u64(alloc, Bytes::copy_from_slice(alloc, bytes)?)
 }
 
-fn rows_by_code(
-    list: &CompactSpaceU64Accessor,
-    low: u64,
-    high: u64,
-    hits: &mut Vec<RowId>,
-) -> Result<(), ColumnarError> {
-    list.get_row_ids_for_value_range(low..=high, 0..9, hits)
+// Whether the rows of a list below a bound whose values lie between two are these.
+fn finds<T, L>(alloc: Global, list: &L, low: T, high: T, end: RowId, expected: &[RowId]) -> bool
+where
+    T: PartialOrd + Copy,
+    L: ColumnValues<T>,
+{
+    let mut hits = Vec::new(alloc);
+    list.get_row_ids_for_value_range(low..=high, 0..end, &mut hits)
+        .is_ok()
+        && hits.as_slice() == expected
+}
+
+fn codes_are_found<R: Abort>(rt: &R, alloc: Global, list: &CompactSpaceU64Accessor) {
+    assert!(rt; finds(alloc, list, 0, u64::MAX, 9, &[0, 1]));
+    assert!(rt; finds(alloc, list, 0, 0, 9, &[]));
+    assert!(rt; finds(alloc, list, 4_294_967_297, 4_294_967_299, 9, &[]));
+    assert!(rt; finds(alloc, list, 3, 4_294_967_296, 9, &[1]));
+    assert_eq!(rt; list.max_code(), 3);
+    assert_eq!(rt; list.min_value(), 1);
+    assert_eq!(rt; list.max_value(), 3);
 }
 
 #[test]
 fn codes_are_looked_up_by_all_ends_of_64_bits(rt: HostRuntime) -> Result<(), Fail> {
-    let alloc = rt.alloc();
-    let list = opened(alloc, TWO.as_slice())?;
-    let mut hits = Vec::new(alloc);
-    for (low, high, expected) in [
-        (0, u64::MAX, [0u32, 1].as_slice()),
-        (0, 0, [].as_slice()),
-        (4_294_967_297, 4_294_967_299, [].as_slice()),
-        (3, 4_294_967_296, [1].as_slice()),
-    ] {
-        rows_by_code(&list, low, high, &mut hits)?;
-        assert_eq!(rt; hits.as_slice(), expected, "{low} to {high}");
-    }
-    assert_eq!(rt; list.max_code(), 3);
-    assert_eq!(rt; list.min_value(), 1);
-    assert_eq!(rt; list.max_value(), 3);
+    codes_are_found(&rt, rt.alloc(), &opened(rt.alloc(), TWO.as_slice())?);
     Ok(())
 }
 
-fn hits_are_told<R: Abort>(rt: &R, list: &CompactSpaceDecompressor) {
+fn numbers_are_found<R: Abort>(rt: &R, alloc: Global, list: &CompactSpaceDecompressor) {
     assert_eq!(rt; list.u128_to_next_compact(0), CompactHit::Next(1));
     assert_eq!(rt; list.u128_to_next_compact(3), CompactHit::Exact(2));
     assert_eq!(rt; list.u128_to_next_compact(5), CompactHit::AfterLast);
+    assert!(rt; finds(alloc, list, 3, 3, 2, &[]));
+    assert!(rt; finds(alloc, list, 3, 4, 2, &[1]));
+}
+
+fn opened_list(alloc: Global, bytes: &[u8]) -> Result<CompactSpaceDecompressor, ColumnarError> {
+    CompactSpaceDecompressor::open(alloc, Bytes::copy_from_slice(alloc, bytes)?)
 }
 
 #[test]
 fn a_number_between_two_addresses_has_a_code_and_no_row(rt: HostRuntime) -> Result<(), Fail> {
-    let alloc = rt.alloc();
-    let bytes = Bytes::copy_from_slice(alloc, &TWO[CODES_AT..])?;
-    let list = CompactSpaceDecompressor::open(alloc, bytes)?;
-    hits_are_told(&rt, &list);
-    let mut hits = Vec::new(alloc);
-    list.get_row_ids_for_value_range(3..=3, 0..2, &mut hits)?;
-    assert_eq!(rt; hits.len(), 0);
-    list.get_row_ids_for_value_range(3..=4, 0..2, &mut hits)?;
-    assert_eq!(rt; hits.as_slice(), [1].as_slice());
+    numbers_are_found(&rt, rt.alloc(), &opened_list(rt.alloc(), &TWO[CODES_AT..])?);
     Ok(())
+}
+
+fn ends_are_found<R: Abort>(rt: &R, alloc: Global, list: &CompactSpaceDecompressor) {
+    assert!(rt; finds(alloc, list, 1, u128::MAX - 1, 2, &[]));
+    assert_eq!(rt; list.u128_to_next_compact(0), CompactHit::Exact(1));
+    assert_eq!(rt; list.u128_to_next_compact(u128::MAX), CompactHit::Exact(2));
 }
 
 #[test]
@@ -84,12 +87,7 @@ fn both_ends_of_all_addresses_are_read(rt: HostRuntime) -> Result<(), Fail> {
     bytes[28..34].copy_from_slice(&[0x83, 0x82, 0x02, 0x82, 0x80, 0x80]);
     // It ends; the second has one number; the length.
     bytes[52..].copy_from_slice(&[0x83, 0x80, 0x35, 0, 0, 0, 0, 0, 0, 0]);
-    let list = CompactSpaceDecompressor::open(alloc, Bytes::copy_from_slice(alloc, &bytes)?)?;
-    let mut hits = Vec::new(alloc);
-    list.get_row_ids_for_value_range(1..=u128::MAX - 1, 0..2, &mut hits)?;
-    assert_eq!(rt; hits.len(), 0);
-    assert_eq!(rt; list.u128_to_next_compact(0), CompactHit::Exact(1));
-    assert_eq!(rt; list.u128_to_next_compact(u128::MAX), CompactHit::Exact(2));
+    ends_are_found(&rt, alloc, &opened_list(alloc, &bytes)?);
     Ok(())
 }
 

@@ -1,4 +1,4 @@
-use Rattle.std.proofs.Common.{refl, sym, arith}
+use Rattle.std.proofs.Common.{◌++◌, ◌∷◌, [], refl, sym, ◌∙◌, ap, arith}
 use Rattle.col_compact.proofs.ReadingLemmas.{reading_first, reading_none, reading_more, reading_all, read_space, range_at-is}
 use Rattle.col_compact.proofs.reading.read_ranges.Goals as goal
 
@@ -22,10 +22,16 @@ overflow_add-codes c =
     let ordered = (range_at-is _ _ _ _ _ _ (sym c.in-Some.ensures.range)).ordered in
     omega (arith, few, ordered, c.in-Some.ensures.code)
 
+pub new-requires-clause-ordered : goal.new-requires-clause-ordered
+new-requires-clause-ordered c = (range_at-is _ _ _ _ _ _ (sym c.in-Some.ensures.range)).ordered
+
+pub new-requires-clause-short : goal.new-requires-clause-short
+new-requires-clause-short c = let few = (range_at-is _ _ _ _ _ _ (sym c.in-Some.ensures.range)).few in omega arith
+
 pub loop-done-preserved : goal.loop-done-preserved
 loop-done-preserved c =
     let l = c.loop-done in
-    reading_more c.args.bytes.now c.args.count l._done l.ranges.items l.before l.apart l.codes l.rest.now c.in-Some.range c.in-Some.behind.now _ _ l.invariant (omega arith) (sym c.in-Some.ensures.range) c.in-Some.ensures.code refl c.in_ok-push.ensures.items
+    reading_more c.args.bytes.now c.args.count l._done l.ranges.items l.before l.apart l.codes l.rest.now c.in-Some.range c.in-Some.behind.now _ _ l.invariant (omega arith) (sym c.in-Some.ensures.range) c.in-Some.ensures.code refl (c.in_ok-push.ensures.items ∙ ap (λ m. l.ranges.items ++ m ∷ []) c.new.ensures)
 
 pub returns-clause-ranges : goal.returns-clause-ranges
 returns-clause-ranges c =
