@@ -88,6 +88,13 @@ where
         &self.values
     }
 
+    /// That the index counts just the values.
+    pub fn values_are_counted(&self)
+        ensures { IsCounted self.now.shape (length (V.values self.now.values)) }
+    {
+        let _ = &self.values;
+    }
+
     /// The index and the values.
     pub fn into_parts(self) -> (ColumnIndex, V)
         ensures index { shape_of result.0 ≡ self.shape }

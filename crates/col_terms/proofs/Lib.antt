@@ -4,6 +4,7 @@ pub mod TableLemmas
 pub mod SearchLemmas
 pub mod PrefixLemmas
 pub mod StreamLemmas
+pub mod WalkLemmas
 pub mod OrderedLemmas
 pub mod PlaceLemmas
 pub mod ChainLemmas

@@ -1,5 +1,5 @@
 //! Terms in order, read in place.
-ghost use Rattle.std.specs.Prelude.{◌≡◌, [], nat_lt, length, option_map, slice_get, unwrap_or, IfOk, IfErr, OnOk};
+ghost use Rattle.std.specs.Prelude.{◌≡◌, ◌<◌, ◌^◌, [], nat_lt, length, option_map, slice_get, unwrap_or, IfOk, IfErr, OnOk};
 ghost use Rattle.col_common.specs.Decoding.{Decodes};
 ghost use Rattle.col_model.specs.Dictionary.{terms};
 ghost use Rattle.col_model.specs.Limits.{dictionary_length};
@@ -69,6 +69,20 @@ impl Dictionary {
         ensures { result ≡ length self.now }
     {
         self.num_terms as usize
+    }
+
+    /// That 32 bits count the terms.
+    pub fn terms_are_few(&self)
+        ensures { length self.now < 2 ^ 32 }
+    {
+        let _count = self.count();
+    }
+
+    // How many terms there are, as 32 bits count.
+    fn count(&self) -> u32
+        ensures { result ≡ length self.now }
+    {
+        self.num_terms
     }
 
     /// How many bytes the dictionary takes.

@@ -1,7 +1,7 @@
 //! The builder of a dictionary.
-ghost use Rattle.std.specs.Prelude.{◌≡◌, ◌↔◌, ◌-◌, ◌^◌, ◌<◌, ◌≤◌, min, Some, Err, true, false, ◌++◌, ◌∷◌, [], length, flat_map, sum_by, slice_get, IfOk, IfErr, OnOk, OnErr};
+ghost use Rattle.std.specs.Prelude.{◌≡◌, ◌↔◌, bytes_eq, ◌-◌, ◌^◌, ◌<◌, ◌≤◌, min, Some, Err, true, false, ◌++◌, ◌∷◌, [], length, flat_map, sum_by, slice_get, IfOk, IfErr, OnOk, OnErr};
 ghost use Rattle.std.specs.Int.{w32, to_le_bytes};
-ghost use Rattle.std.specs.List.{concat};
+ghost use Rattle.std.specs.List.{concat, IsDistinct};
 ghost use Rattle.col_model.specs.Limits.{dictionary_length};
 ghost use Rattle.col_terms.specs.TermTable.{ends_from, dictionary_bytes};
 ghost use Rattle.col_terms.specs.Building.{known_id, ordinals, texts, AreNumbered};
@@ -93,6 +93,13 @@ impl DictionaryBuilder {
         ensures { result ≡ length self.now }
     {
         self.terms.len() as u64
+    }
+
+    /// That no term is there twice.
+    pub fn terms_differ(&self)
+        ensures { IsDistinct bytes_eq self.now }
+    {
+        let _ = &self.chains;
     }
 
     /// How many bytes the terms have, as far as 64 bits count.

@@ -1,6 +1,7 @@
 //! Walks over terms in order.
-ghost use Rattle.std.specs.Prelude.{◌≡◌, [], is_some, IsSome, IfSome};
+ghost use Rattle.std.specs.Prelude.{◌≡◌, [], map, true, is_some, IsSome, IfSome};
 ghost use Rattle.std.specs.Option.{option_map_or};
+ghost use Rattle.col_model.specs.Ascending.{is_ascending};
 ghost use Rattle.col_terms.specs.Streams.{stream_of, stepped};
 
 use crate::table::{EMPTY_TABLE, term_in};
@@ -84,6 +85,13 @@ impl<'a> Streamer<'a> {
         ensures { result.now ≡ option_map_or (λ p. p.1) self.now.current [] }
     {
         self.key
+    }
+
+    /// That the terms that are still to come ascend.
+    pub fn terms_ascend(&self)
+        ensures { is_ascending (map (λ p. p.1) self.now.left) ≡ true }
+    {
+        let _ = &self.bytes;
     }
 
     /// The ordinal of the term where the walk stands.

@@ -5,7 +5,7 @@ ghost use Rattle.col_common.specs.Replacing.{Replaces};
 ghost use Rattle.col_model.specs.Index.{empty_shape};
 ghost use Rattle.col_model.specs.Lookup.{docs_between};
 ghost use Rattle.col_model.specs.Table.{text};
-ghost use Rattle.col_column.specs.Columns.{rows_in, docs_in, row_at};
+ghost use Rattle.col_column.specs.Columns.{IsCounted, rows_in, docs_in, row_at};
 ghost use Rattle.col_numbers.specs.NumValues.{num_values_of};
 ghost use Rattle.col_text.specs.Texts.{AreOrdinals, StartAt, EndAt, texts_content};
 
@@ -67,6 +67,16 @@ impl BytesColumn {
             (λ e. (e ≡ ColumnarError.OutOfMemory) × (output.new.items ≡ [])) }
     {
         self.dictionary.ord_to_term(ord, output)
+    }
+
+    /// That terms ascend, that each value is the ordinal of one, and that the index counts just the
+    /// values.
+    pub fn ordinals_are_told(&self)
+        ensures ordinals { AreOrdinals self.now.terms self.now.ords }
+        ensures counted { IsCounted self.now.ords.shape
+            (length (num_values_of self.now.ords.values)) }
+    {
+        self.term_ord_column.values_are_counted();
     }
 
     /// How many rows there are.
