@@ -1,0 +1,5 @@
+pub mod EndLemmas
+pub mod FooterLemmas
+pub mod ItemLemmas
+pub mod KeyLemmas
+pub mod PutLemmas

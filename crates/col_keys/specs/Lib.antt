@@ -1,0 +1,5 @@
+pub mod Categories
+pub mod Footers
+pub mod KeyTables
+pub mod Laws
+pub mod Put

@@ -1,0 +1,3 @@
+//! Ends of files by examples.
+mod reading;
+mod writing;
