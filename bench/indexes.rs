@@ -1,80 +1,13 @@
 // The same indexes in Rust. Where a proof makes a test needless, `unsafe` leaves it out here too.
+mod numbers;
 mod shared;
 
-use shared::{BLOCK, Bitpacked, Blockwise, Linear, List, best, draws, load, put_vint, take_vint};
+use numbers::{Numbers, put_list, set_bytes};
+use shared::{best, draws, take_vint};
 use std::hint::black_box;
 
 const BLOCK_LEN: usize = 1024;
 const NUM_SEGMENTS: usize = 8;
-
-enum Codec { Bitpacked(Bitpacked), Linear(Linear), Blockwise(Blockwise) }
-
-// An ascending list.
-struct Numbers { codec: Codec, count: u32 }
-
-impl Numbers {
-    fn open(bytes: &'static [u8]) -> Option<Numbers> {
-        let (codec, told) = match bytes.first()? {
-            0 => load(bytes).map(|(list, told)| (Codec::Bitpacked(list), told))?,
-            1 => load(bytes).map(|(list, told)| (Codec::Linear(list), told))?,
-            _ => load(bytes).map(|(list, told)| (Codec::Blockwise(list), told))?,
-        };
-        Some(Numbers { codec, count: told.count as u32 })
-    }
-
-    #[inline(always)]
-    fn get(&self, at: u32) -> u64 {
-        match &self.codec {
-            Codec::Bitpacked(list) => list.get(at as usize),
-            Codec::Linear(list) => list.get(at as usize),
-            Codec::Blockwise(list) => list.get(at as usize),
-        }
-    }
-
-    // How many are below a target, by halves. Out of line, which keeps walks short.
-    #[inline(never)]
-    fn narrow(&self, mut low: u32, mut high: u32, target: u64) -> u32 {
-        while low < high {
-            let middle = low + (high - low) / 2;
-            if self.get(middle) < target { low = middle + 1 } else { high = middle }
-        }
-        low
-    }
-
-    fn rank(&self, target: u64) -> u32 { self.narrow(0, self.count, target) }
-
-    // The same in steps that double, where those before a place are below the target.
-    #[inline(never)]
-    fn gallop(&self, mut low: u32, target: u64) -> u32 {
-        let mut step = 1u32;
-        while low < self.count {
-            let probe = low + (step - 1).min(self.count - 1 - low);
-            if self.get(probe) >= target { return self.narrow(low, probe, target); }
-            low = probe + 1;
-            step = step.saturating_mul(2);
-        }
-        low
-    }
-
-    fn place(&self, at: u32, target: u64) -> Place {
-        Place { at, next: if at < self.count { self.get(at) } else { u64::MAX }, target }
-    }
-}
-
-// How many numbers are below a target, and the first that isn't.
-#[derive(Clone, Copy)]
-struct Place { at: u32, next: u64, target: u64 }
-
-impl Place {
-    #[inline(always)]
-    fn seek(self, numbers: &Numbers, target: u64) -> Place {
-        if target < self.target { return numbers.place(numbers.rank(target), target); }
-        if target <= self.next { return Place { target, ..self }; }
-        let behind = numbers.place(self.at + 1, self.next + 1);
-        if target <= behind.next { return Place { target, ..behind }; }
-        numbers.place(numbers.gallop(behind.at, target), target)
-    }
-}
 
 struct Optional { num_rows: u32, rows: Numbers }
 
@@ -330,25 +263,6 @@ impl Walked for ShuffledStarts<'_> {
         }
         None
     }
-}
-
-// Writes a list under Bitpacked or Linear, whichever takes fewer bytes.
-fn put_list(vals: &[u64], out: &mut Vec<u8>) {
-    let mut packed = vec![Bitpacked::CODE];
-    Bitpacked::write(vals, &mut packed);
-    if vals.len() >= BLOCK {
-        let mut linear = vec![Linear::CODE];
-        Linear::write(vals, &mut linear);
-        if linear.len() < packed.len() { packed = linear }
-    }
-    out.extend_from_slice(&packed);
-}
-
-fn set_bytes(num_rows: usize, rows: &[u64]) -> Vec<u8> {
-    let mut out = Vec::new();
-    put_vint(num_rows as u64, &mut out);
-    put_list(rows, &mut out);
-    out
 }
 
 // The bytes of an index of the documents with these draws.

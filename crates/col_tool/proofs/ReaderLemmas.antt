@@ -1,20 +1,25 @@
 -- Columns that are opened one after another.
-use Rattle.std.proofs.Common.{◌≡◌, ℕ, ◌+◌, ◌^◌, ◌<◌, ◌≤◌, ◌==◌, not, nat_eq, Bool, true, false, List, [], ◌∷◌, ◌++◌, length, map, Option, Some, None, option_map, refl, sym, ◌∙◌, arith}
-use Rattle.std.specs.Cmp.Lexicographic.{pointwise, same_text}
-use Rattle.std.proofs.lemmas.Bool.{false≢true}
-use Rattle.std.specs.Int.{w64}
-use Rattle.std.specs.List.{list_all}
-use Rattle.std.proofs.lemmas.List.{map-id}
+use Rattle.std.proofs.Common.{◌≡◌, ℕ, ◌+◌, ◌^◌, ◌<◌, ◌≤◌, List, [], ◌∷◌, ◌++◌, length, Option, Some, None, refl, sym, ap, ◌∙◌, append_assoc, arith}
 use Rattle.std.proofs.lemmas.List.Sums.{sum_by-cons}
+use Rattle.col_common.specs.Reading.{◌>>=◌}
 use Rattle.col_model.specs.File.{for_each}
-use Rattle.col_common.specs.Reading.{◌>>=◌, only_if, parts_by_first}
-use Rattle.col_model.specs.FullColumns.{NamedNumbers, entry_numbers, full_numbers}
-use Rattle.col_model.specs.Images.{images64}
+use Rattle.col_model.specs.FullColumns.{NamedNumbers, entry_numbers}
 use Rattle.col_model.specs.Keys.{Key, entries_from, total_length}
-use Rattle.col_model.specs.U64List.{values64}
-use Rattle.col_tool.specs.declared.key_table.KeyedLength.{KeyedLength}
-use Rattle.col_tool.specs.KeyTables.{key_seen, keyed, all_keyed}
-use Rattle.col_tool.proofs.ItemLemmas.{with_items, each-goes_on}
+use Rattle.col_keys.specs.declared.key_table.KeyedLength.{KeyedLength}
+use Rattle.col_keys.specs.KeyTables.{key_seen, keyed, all_keyed}
+
+-- what was made before, and what is still made
+abbrev pub with_items : {A : Type 0} → List A → Option (List A) → Option (List A)
+with_items front made = made >>= λ xs. Some (front ++ xs)
+
+regroup_items : {A : Type 0} (front : List A) (x : A) (made : Option (List A)) → with_items front (made >>= λ xs. Some (x ∷ xs)) ≡ with_items (front ++ x ∷ []) made
+regroup_items front x (Some xs) = ap Some (sym (append_assoc front (x ∷ []) xs))
+regroup_items front x None = refl
+
+each-goes_on : {A B : Type 0} (f : A → Option B) (front : List B) (x : A) (xs : List A) (y : B) (total : Option (List B)) → f x ≡ Some y → with_items front (for_each f (x ∷ xs)) ≡ total → with_items (front ++ y ∷ []) (for_each f xs) ≡ total
+each-goes_on f front x xs y total h so_far =
+    let one : with_items front (for_each f (x ∷ xs)) ≡ with_items (front ++ y ∷ []) (for_each f xs) = rw h (regroup_items front y (for_each f xs)) in
+    sym one ∙ so_far
 
 -- the columns so far, and those that are left from a place on
 pub record OpensFrom (file : List ℕ) (n start : ℕ) (done : List NamedNumbers) (left all : List KeyedLength) : Type 0 where
@@ -32,28 +37,3 @@ opens-goes_on file n start done x left all y h was =
       within = omega (arith, was.within);
       so_far = each-goes_on (entry_numbers file n) done (record { key = key_seen x.key; start = start; «end» = start + x.num_bytes }) (entries_from (start + x.num_bytes) (all_keyed left)) y _ h was.so_far;
     }
-
--- a slice that `!=` didn't tell from another
-pub same_slices : (a b : List ℕ) (differ : Bool) → differ ≡ not (pointwise nat_eq a b) → differ ≡ false → a ≡ b
-same_slices a b differ e f = same_text a b (kept (pointwise nat_eq a b) (sym e ∙ f))
-  where
-    kept : (t : Bool) → not t ≡ false → true ≡ t
-    kept true h = refl
-    kept false h = absurd (false≢true (sym h))
-
--- a column's numbers, from what its parts read
-pub full_numbers-read : (bytes : List ℕ) (n : ℕ) (index values xs : List ℕ) (b : Bool) → parts_by_first w64 bytes ≡ Some (index, values) → index ≡ 0 ∷ [] → values64 values ≡ Some xs → (length xs == n) ≡ b → full_numbers bytes n ≡ only_if b xs
-unfolding full_numbers
-full_numbers-read bytes n index values xs b e f g h = rw (e, f, g, h) refl
-
-all_pass : (xs : List ℕ) → list_all (λ _. true) xs ≡ true
-all_pass [] = refl
-all_pass (x ∷ xs) = all_pass xs
-
--- a list of u64 is its numbers, each of which stands for itself
-pub values64-numbers : (bytes : List ℕ) → values64 bytes ≡ option_map (map (λ n. n)) (images64 (λ _. true) bytes)
-values64-numbers bytes = by (values64 bytes)
-  where
-    by : (o : Option (List ℕ)) → o ≡ option_map (map (λ n. n)) (o >>= λ xs. only_if (list_all (λ _. true) xs) xs)
-    by None = refl
-    by (Some xs) = rw (all_pass xs, map-id) refl

@@ -15,7 +15,7 @@ use Rattle.std.proofs.lemmas.List.Sorted.{IsNonDecreasingBy-from_all_adjacent}
 use Rattle.col_model.specs.Ascending.{is_before, is_ascending}
 use Rattle.col_model.proofs.OrderingLaws.{less_where}
 use Rattle.col_numbers.specs.NumValues.{num_values_of}
-use Rattle.col_tool.specs.declared.column.NamedColumn.{NamedColumn}
+use Rattle.col_tool.specs.declared.named_column.NamedColumn.{NamedColumn}
 use Rattle.col_tool.specs.Opened.{opened, numbers_named}
 
 index-bound : (o : Ordering) → ordering_index o ≤ 2
@@ -99,12 +99,17 @@ find-map : {A B : Type 0} (v : A → B) (p : B → Bool) (xs : List A) → find 
 find-map v p [] = refl
 find-map v p (x ∷ xs) = moved v x (p (v x)) (find p (map v xs)) (find (λ x. p (v x)) xs) (find-map v p xs)
 
-numbers_in : (o : Option NamedColumn) → option_map (λ p. p.1) (option_map opened o) ≡ option_map (λ c. num_values_of c.values) o
+numbers_in : (o : Option NamedColumn) → option_map (λ p. p.1) (option_map opened o) ≡ option_map (λ c. num_values_of c.column.values) o
 numbers_in (Some c) = refl
 numbers_in None = refl
 
+-- a search is seen in two steps
+pub seen-twice : {A B C : Type 0} (g : B → C) (f : A → B) (o : Option A) → option_map (λ x. g (f x)) o ≡ option_map g (option_map f o)
+seen-twice g f None = refl
+seen-twice g f (Some x) = refl
+
 -- the numbers under a name are those of the column that is found
-pub numbers_named-opened : (cs : List NamedColumn) (name : List ℕ) → numbers_named name (map opened cs) ≡ option_map (λ c. num_values_of c.values) (find (λ c. bytes_eq (string_bytes c.name) name) cs)
+pub numbers_named-opened : (cs : List NamedColumn) (name : List ℕ) → numbers_named name (map opened cs) ≡ option_map (λ c. num_values_of c.column.values) (find (λ c. bytes_eq (string_bytes c.name) name) cs)
 numbers_named-opened cs name = ap (option_map (λ p. p.1)) (find-map opened (λ p. bytes_eq p.0 name) cs) ∙ numbers_in (find (λ c. bytes_eq (string_bytes c.name) name) cs)
 
 pub names_of_opened : (cs : List NamedColumn) → map (λ c. string_bytes c.name) cs ≡ map (λ p. p.0) (map opened cs)

@@ -1,7 +1,7 @@
 -- Parts that are serialized one behind another, and what they are together.
 use Rattle.std.proofs.Common.{◌≡◌, ℕ, suc, ◌+◌, ◌^◌, ◌<◌, List, [], ◌∷◌, ◌++◌, length, map, flat_map, Result, Ok, Err, IfSome, String, Vec, string_bytes, refl, sym, ap, ap₂, ◌∙◌, append_assoc, length-append}
 use Rattle.std.specs.List.{AllByRecursion}
-use Rattle.std.specs.Int.{w32, w64, to_le_bytes}
+use Rattle.std.specs.Int.{w64, to_le_bytes}
 use Rattle.std.specs.declared.alloc.Global.{Global}
 use Rattle.std.proofs.lemmas.List.{map-id}
 use Rattle.std.proofs.lemmas.List.Concat.{flat_map-cons}
@@ -13,16 +13,11 @@ use Rattle.col_common.proofs.SerializingLemmas.{serializes-as, serializes-nothin
 use Rattle.col_model.specs.U64List.{bitpacked_bytes, joined_lists}
 use Rattle.col_model.specs.Codecs.{chosen_codec, codec_bytes}
 use Rattle.col_model.specs.ColumnType as types
-use Rattle.col_model.specs.Version.{current_version, magic}
 use Rattle.col_model.specs.Spelling.{column_bytes, keyed_length_bytes, keyed_lengths, key_table_bytes, footer_bytes, file_bytes}
 use Rattle.col_model.specs.FullColumns.{full_column_bytes, full_columns, u64_columns, number_file, NamedNumbers}
 use Rattle.col_model.proofs.ChosenLaws.{codec_bytes-bitpacked}
 
 -- ---- the parts of a file
-
-pub footer-parts : (table_length row_count : ℕ) (a b c : List ℕ) → a ≡ to_le_bytes w64 table_length → b ≡ to_le_bytes w32 row_count → c ≡ to_le_bytes w32 current_version → ((a ++ b) ++ c) ++ magic ≡ footer_bytes table_length row_count
-unfolding footer_bytes
-footer-parts table_length row_count a b c e f h = append_assoc (a ++ b) c magic ∙ append_assoc a b (c ++ magic) ∙ ap₂ (λ x y. x ++ (y ++ (c ++ magic))) e f ∙ ap (λ v. to_le_bytes w64 table_length ++ (to_le_bytes w32 row_count ++ (v ++ magic))) h
 
 pub full_column-parts : (xs end : List ℕ) → end ≡ to_le_bytes w64 1 → ((0 ∷ []) ++ bitpacked_bytes xs) ++ end ≡ full_column_bytes xs
 unfolding column_bytes

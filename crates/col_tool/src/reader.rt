@@ -1,11 +1,11 @@
 //! Open files.
 ghost use Rattle.std.specs.Prelude.{◌≡◌};
 
-use crate::column::{NamedColumn, find_column, open_columns};
-use crate::key_table::parse_keys;
+use crate::keys::parse_keys;
+use crate::named_column::{NamedColumn, find_column};
+use crate::open::open_columns;
 use bytes::Bytes;
 use col_common::ColumnarError;
-use col_numbers::NumValues;
 use std::alloc::Global;
 use std::marker::Model;
 
@@ -34,7 +34,6 @@ impl ColumnarReader {
     ghost use Rattle.std.specs.Prelude.{map, option_map};
     ghost use Rattle.col_common.specs.Decoding.{Decodes};
     ghost use Rattle.col_model.specs.FullColumns.{numbers_of_file};
-    ghost use Rattle.col_numbers.specs.NumValues.{num_values_of};
     ghost use Rattle.col_tool.specs.Opened.{opened, numbers_named};
 
     /// Opens a file of Full u64 columns, with its columns.
@@ -63,14 +62,10 @@ impl ColumnarReader {
         &self.columns
     }
 
-    /// The numbers of the column of this name.
-    pub fn column(&self, name: &str) -> Option<&NumValues<u64>>
-        ensures { option_map (λ values. num_values_of values.now) result
-            ≡ numbers_named name.now self.now.1 }
+    /// The column of this name.
+    pub fn column(&self, name: &str) -> Option<&NamedColumn>
+        ensures { option_map (λ c. (opened c.now).1) result ≡ numbers_named name.now self.now.1 }
     {
-        match find_column(&self.columns, name) {
-            Some(column) => Some(&column.values),
-            None => None,
-        }
+        find_column(&self.columns, name)
     }
 }

@@ -9,9 +9,8 @@ ghost use Rattle.col_tool.specs.Line.{find_of};
 ghost use Rattle.col_tool.specs.Opened.{opened};
 ghost use Rattle.col_tool.specs.Reported.{Prints, number_column, number_column_line, number_line, number_lines, found_line};
 
-use crate::column::NamedColumn;
 use crate::line::Find;
-use crate::lookup::docids_for_value_range;
+use crate::named_column::NamedColumn;
 use crate::reader::ColumnarReader;
 use col_numbers::NumValues;
 use col_values::ColumnValues;
@@ -57,13 +56,13 @@ fn push_column(alloc: Global, lines: &mut Vec<u8>, column: &NamedColumn) -> Resu
 {
     let value = column_value(alloc, column)?;
     push_line(alloc, lines, &value)?;
-    push_rows(alloc, lines, &column.values)
+    push_rows(alloc, lines, column.values())
 }
 
 fn column_value(alloc: Global, column: &NamedColumn) -> Result<Value, AllocError>
     ensures { IfOk result (λ v. view v ≡ number_column_line (opened column.now)) }
 {
-    json!(in alloc; ["column", &column.name, "u64", "full", column.values.num_vals()])
+    json!(in alloc; ["column", &column.name, "u64", "full", column.values().num_vals()])
 }
 
 fn push_rows(alloc: Global, lines: &mut Vec<u8>, values: &NumValues<u64>) -> Result<(), AllocError>
@@ -112,10 +111,10 @@ fn found_value(alloc: Global, reader: &ColumnarReader, find: &Find) -> Result<Va
     ensures { IfOk result (λ v. view v
         ≡ found_data (number_table reader.now.0 reader.now.1) false (find_of find.now)) }
 {
-    let Some(values) = reader.column(&find.name) else {
+    let Some(column) = reader.column(&find.name) else {
         return Ok(Value::Null);
     };
-    let docs = docids_for_value_range(alloc, values, find.lo, find.hi, find.from, find.to)?;
+    let docs = column.docids_for_value_range(alloc, find.lo, find.hi, find.from, find.to)?;
     docs_value(alloc, &docs)
 }
 

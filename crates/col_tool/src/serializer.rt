@@ -9,13 +9,15 @@ ghost use Rattle.col_model.specs.Spelling.{keyed_length_bytes, keyed_lengths};
 ghost use Rattle.col_model.specs.FullColumns.{full_column_bytes, full_columns, u64_columns, number_file, AreNumberColumns};
 ghost use Rattle.col_tool.specs.Columns.{named_numbers};
 
-use crate::column::FULL_INDEX;
-use crate::column_type::ColumnType;
-use crate::footer::serialize_footer;
 use col_common::{Buffer, ColumnarError, Sink, VInt, serialize_bytes};
+use col_keys::serialize_footer;
 use col_numbers::{CodecType, serialize_u64_based_column_values};
+use col_types::ColumnType;
 use std::alloc::{AllocError, Global};
 use std::collections::BTreeMap;
+
+// The index of a Full column.
+const FULL_INDEX: [u8; 1] = [0];
 
 // The codecs that the numbers of a column may be written under.
 const CODEC_TYPES: [CodecType; 1] = [CodecType::Bitpacked];

@@ -173,7 +173,8 @@ fn counts_of(alloc: Global, digits: &str) -> Result<Option<(u32, usize)>, Fail> 
 fn front_of(alloc: Global, digits: &str) -> Result<Option<(u64, u64)>, Fail> {
     let reader = open(alloc, digits)??;
     match reader.column("a") {
-        Some(values) if values.num_vals() == 2 => {
+        Some(column) if column.values().num_vals() == 2 => {
+            let values = column.values();
             Ok(Some((values.get_val(0), values.get_val(1))))
         }
         _ => Ok(None),

@@ -1,6 +1,6 @@
 use Rattle.std.proofs.Common.{◌≡◌, ◌∙◌}
 use Rattle.std.proofs.lemmas.Result.{err_from_is_err_and}
-use Rattle.col_common.proofs.SerializingLemmas.{serializes-as, serializes-no_memory, serializes-refused}
+use Rattle.col_common.proofs.SerializingLemmas.{serializes-as, serializes-no_memory}
 use Rattle.col_model.specs.FullColumns.{full_column_bytes}
 use Rattle.col_tool.proofs.serializer.serialize_column.Goals as goal
 

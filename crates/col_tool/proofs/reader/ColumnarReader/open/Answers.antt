@@ -1,7 +1,7 @@
 use Rattle.std.proofs.Common.{◌∙◌, ap, map}
 use Rattle.col_model.specs.Ascending.{is_ascending}
 use Rattle.col_model.proofs.OpenedLaws.{names-ascending}
-use Rattle.col_tool.specs.KeyTables.{file_keys}
+use Rattle.col_tool.specs.FileKeys.{file_keys}
 use Rattle.col_tool.specs.Opened.{opened}
 use Rattle.col_tool.proofs.SearchLemmas.{names_of_opened}
 use Rattle.col_tool.proofs.reader.ColumnarReader.open.Goals as goal

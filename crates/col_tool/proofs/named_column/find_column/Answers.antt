@@ -2,7 +2,7 @@ use Rattle.std.proofs.Common.{rules, ap, sym, ◌∙◌, Some, string_bytes}
 use Rattle.std.specs.Ordering.{nat_cmp}
 use Rattle.std.specs.Cmp.Lexicographic.{slice_cmp}
 use Rattle.col_tool.proofs.SearchLemmas.{always-returns, searched-found, searched-none}
-use Rattle.col_tool.proofs.column.find_column.Goals as goal
+use Rattle.col_tool.proofs.named_column.find_column.Goals as goal
 
 pub returns-in-Ok : goal.returns-in-Ok
 returns-in-Ok c =

@@ -3,7 +3,7 @@ use Rattle.std.specs.Vec.Iter.{into_iter_items}
 use Rattle.std.proofs.lemmas.List.{map_push}
 use Rattle.col_tool.specs.Opened.{opened}
 use Rattle.col_tool.proofs.ReaderLemmas.{OpensFrom, opens-goes_on}
-use Rattle.col_tool.proofs.column.open_columns.Goals as goal
+use Rattle.col_tool.proofs.open.open_columns.Goals as goal
 
 pub loop-entry-preserved : goal.loop-entry-preserved
 loop-entry-preserved c =

@@ -1,0 +1,90 @@
+// Ascending lists under any codec, and places in them: what the measures of indexes and columns share.
+use crate::shared::{BLOCK, Bitpacked, Blockwise, Linear, List, load, put_vint};
+
+enum Codec { Bitpacked(Bitpacked), Linear(Linear), Blockwise(Blockwise) }
+
+// An ascending list.
+pub struct Numbers { codec: Codec, pub count: u32 }
+
+impl Numbers {
+    pub fn open(bytes: &'static [u8]) -> Option<Numbers> {
+        let (codec, told) = match bytes.first()? {
+            0 => load(bytes).map(|(list, told)| (Codec::Bitpacked(list), told))?,
+            1 => load(bytes).map(|(list, told)| (Codec::Linear(list), told))?,
+            _ => load(bytes).map(|(list, told)| (Codec::Blockwise(list), told))?,
+        };
+        Some(Numbers { codec, count: told.count as u32 })
+    }
+
+    #[inline(always)]
+    pub fn get(&self, at: u32) -> u64 {
+        match &self.codec {
+            Codec::Bitpacked(list) => list.get(at as usize),
+            Codec::Linear(list) => list.get(at as usize),
+            Codec::Blockwise(list) => list.get(at as usize),
+        }
+    }
+
+    // How many are below a target, by halves. Out of line, which keeps walks short.
+    #[inline(never)]
+    fn narrow(&self, mut low: u32, mut high: u32, target: u64) -> u32 {
+        while low < high {
+            let middle = low + (high - low) / 2;
+            if self.get(middle) < target { low = middle + 1 } else { high = middle }
+        }
+        low
+    }
+
+    pub fn rank(&self, target: u64) -> u32 { self.narrow(0, self.count, target) }
+
+    // The same in steps that double, where those before a place are below the target.
+    #[inline(never)]
+    fn gallop(&self, mut low: u32, target: u64) -> u32 {
+        let mut step = 1u32;
+        while low < self.count {
+            let probe = low + (step - 1).min(self.count - 1 - low);
+            if self.get(probe) >= target { return self.narrow(low, probe, target); }
+            low = probe + 1;
+            step = step.saturating_mul(2);
+        }
+        low
+    }
+
+    pub fn place(&self, at: u32, target: u64) -> Place {
+        Place { at, next: if at < self.count { self.get(at) } else { u64::MAX }, target }
+    }
+}
+
+// How many numbers are below a target, and the first that isn't.
+#[derive(Clone, Copy)]
+pub struct Place { pub at: u32, pub next: u64, target: u64 }
+
+impl Place {
+    #[inline(always)]
+    pub fn seek(self, numbers: &Numbers, target: u64) -> Place {
+        if target < self.target { return numbers.place(numbers.rank(target), target); }
+        if target <= self.next { return Place { target, ..self }; }
+        let behind = numbers.place(self.at + 1, self.next + 1);
+        if target <= behind.next { return Place { target, ..behind }; }
+        numbers.place(numbers.gallop(behind.at, target), target)
+    }
+}
+
+// Writes a list under Bitpacked or Linear, whichever takes fewer bytes.
+pub fn put_list(vals: &[u64], out: &mut Vec<u8>) {
+    let mut packed = vec![Bitpacked::CODE];
+    Bitpacked::write(vals, &mut packed);
+    if vals.len() >= BLOCK {
+        let mut linear = vec![Linear::CODE];
+        Linear::write(vals, &mut linear);
+        if linear.len() < packed.len() { packed = linear }
+    }
+    out.extend_from_slice(&packed);
+}
+
+pub fn set_bytes(num_rows: usize, rows: &[u64]) -> Vec<u8> {
+    let mut out = Vec::new();
+    put_vint(num_rows as u64, &mut out);
+    put_list(rows, &mut out);
+    out
+}

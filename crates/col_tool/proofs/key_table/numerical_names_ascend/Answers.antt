@@ -1,7 +1,0 @@
-use Rattle.std.proofs.Common.{ap}
-use Rattle.col_model.specs.Ascending.{is_ascending}
-use Rattle.col_tool.proofs.KeyLemmas.{numerical_names}
-use Rattle.col_tool.proofs.key_table.numerical_names_ascend.Goals as goal
-
-pub loop-entry-init : goal.loop-entry-init
-loop-entry-init c = ap is_ascending (numerical_names c.args.keys.now)

@@ -1,7 +1,0 @@
--- A footer as the definitions have it.
-use Rattle.col_model.specs.Keys.{FileFooter}
-use Rattle.col_tool.specs.declared.footer.Footer.{Footer}
-
--- its fields
-abbrev pub footer_of : Footer → FileFooter
-footer_of f = record { table_length = f.key_table_len; row_count = f.num_docs; version = f.version }
