@@ -1,0 +1,16 @@
+//! The values of columns in a merged order, as lists that are walked and never stand in memory.
+//! Contracts see the columns of segments, and the order that picks their rows.
+#![tactic(auto)]
+
+mod laws;
+mod merged_column_values;
+mod remapped_term_ordinals;
+mod runs;
+mod segments;
+
+pub use laws::{merged_cells_are_picked, merged_values_are_rows};
+pub use merged_column_values::MergedColumnValues;
+pub use remapped_term_ordinals::RemappedTermOrdinalsValues;
+
+#[cfg(test)]
+mod tests;

@@ -1,0 +1,5 @@
+//! Merged values by examples.
+
+mod counting;
+mod terms;
+mod values;
