@@ -1,0 +1,16 @@
+pub mod DocumentLemmas
+pub mod CutLemmas
+pub mod RowLemmas
+mod ShapeLemmas
+mod StartLemmas
+mod NoteLemmas
+mod IndexLemmas
+mod PlaceLemmas
+mod OrderLemmas
+mod SortLemmas
+pub mod ColumnLemmas
+mod TextLemmas
+mod TieLemmas
+pub mod EntryLemmas
+pub mod LimitLemmas
+mod DocPlaceLemmas

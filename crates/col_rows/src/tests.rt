@@ -1,0 +1,4 @@
+//! Columns of rows, by examples.
+
+mod columns;
+mod documents;
