@@ -1,0 +1,16 @@
+mod CutLemmas
+mod PostedLemmas
+mod TypeListLemmas
+pub mod NumericalLemmas
+pub mod EntryLemmas
+pub mod TypingLemmas
+mod TextLemmas
+mod CardinalityLemmas
+mod OperationLemmas
+mod SortedLemmas
+mod KeyLemmas
+mod OrderLemmas
+mod FirstLemmas
+mod KeyedLemmas
+mod DocsLemmas
+mod TermBytesLemmas

@@ -1,0 +1,62 @@
+//! The values of a column of bool, address or time, in order of recording. A point in time is kept
+//! as its code.
+ghost use Rattle.std.specs.Prelude.{◌≡◌, [], false};
+ghost use Rattle.col_model.specs.ColumnType as types;
+ghost use Rattle.col_record.specs.Answers.{Answers, Gives};
+ghost use Rattle.col_record.specs.Columns.{records_of};
+ghost use Rattle.col_record.specs.Posted.{posted_after};
+ghost use Rattle.col_record.specs.Sorting.{sorted_docs};
+ghost use Rattle.col_record.specs.Values.{time_cell};
+
+use crate::ColumnWriter;
+use crate::sort_keys::TimeKeys;
+use crate::sort_order::sort_docs;
+use col_common::{ColumnarError, DocId, RowId};
+use std::alloc::Global;
+
+/// The values of a column of one type, and whether that type was asked for.
+#[derive(Drop)]
+pub struct PlainColumnWriter<T: Copy> {
+    pub column: ColumnWriter<T>,
+    pub is_forced: bool,
+}
+
+impl<T: Copy> PlainColumnWriter<T> {
+    /// A column without values.
+    pub fn new(alloc: Global) -> PlainColumnWriter<T>
+        ensures column { result.column ≡ [] }
+        ensures free { result.is_forced ≡ false }
+    {
+        PlainColumnWriter {
+            column: ColumnWriter::new(alloc),
+            is_forced: false,
+        }
+    }
+
+    /// Records a value of a document that isn't before the last one.
+    #[inline]
+    pub fn record(&mut self, doc: DocId, value: T) -> Result<(), ColumnarError>
+        ensures column { Answers self.old.column self.new.column result
+            (posted_after self.old.column doc value) }
+        ensures forced { self.new.is_forced ≡ self.old.is_forced }
+    {
+        self.column.record(doc, value)
+    }
+}
+
+impl PlainColumnWriter<u64> {
+    /// The documents 0 to `num_docs` - 1 by their first point in time, of which these are the
+    /// codes, or by falling ones.
+    pub fn sort_order(
+        &self,
+        alloc: Global,
+        num_docs: RowId,
+        reversed: bool,
+    ) -> Result<Vec<DocId>, ColumnarError>
+        ensures { Gives (λ v. v.items) result
+            (sorted_docs (records_of types.datetime time_cell self.now.column) num_docs reversed) }
+    {
+        let keys = TimeKeys::new(self.column.values());
+        sort_docs(alloc, self.column.docs(), &keys, num_docs, reversed)
+    }
+}

@@ -1,0 +1,4 @@
+//! Columns that record, by examples.
+
+mod columns;
+mod orders;

@@ -1,0 +1,5 @@
+mod ContentLemmas
+mod RecordingLemmas
+mod EntryLemmas
+mod TypingLemmas
+mod OrderLemmas

@@ -1,0 +1,50 @@
+use Rattle.std.proofs.lemmas.Int.{ints}
+use Rattle.std.proofs.Common.{arith, to_z, of_z, w64, rules, ◌∙◌, ap, sym, subst, refl, ◌≡◌, Some, None, Ok, true, false, string_bytes}
+use Rattle.std.proofs.lemmas.Result.{err_from_is_err_and}
+use Rattle.std.proofs.lemmas.Map.Text.{hash_map_updates_text}
+use Rattle.std.specs.FinMap.{find}
+use Rattle.col_model.specs.ColumnType as types
+use Rattle.col_model.specs.Table.{number, text}
+use Rattle.col_model.specs.Category.{Slot, slot_cmp}
+use Rattle.col_model.specs.Category as categories
+use Rattle.col_model.specs.Written.{Recorded}
+use Rattle.col_model.specs.Recording.{tied, content_after, entry_of}
+use Rattle.col_record.specs.Answers.{Answers}
+use Rattle.col_record.specs.Entries.{typed_entry}
+use Rattle.col_types.specs.Kinds.{numerical_kind_of}
+use Rattle.col_writer.specs.Contents.{content_of, with_entries}
+use Rattle.col_types.specs.Cells.{bool_cell, unsigned_cell}
+use Rattle.col_record.specs.Columns.{text_entry, plain_entry}
+use Rattle.col_writer.specs.Columns.{columns_of}
+use Rattle.col_writer.proofs.ContentLemmas.{entry_at, entry_of-found, entry_of-new, find-content, Puts}
+use Rattle.col_writer.proofs.RecordingLemmas.{puts-with, updates, lifted-found, lifted-new, lifted-refused}
+use Rattle.col_writer.proofs.EntryLemmas.{new-name}
+use Rattle.col_record.proofs.EntryLemmas.{text-new, plain-new}
+use Rattle.col_writer.proofs.TypingLemmas.{call-found, call-new, tied-follows}
+use Rattle.col_writer.proofs.writer.ColumnarWriter.add_tie_breaker.Goals as goal
+
+pub returns-in_err-set_tie_start : goal.returns-in_err-set_tie_start
+returns-in_err-set_tie_start c =
+    let p = err_from_is_err_and c.from_residual.result c.from_residual.ensures.1 in
+    let w = c.self.inside in
+    let m = columns_of w.numerical w.bytes w.strs w.bools w.ip_addrs w.datetimes in
+    let name = c.args.name.now in
+    let same : to_z w64 (of_z w64 c.args.start) ≡ c.args.start = omega (arith, ints) in
+    let P : Recorded → Type 0 = λ v. Answers v v c.from_residual.result (content_after v (tied name c.args.start)) in
+    subst P c.self.view_is (lifted-refused _ (content_of m) _ c.set_tie_start.new.self c.from_residual.result p.0 _ _ _ p.1 p.2 c.in_err-set_tie_start.ensures
+    (tied-follows name c.args.start _ same (content_of m) c.new-column.result (entry_of-new m categories.numerical name c.args.self.now c.new-column.result c.self.view_is c.requires c.new-column.ensures)))
+
+pub returns : goal.returns
+returns c =
+    let w = c.self.inside in
+    let m = columns_of w.numerical w.bytes w.strs w.bools w.ip_addrs w.datetimes in
+    let name = c.args.name.now in
+    let same : to_z w64 (of_z w64 c.args.start) ≡ c.args.start = omega (arith, ints) in
+    let e = c.set_tie_start.new.self in
+    let key = c.in_ok-key.ensures.ok in
+    let up = hash_map_updates_text (string_bytes c.in_ok-key.key) w.numerical c.insert.new.self (Some e) c.in_ok-insert.ensures.updates in
+    let puts = puts-with m categories.numerical c.insert.new.self.entries (string_bytes c.in_ok-key.key) e (updates _ e w.numerical.entries c.insert.new.self.entries up) in
+    let P : Recorded → Type 0 = λ v. Answers v (content_of (with_entries m categories.numerical c.insert.new.self.entries)) (Ok tt) (content_after v (tied name c.args.start)) in
+    subst P c.self.view_is
+    (lifted-new _ m (with_entries m categories.numerical c.insert.new.self.entries) c.new-column.result e _ _ (subst (λ k. Puts (record { name = k; category = categories.numerical }) e m (with_entries m categories.numerical c.insert.new.self.entries)) key puts) c.in_ok-set_tie_start.ensures
+    (tied-follows name c.args.start _ same (content_of m) c.new-column.result (entry_of-new m categories.numerical name c.args.self.now c.new-column.result c.self.view_is c.requires c.new-column.ensures)))

@@ -1,0 +1,33 @@
+use Rattle.std.proofs.Common.{rules, ◌∙◌, ap, sym, subst, refl, ◌≡◌, Some, None, Ok, true, false, string_bytes}
+use Rattle.std.proofs.lemmas.Result.{err_from_is_err_and}
+use Rattle.std.proofs.lemmas.Map.Text.{hash_map_updates_text}
+use Rattle.std.specs.FinMap.{find}
+use Rattle.col_model.specs.ColumnType as types
+use Rattle.col_model.specs.Table.{number, text}
+use Rattle.col_model.specs.Category.{Slot, slot_cmp}
+use Rattle.col_model.specs.Category as categories
+use Rattle.col_model.specs.Written.{Recorded}
+use Rattle.col_model.specs.Recording.{typed, content_after, entry_of}
+use Rattle.col_record.specs.Answers.{Answers}
+use Rattle.col_record.specs.Entries.{typed_entry}
+use Rattle.col_types.specs.Kinds.{numerical_kind_of}
+use Rattle.col_writer.specs.Contents.{content_of, with_entries}
+use Rattle.col_types.specs.Cells.{bool_cell, unsigned_cell}
+use Rattle.col_record.specs.Columns.{text_entry, plain_entry}
+use Rattle.col_writer.specs.Columns.{columns_of}
+use Rattle.col_writer.proofs.ContentLemmas.{entry_at, entry_of-found, entry_of-new, find-content, Puts}
+use Rattle.col_writer.proofs.RecordingLemmas.{puts-with, updates, lifted-found, lifted-new, lifted-refused}
+use Rattle.col_writer.proofs.EntryLemmas.{new-name}
+use Rattle.col_record.proofs.EntryLemmas.{text-new, plain-new}
+use Rattle.col_writer.proofs.TypingLemmas.{call-found, call-new, typed-follows}
+use Rattle.col_record.proofs.TypingLemmas.{text-typed, plain-typed, number-kind}
+use Rattle.col_writer.proofs.writer.ColumnarWriter.add_typed_bytes.Goals as goal
+
+pub returns : goal.returns
+returns c =
+    let w = c.self.inside in
+    let m = columns_of w.numerical w.bytes w.strs w.bools w.ip_addrs w.datetimes in
+    let key = string_bytes c.in_ok-key.key in
+    let up = hash_map_updates_text key w.bytes c.insert.new.self (Some c.set_type.new.self) c.in_ok-insert.ensures.updates in
+    call-new m categories.bytes (text_entry types.bytes) w.bytes.entries c.insert.new.self.entries c.args.self.now c.args.name.now key c.new-column.result c.set_type.new.self (typed c.args.name.now types.bytes c.args.sorts) (λ e. typed_entry e types.bytes c.args.sorts)
+    (record { is = c.self.view_is; these = refl }) (typed-follows c.args.name.now types.bytes c.args.sorts categories.bytes refl) c.requires (text-new types.bytes c.new-column.result c.new-column.ensures) c.in_ok-key.ensures.ok up (text-typed types.bytes c.new-column.result c.set_type.new.self c.args.sorts c.set_type.ensures.values c.set_type.ensures.forced c.set_type.ensures.sorts refl)

@@ -1,0 +1,41 @@
+use Rattle.std.proofs.Common.{rules, ◌∙◌, ap, sym, subst, refl, ◌≡◌, Some, None, Ok, true, false, string_bytes}
+use Rattle.std.proofs.lemmas.Result.{err_from_is_err_and}
+use Rattle.std.proofs.lemmas.Map.Text.{hash_map_updates_text}
+use Rattle.std.specs.FinMap.{find}
+use Rattle.col_model.specs.ColumnType as types
+use Rattle.col_model.specs.Table.{number, text}
+use Rattle.col_model.specs.Category.{Slot, slot_cmp}
+use Rattle.col_model.specs.Category as categories
+use Rattle.col_model.specs.Written.{Recorded}
+use Rattle.col_model.specs.Recording.{typed, content_after, entry_of}
+use Rattle.col_record.specs.Answers.{Answers}
+use Rattle.col_record.specs.Entries.{typed_entry}
+use Rattle.col_types.specs.Kinds.{numerical_kind_of}
+use Rattle.col_writer.specs.Contents.{content_of, with_entries}
+use Rattle.col_types.specs.Cells.{bool_cell, unsigned_cell}
+use Rattle.col_record.specs.Columns.{text_entry, plain_entry}
+use Rattle.col_writer.specs.Columns.{columns_of}
+use Rattle.col_writer.proofs.ContentLemmas.{entry_at, entry_of-found, entry_of-new, find-content, Puts}
+use Rattle.col_writer.proofs.RecordingLemmas.{puts-with, updates, lifted-found, lifted-new, lifted-refused}
+use Rattle.col_writer.proofs.EntryLemmas.{new-name}
+use Rattle.col_record.proofs.EntryLemmas.{text-new, plain-new}
+use Rattle.col_writer.proofs.TypingLemmas.{call-found, call-new, typed-follows}
+use Rattle.col_record.proofs.TypingLemmas.{text-typed, plain-typed, number-kind}
+use Rattle.col_writer.proofs.writer.ColumnarWriter.type_ip_addr.Goals as goal
+
+pub returns-in-Some : goal.returns-in-Some
+returns-in-Some c =
+    let w = c.self.inside in
+    let m = columns_of w.numerical w.bytes w.strs w.bools w.ip_addrs w.datetimes in
+    let changed = c.get_mut.follows.lender (record { column = c.in-Some.column.now.column; is_forced = true }) in
+    let up = hash_map_updates_text c.args.name.now w.ip_addrs changed (Some (record { column = c.in-Some.column.now.column; is_forced = true })) ((c.get_mut.follows.holds (record { column = c.in-Some.column.now.column; is_forced = true })).3 (search rules)) in
+    call-found m categories.ip (plain_entry types.ip unsigned_cell) w.ip_addrs.entries changed.entries c.args.self.now c.args.name.now c.in-Some.column.now (record { column = c.in-Some.column.now.column; is_forced = true }) (Ok tt) (typed c.args.name.now types.ip false) (λ e. typed_entry e types.ip false)
+    (record { is = c.self.view_is; these = refl }) (typed-follows c.args.name.now types.ip false categories.ip refl) (sym c.in-Some.ensures.value) up (plain-typed types.ip unsigned_cell c.in-Some.column.now (record { column = c.in-Some.column.now.column; is_forced = true }) refl refl refl)
+
+pub add_typed_ip_addr-requires : goal.add_typed_ip_addr-requires
+add_typed_ip_addr-requires c =
+    let w = c.self.inside in
+    let m = columns_of w.numerical w.bytes w.strs w.bools w.ip_addrs w.datetimes in
+    let slot : Slot = record { name = c.args.name.now; category = categories.ip } in
+    ap (λ n. find slot_cmp slot (content_of (columns_of w.numerical w.bytes w.strs w.bools n w.datetimes))) c.get_mut.follows.holds-at-none
+    ∙ new-name m categories.ip (plain_entry types.ip unsigned_cell) w.ip_addrs.entries (content_of m) c.args.name.now (record { is = refl; these = refl }) (sym c.in_default.ensures.value)

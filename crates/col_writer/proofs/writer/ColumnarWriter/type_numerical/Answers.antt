@@ -1,0 +1,49 @@
+use Rattle.std.proofs.Common.{rules, ◌∙◌, ap, sym, subst, refl, ◌≡◌, Some, None, Ok, true, false, string_bytes}
+use Rattle.std.proofs.lemmas.Result.{err_from_is_err_and}
+use Rattle.std.proofs.lemmas.Map.Text.{hash_map_updates_text}
+use Rattle.std.specs.FinMap.{find}
+use Rattle.col_model.specs.ColumnType as types
+use Rattle.col_model.specs.Table.{number, text}
+use Rattle.col_model.specs.Category.{Slot, slot_cmp}
+use Rattle.col_model.specs.Category as categories
+use Rattle.col_model.specs.Written.{Recorded}
+use Rattle.col_model.specs.Recording.{typed, content_after, entry_of}
+use Rattle.col_record.specs.Answers.{Answers}
+use Rattle.col_record.specs.Entries.{typed_entry}
+use Rattle.col_types.specs.Kinds.{numerical_kind_of}
+use Rattle.col_writer.specs.Contents.{content_of, with_entries}
+use Rattle.col_types.specs.Cells.{bool_cell, unsigned_cell}
+use Rattle.col_record.specs.Columns.{text_entry, plain_entry}
+use Rattle.col_writer.specs.Columns.{columns_of}
+use Rattle.col_writer.proofs.ContentLemmas.{entry_at, entry_of-found, entry_of-new, find-content, Puts}
+use Rattle.col_writer.proofs.RecordingLemmas.{puts-with, updates, lifted-found, lifted-new, lifted-refused}
+use Rattle.col_writer.proofs.EntryLemmas.{new-name}
+use Rattle.col_record.proofs.EntryLemmas.{text-new, plain-new}
+use Rattle.col_writer.proofs.TypingLemmas.{call-found, call-new, typed-follows}
+use Rattle.col_record.proofs.TypingLemmas.{text-typed, plain-typed, number-kind}
+use Rattle.col_writer.proofs.writer.ColumnarWriter.type_numerical.Goals as goal
+
+pub returns-in-Some : goal.returns-in-Some
+returns-in-Some c =
+    let w = c.self.inside in
+    let m = columns_of w.numerical w.bytes w.strs w.bools w.ip_addrs w.datetimes in
+    let name = c.args.name.now in
+    let t = numerical_kind_of c.args.numerical_type in
+    let e = c.force_numerical_type.new.self in
+    let changed = c.get_mut.follows.lender e in
+    let slot : Slot = record { name = name; category = categories.numerical } in
+    let found : entry_at name w.numerical.entries ≡ Some c.in-Some.column.now = sym c.in-Some.ensures.value in
+    let up = hash_map_updates_text name w.numerical changed (Some e) ((c.get_mut.follows.holds e).3 (search rules)) in
+    let puts = puts-with m categories.numerical changed.entries name e (updates name e w.numerical.entries changed.entries up) in
+    let P : Recorded → Type 0 = λ v. Answers v (content_of (with_entries m categories.numerical changed.entries)) c.force_numerical_type.result (content_after v (typed name t false)) in
+    subst P c.self.view_is
+    (lifted-found slot m (with_entries m categories.numerical changed.entries) c.in-Some.column.now e c.force_numerical_type.result _ _ found puts c.force_numerical_type.ensures
+    (typed-follows name t false categories.numerical (number-kind c.args.numerical_type) (content_of m) c.in-Some.column.now (entry_of-found slot c.in-Some.column.now m found)))
+
+pub add_typed_numerical-requires : goal.add_typed_numerical-requires
+add_typed_numerical-requires c =
+    let w = c.self.inside in
+    let m = columns_of w.numerical w.bytes w.strs w.bools w.ip_addrs w.datetimes in
+    let slot : Slot = record { name = c.args.name.now; category = categories.numerical } in
+    let none : entry_at c.args.name.now w.numerical.entries ≡ None = sym c.in_default.ensures.value in
+    ap (λ n. find slot_cmp slot (content_of (columns_of n w.bytes w.strs w.bools w.ip_addrs w.datetimes))) c.get_mut.follows.holds-at-none ∙ find-content m slot ∙ none

@@ -1,0 +1,10 @@
+pub use Rattle.col_model.specs.ColumnType
+pub use Rattle.col_model.specs.Recording
+pub use Rattle.col_model.specs.SortOrder
+pub use Rattle.col_types.specs.Kinds
+pub use Rattle.col_types.specs.Numbers
+pub use Rattle.col_types.specs.Cells
+pub use Rattle.col_record.specs.Answers
+pub use Rattle.col_record.specs.Values
+pub mod Contents
+pub mod Columns
