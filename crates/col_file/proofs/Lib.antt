@@ -1,0 +1,5 @@
+mod PlaceLemmas
+mod RunLemmas
+mod NameLemmas
+mod ListLemmas
+mod EndLemmas

@@ -1,0 +1,30 @@
+-- Columns that are opened by their handles.
+use Rattle.std.specs.Prelude.{◌≡◌, ◌-◌, ℕ, List, Option, slice_range}
+use Rattle.col_common.specs.Reading.{◌>>=◌, only_if}
+use Rattle.col_dynamic.specs.Dynamic.{type_of, content_of}
+use Rattle.col_dynamic.specs.declared.dynamic_column.DynamicColumn.{DynamicColumn}
+use Rattle.col_model.specs.Column.{column}
+use Rattle.col_model.specs.ColumnType.{ColumnType}
+use Rattle.col_model.specs.Keys.{FileKeys}
+use Rattle.col_model.specs.Table.{Content}
+use Rattle.col_open.specs.Contents.{usage_of}
+use Rattle.col_types.specs.Usage.{Usage}
+use Rattle.col_file.specs.Handles.{Handle, is_entry}
+
+-- the bytes of a handle's column, where the handle is that of an entry
+abbrev pub bytes_at : FileKeys → Handle → List ℕ → Option (List ℕ)
+bytes_at k h bytes = only_if (is_entry k h) (slice_range bytes h.start h.«end»)
+
+-- what they stand for
+abbrev pub content_at : FileKeys → Handle → List ℕ → Option Content
+content_at k h bytes = bytes_at k h bytes >>= λ part.
+    column part h.column_type k.version k.row_count
+
+-- a column of the handle's type, with just this content
+pub record IsColumn (t : ColumnType) (content : Content) (c : DynamicColumn) : Type 0 where
+  pub kind : type_of c ≡ t
+  pub cells : content_of c ≡ content
+
+-- the bytes of the handle's column with this content, and those of its dictionary apart
+abbrev pub IsUsage : Handle → Content → Usage → Type 0
+IsUsage h content u = u ≡ usage_of (h.«end» - h.start) h.column_type content

@@ -1,0 +1,108 @@
+//! Opens the columns of handles.
+ghost use Rattle.std.specs.Prelude.{◌≡◌, false, Err};
+ghost use Rattle.col_dynamic.specs.Dynamic.{type_of, content_of};
+ghost use Rattle.col_open.specs.Contents.{usage_of};
+ghost use Rattle.col_open.specs.Lenient.{IsInPlaceOf};
+ghost use Rattle.col_file.specs.Columns.{content_at, IsColumn, IsUsage};
+ghost use Rattle.col_file.specs.Files.{Answers};
+ghost use Rattle.col_file.specs.Handles.{is_entry};
+ghost use Rattle.col_file.specs.Readers.{Reads};
+
+use crate::dynamic_column_handle::DynamicColumnHandle;
+use crate::reader::ColumnarReader;
+use col_common::{ColumnarError, FileHandle};
+use col_dynamic::{ColumnSpaceUsage, DynamicColumn};
+use col_open::{LenientColumn, open_column, open_column_u64_lenient, space_usage_of};
+use std::alloc::Global;
+
+impl DynamicColumnHandle {
+    /// Opens the column in a reader, whose file is read at most once. It answers InvalidData where
+    /// the handle is no entry of the reader, or where the bytes are no column of its type.
+    pub fn open<F: FileHandle>(
+        &self,
+        alloc: Global,
+        reader: &mut ColumnarReader<F>,
+    ) -> Result<DynamicColumn, ColumnarError>
+        ensures no_entry { is_entry reader.old.keys self.now ≡ false
+            → result ≡ Err ColumnarError.InvalidData }
+        ensures answer { Answers (IsColumn self.now.column_type) reader.old.file reader.new.file
+            result (content_at reader.old.keys self.now) }
+        ensures kept { Reads 1 reader.old reader.new }
+    {
+        let bytes = reader.read_column(alloc, self)?;
+        open_column(
+            alloc,
+            self.column_type(),
+            bytes,
+            reader.format_version(),
+            reader.num_docs(),
+        )
+    }
+
+    /// The same as a column of numbers in place of one of any type: the numbers of its values, the
+    /// ordinals of its terms, or the codes of its addresses.
+    pub fn open_u64_lenient<F: FileHandle>(
+        &self,
+        alloc: Global,
+        reader: &mut ColumnarReader<F>,
+    ) -> Result<LenientColumn, ColumnarError>
+        ensures no_entry { is_entry reader.old.keys self.now ≡ false
+            → result ≡ Err ColumnarError.InvalidData }
+        ensures answer { Answers (IsInPlaceOf self.now.column_type) reader.old.file
+            reader.new.file result (content_at reader.old.keys self.now) }
+        ensures kept { Reads 1 reader.old reader.new }
+    {
+        let bytes = reader.read_column(alloc, self)?;
+        open_column_u64_lenient(
+            alloc,
+            self.column_type(),
+            bytes,
+            reader.format_version(),
+            reader.num_docs(),
+        )
+    }
+
+    /// How many bytes the column takes, those of its dictionary apart. It refuses as `open` does.
+    pub fn space_usage<F: FileHandle>(
+        &self,
+        alloc: Global,
+        reader: &mut ColumnarReader<F>,
+    ) -> Result<ColumnSpaceUsage, ColumnarError>
+        ensures no_entry { is_entry reader.old.keys self.now ≡ false
+            → result ≡ Err ColumnarError.InvalidData }
+        ensures answer { Answers (IsUsage self.now) reader.old.file reader.new.file
+            result (content_at reader.old.keys self.now) }
+        ensures kept { Reads 1 reader.old reader.new }
+    {
+        let column = self.open(alloc, reader)?;
+        Ok(usage_of_opened(column, self.num_bytes().get_bytes()))
+    }
+
+    /// The same as `space_usage`.
+    pub fn column_and_dictionary_num_bytes<F: FileHandle>(
+        &self,
+        alloc: Global,
+        reader: &mut ColumnarReader<F>,
+    ) -> Result<ColumnSpaceUsage, ColumnarError>
+        ensures no_entry { is_entry reader.old.keys self.now ≡ false
+            → result ≡ Err ColumnarError.InvalidData }
+        ensures answer { Answers (IsUsage self.now) reader.old.file reader.new.file
+            result (content_at reader.old.keys self.now) }
+        ensures kept { Reads 1 reader.old reader.new }
+    {
+        self.space_usage(alloc, reader)
+    }
+}
+
+// The same of a column that is let go.
+fn usage_of_opened(column: DynamicColumn, num_bytes: u64) -> ColumnSpaceUsage
+    ensures { result ≡ usage_of num_bytes (type_of column) (content_of column) }
+{
+    let usage = space_usage_of(&column, num_bytes);
+    let_go(column);
+    usage
+}
+
+fn let_go(column: DynamicColumn) {
+    drop(column);
+}

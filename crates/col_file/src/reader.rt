@@ -1,0 +1,173 @@
+//! Open files.
+ghost use Rattle.std.specs.Prelude.{◌≡◌, false, length, map, string_bytes, Err, IfOk, IfErr};
+ghost use Rattle.col_index.specs.Versions.{version_number};
+ghost use Rattle.col_file.specs.Columns.{bytes_at};
+ghost use Rattle.col_file.specs.Files.{seen_by, Answers};
+ghost use Rattle.col_file.specs.Handles.{handle_of, listed, is_entry, entries_named, entries_below};
+ghost use Rattle.col_file.specs.Readers.{IsRead, Reads, Opens};
+
+use crate::column_iter::ColumnIter;
+use crate::columnar_keys::ColumnarKeys;
+use crate::dynamic_column_handle::DynamicColumnHandle;
+use crate::path::front_of_path;
+use crate::reading::{read_keys, read_part};
+use bytes::Bytes;
+use col_common::{ColumnarError, FileHandle, RowId};
+use col_index::Version;
+use std::alloc::Global;
+use std::fmt;
+use std::marker::Model;
+
+/// A file whose columns can be listed, found by name and opened. Contracts see the file, and what
+/// its end says.
+#[derive(Drop)]
+pub struct ColumnarReader<F: FileHandle> {
+    file: F,
+    keys: ColumnarKeys,
+}
+
+impl<F: FileHandle> Model for ColumnarReader<F> {
+    ghost use Rattle.col_file.specs.Files.{seen_by};
+    ghost use Rattle.col_file.specs.Readers.{SeenReader, IsRead};
+
+    ghost Value = { SeenReader };
+
+    ghost view = { λ r. record {
+      file = seen_by F.content F.size F.faults F.reads r.file;
+      keys = r.keys;
+    } };
+
+    ghost invariant = { λ r. IsRead (record {
+      file = seen_by F.content F.size F.faults F.reads r.file;
+      keys = r.keys;
+    }) };
+}
+
+impl<F: FileHandle> ColumnarReader<F> {
+    /// Opens a file, in at most two reads of it. It answers InvalidData exactly where the file
+    /// doesn't end as the format says; a refusal hands the file back.
+    pub fn open(alloc: Global, file: F) -> Result<ColumnarReader<F>, (F, ColumnarError)>
+        ensures { Opens (seen_by F.content F.size F.faults F.reads)
+            (seen_by F.content F.size F.faults F.reads file) result }
+    {
+        let mut file = file;
+        match read_keys(alloc, &mut file) {
+            Ok(keys) => Ok(ColumnarReader { file, keys }),
+            Err(error) => Err((file, error)),
+        }
+    }
+
+    /// The file.
+    pub fn into_file(self) -> F
+        ensures { seen_by F.content F.size F.faults F.reads result ≡ self.file }
+    {
+        let ColumnarReader { file, keys } = self;
+        drop(keys);
+        file
+    }
+
+    /// Each entry has its bytes in the file, and the file ends as the entries say.
+    pub fn tell(&self)
+        ensures { IsRead self.now }
+    {
+        let _ = &self.file;
+    }
+
+    /// How many documents there are.
+    pub fn num_docs(&self) -> RowId
+        ensures { result ≡ self.now.keys.row_count }
+    {
+        self.keys.num_docs()
+    }
+
+    /// How many columns there are.
+    pub fn num_columns(&self) -> usize
+        ensures { result ≡ length self.now.keys.entries }
+    {
+        self.keys.num_columns()
+    }
+
+    /// The columns, by name, then by the type's code: each name with its handle.
+    pub fn iter_columns(&self) -> ColumnIter<'_>
+        ensures { result ≡ map listed self.now.keys.entries }
+    {
+        ColumnIter::new(&self.keys)
+    }
+
+    /// The same as a list.
+    pub fn list_columns(
+        &self,
+        alloc: Global,
+    ) -> Result<Vec<(String, DynamicColumnHandle)>, ColumnarError>
+        ensures ok { IfOk result (λ found. map (λ p. (string_bytes p.0, p.1)) found.items
+            ≡ map listed self.now.keys.entries) }
+        ensures err { IfErr result (λ e. e ≡ ColumnarError.OutOfMemory) }
+    {
+        self.keys.list(alloc)
+    }
+
+    /// The columns of a name, by the type's code. There may be several, of different types.
+    pub fn read_columns(
+        &self,
+        alloc: Global,
+        column_name: &str,
+    ) -> Result<Vec<DynamicColumnHandle>, ColumnarError>
+        ensures ok { IfOk result (λ found. found.items
+            ≡ map handle_of (entries_named column_name.now self.now.keys.entries)) }
+        ensures err { IfErr result (λ e. e ≡ ColumnarError.OutOfMemory) }
+    {
+        let places = self.keys.named(column_name);
+        self.keys.handles(alloc, places.start, places.end)
+    }
+
+    /// The columns whose names have the path and a separator in front, by name, then by the type's
+    /// code.
+    pub fn read_subpath_columns(
+        &self,
+        alloc: Global,
+        root_path: &str,
+    ) -> Result<Vec<DynamicColumnHandle>, ColumnarError>
+        ensures ok { IfOk result (λ found. found.items
+            ≡ map handle_of (entries_below root_path.now self.now.keys.entries)) }
+        ensures err { IfErr result (λ e. e ≡ ColumnarError.OutOfMemory) }
+    {
+        let front = front_of_path(alloc, root_path)?;
+        let places = self.keys.beginning(front.as_slice());
+        self.keys.handles(alloc, places.start, places.end)
+    }
+
+    // The version of the file's bytes.
+    pub(crate) fn format_version(&self) -> Version
+        ensures { version_number result ≡ self.now.keys.version }
+    {
+        self.keys.version()
+    }
+
+    // Reads the bytes of a handle's column, where the handle is that of an entry.
+    pub(crate) fn read_column(
+        &mut self,
+        alloc: Global,
+        handle: &DynamicColumnHandle,
+    ) -> Result<Bytes, ColumnarError>
+        ensures no_entry { is_entry self.old.keys handle.now ≡ false
+            → result ≡ Err ColumnarError.InvalidData }
+        ensures answer { Answers (λ expected part. part ≡ expected) self.old.file self.new.file
+            result (bytes_at self.old.keys handle.now) }
+        ensures kept { Reads 1 self.old self.new }
+    {
+        if !self.keys.has_entry(handle) {
+            return Err(ColumnarError::InvalidData);
+        }
+        let (start, end) = handle.byte_range();
+        read_part(alloc, &mut self.file, start, end)
+    }
+}
+
+impl<F: FileHandle> fmt::Debug for ColumnarReader<F> {
+    fn fmt<W: fmt::Write>(&self, f: &mut fmt::Formatter<W>) -> fmt::Result {
+        f.debug_struct("Columnar")
+            .field("num_rows", &self.num_docs())
+            .field("num_cols", &self.num_columns())
+            .finish()
+    }
+}

@@ -1,0 +1,3 @@
+//! Open files, by examples.
+mod files;
+mod opening;

@@ -1,0 +1,2 @@
+mod LenientLemmas
+mod DecodesLemmas
