@@ -1,0 +1,9 @@
+pub mod PermutationLemmas
+pub mod SortLemmas
+pub mod KeyLemmas
+pub mod StreamLemmas
+pub mod StepLemmas
+pub mod MergerLemmas
+pub mod ItemLemmas
+pub mod PlaceLemmas
+pub mod NumberingLemmas

@@ -1,0 +1,5 @@
+pub mod Keys
+pub mod Places
+pub mod Merging
+pub mod Moves
+pub mod Numbering
