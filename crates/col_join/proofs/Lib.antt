@@ -1,0 +1,5 @@
+mod CountLemmas
+mod LimitLemmas
+mod NumberLemmas
+mod JoinLemmas
+mod SlotLemmas
