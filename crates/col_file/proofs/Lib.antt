@@ -3,3 +3,4 @@ mod RunLemmas
 mod NameLemmas
 mod ListLemmas
 mod EndLemmas
+pub mod PartLemmas

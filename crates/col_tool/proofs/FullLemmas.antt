@@ -4,7 +4,6 @@ use Rattle.std.proofs.lemmas.Bool.{ne_eqb, false≢true}
 use Rattle.col_common.specs.Decoding.{Decodes}
 use Rattle.col_common.specs.Reading.{only_if}
 use Rattle.col_common.specs.declared.error.ColumnarError.{ColumnarError}
-use Rattle.col_common.proofs.DecodingLemmas.{refuses-as}
 use Rattle.col_model.specs.Column.{column}
 use Rattle.col_model.specs.ColumnType as types
 use Rattle.col_model.specs.Dictionary.{cut}
@@ -45,7 +44,7 @@ none-only : (o : Option (List ℕ)) → option_map full_content o ≡ None → o
 none-only None e = refl
 none-only (Some ys) e = absurd (some≢none (full_content ys) e)
 
-only_if-none : {A : Type 0} (b : Bool) (x : A) → only_if b x ≡ None → b ≡ false
+pub only_if-none : {A : Type 0} (b : Bool) (x : A) → only_if b x ≡ None → b ≡ false
 only_if-none true x e = absurd (some≢none x e)
 only_if-none false x e = refl
 
@@ -69,30 +68,21 @@ pub full_numbers-unread : (bytes : List ℕ) (n : ℕ) → column bytes types.u6
 full_numbers-unread bytes n e = none-only (full_numbers bytes n) (sym (column-full bytes n) ∙ ap full_part e)
 
 -- the bytes stand for the column
-abbrev StandFor : List ℕ → ℕ → Seen (NumValues ℕ) → Type 0
+abbrev pub StandFor : List ℕ → ℕ → Seen (NumValues ℕ) → Type 0
 StandFor bytes n c = column bytes types.u64 2 n ≡ Some (content_seen [] unsigned_cell c.shape (num_values_of c.values))
 
-full_numbers-read : (bytes : List ℕ) (n : ℕ) (c : Seen (NumValues ℕ)) → StandFor bytes n c → IsCounted c.shape (length (num_values_of c.values)) → is_full (cardinality_in c.shape) ≡ true → full_numbers bytes n ≡ Some (num_values_of c.values)
-full_numbers-read bytes n c read counted e =
-    let content = content_seen [] unsigned_cell c.shape (num_values_of c.values) in
-    full-only (full_numbers bytes n) (num_values_of c.values) (sym (column-full bytes n) ∙ ap full_part read ∙ ap (λ b. only_if b content) e ∙ ap Some (content-full c.shape (num_values_of c.values) counted e))
+-- bytes that stand for one number in each row are those of a Full column
+pub full_numbers-whole : (bytes : List ℕ) (n : ℕ) (xs : List ℕ) → column bytes types.u64 2 n ≡ Some (full_content xs) → full_numbers bytes n ≡ Some xs
+full_numbers-whole bytes n xs read = full-only (full_numbers bytes n) xs (sym (column-full bytes n) ∙ ap full_part read)
 
-full_numbers-other : (bytes : List ℕ) (n : ℕ) (c : Seen (NumValues ℕ)) → StandFor bytes n c → is_full (cardinality_in c.shape) ≡ false → full_numbers bytes n ≡ None
+-- bytes that stand for a column of another cardinality are none
+pub full_numbers-other : (bytes : List ℕ) (n : ℕ) (c : Seen (NumValues ℕ)) → StandFor bytes n c → is_full (cardinality_in c.shape) ≡ false → full_numbers bytes n ≡ None
 full_numbers-other bytes n c read e =
     let content = content_seen [] unsigned_cell c.shape (num_values_of c.values) in
     none-only (full_numbers bytes n) (sym (column-full bytes n) ∙ ap full_part read ∙ ap (λ b. only_if b content) e)
 
 -- a column that was opened, where its index is Full
 module _ (c : Seen (NumValues ℕ)) (result : Result (Seen (NumValues ℕ)) ColumnarError) (kept : Decodes (λ c. c) result (only_if (is_full (cardinality_in c.shape)) c)) (counted : IfOk result (λ c. IsCounted c.shape (length (num_values_of c.values)))) where
-  pub decodes-full : (bytes : List ℕ) (n : ℕ) → StandFor bytes n c → Decodes (λ c. num_values_of c.values) result (full_numbers bytes n)
-  decodes-full bytes n read = by result kept counted
-    where
-      by : (r : Result (Seen (NumValues ℕ)) ColumnarError) → Decodes (λ c. c) r (only_if (is_full (cardinality_in c.shape)) c) → IfOk r (λ c. IsCounted c.shape (length (num_values_of c.values))) → Decodes (λ c. num_values_of c.values) r (full_numbers bytes n)
-      by (Ok d) k m =
-          let same = if-of (is_full (cardinality_in c.shape)) c d k in
-          full_numbers-read bytes n d (subst (StandFor bytes n) same.1 read) m (subst (λ c. is_full (cardinality_in c.shape) ≡ true) same.1 same.0)
-      by (Err e) k m = refuses-as e (only_if (is_full (cardinality_in c.shape)) c) (full_numbers bytes n) (λ h. full_numbers-other bytes n c read (only_if-none _ c h)) k
-
   pub is_full-opened : IfOk result IsFull
   is_full-opened = by result kept counted
     where

@@ -1,84 +1,73 @@
 //! Opens the columns of a file.
-ghost use Rattle.std.specs.Prelude.{◌≡◌, ◌+◌, ◌^◌, ◌<◌, ◌≤◌, length, map, IfOk};
+ghost use Rattle.std.specs.Prelude.{◌≡◌, true, length, map, string_bytes, IfOk};
 ghost use Rattle.col_common.specs.Decoding.{Decodes};
 ghost use Rattle.col_common.specs.Reading.{only_if};
 ghost use Rattle.col_column.specs.Columns.{IsCounted};
+ghost use Rattle.col_dynamic.specs.Dynamic.{as_u64};
+ghost use Rattle.col_file.specs.Files.{Answers};
+ghost use Rattle.col_file.specs.Handles.{is_entry};
+ghost use Rattle.col_file.specs.Readers.{Reads};
 ghost use Rattle.col_index.specs.Offsets.{cardinality_in};
-ghost use Rattle.col_keys.specs.KeyTables.{key_seen, all_keyed};
 ghost use Rattle.col_model.specs.File.{for_each};
-ghost use Rattle.col_model.specs.FullColumns.{full_numbers, entry_numbers};
-ghost use Rattle.col_model.specs.Keys.{entries_from, total_length};
-ghost use Rattle.col_numbers.specs.NumValues.{num_values_of};
-ghost use Rattle.col_tool.specs.Full.{is_full, IsFull};
-ghost use Rattle.col_tool.specs.Opened.{opened};
+ghost use Rattle.col_model.specs.FullColumns.{entry_numbers};
+ghost use Rattle.col_tool.specs.Full.{is_full, IsFull, full_u64};
+ghost use Rattle.col_tool.specs.Opened.{opened, entry_at};
 
 use crate::named_column::NamedColumn;
-use bytes::Bytes;
-use col_column::{Column, NumColumn, open_column_u64};
-use col_common::ColumnarError;
-use col_index::Version;
-use col_keys::{ColumnKey, KeyedLength};
-use col_types::ColumnType;
+use col_column::{Column, NumColumn};
+use col_common::{ColumnarError, FileHandle};
+use col_dynamic::DynamicColumn;
+use col_file::{ColumnarReader, DynamicColumnHandle};
 use col_values::ColumnValues;
 use std::alloc::Global;
 
-/// Opens columns that follow one another from the file's front on.
-pub fn open_columns(
+/// Opens the columns of a file, in the order of their keys, where all of them are Full columns of
+/// u64.
+pub fn open_columns<F: FileHandle>(
     alloc: Global,
-    file: &Bytes,
-    num_docs: u32,
-    entries: Vec<KeyedLength>,
+    reader: &mut ColumnarReader<F>,
 ) -> Result<Vec<NamedColumn>, ColumnarError>
-    requires fits { total_length (all_keyed entries.items) < 2 ^ 64 }
-    requires within { total_length (all_keyed entries.items) ≤ length file.now }
-    ensures { Decodes (λ columns. map opened columns.items) result
-        (for_each (entry_numbers file.now num_docs) (entries_from 0 (all_keyed entries.items))) }
+    ensures answer { Answers (λ ps columns. map opened columns.items ≡ ps)
+        reader.old.file reader.new.file result
+        (λ bytes. for_each (entry_numbers bytes reader.old.keys.row_count) reader.old.keys.entries) }
+    ensures keys { reader.new.keys ≡ reader.old.keys }
 {
     let mut columns = Vec::new(alloc);
-    let mut start = 0;
-    for entry in entries {
-        let end = start + entry.num_bytes as usize;
-        let column = open_entry(alloc, file, num_docs, start, entry)?;
+    for (name, handle) in reader.list_columns(alloc)? {
+        let column = open_named(alloc, name, &handle, reader)?;
         columns.push(column)?;
-        start = end;
     }
     Ok(columns)
 }
 
-#[tactic(auto, unfolding(col_model::specs::FullColumns::entry_numbers))]
-fn open_entry(
+// Opens the column of an entry of this name and handle.
+fn open_named<F: FileHandle>(
     alloc: Global,
-    file: &Bytes,
-    num_docs: u32,
-    start: usize,
-    entry: KeyedLength,
+    name: String,
+    handle: &DynamicColumnHandle,
+    reader: &mut ColumnarReader<F>,
 ) -> Result<NamedColumn, ColumnarError>
-    requires fits { start + entry.num_bytes < 2 ^ 64 }
-    requires within { start + entry.num_bytes ≤ length file.now }
-    ensures { Decodes opened result (entry_numbers file.now num_docs
-        (record { key = key_seen entry.key; start = start; «end» = start + entry.num_bytes })) }
+    ensures answer { is_entry reader.old.keys handle.now ≡ true →
+        Answers (λ p column. opened column ≡ p) reader.old.file reader.new.file result
+        (λ bytes. entry_numbers bytes reader.old.keys.row_count
+        (entry_at (string_bytes name, handle.now))) }
+    ensures kept { Reads 1 reader.old reader.new }
 {
-    let KeyedLength { key, num_bytes } = entry;
-    let ColumnKey { name, column_type } = key;
-    if column_type.to_code() != ColumnType::U64.to_code() {
-        return Err(ColumnarError::InvalidData);
-    }
-    let column = file.slice(start..start + num_bytes as usize)?;
-    let column = open_full_column_u64(alloc, column, num_docs)?;
+    reader.tell();
+    let column = handle.open(alloc, reader)?;
+    let column = full_column_u64(column)?;
     Ok(NamedColumn { name, column })
 }
 
-// Opens a Full column of so many numbers.
-fn open_full_column_u64(
-    alloc: Global,
-    column: Bytes,
-    num_docs: u32,
-) -> Result<NumColumn<u64>, ColumnarError>
-    ensures ok { Decodes (λ c. num_values_of c.values) result (full_numbers column num_docs) }
+// The column of u64, where it is one and Full.
+fn full_column_u64(column: DynamicColumn) -> Result<NumColumn<u64>, ColumnarError>
+    ensures ok { Decodes (λ c. c) result (full_u64 (as_u64 column)) }
     ensures full { IfOk result IsFull }
 {
-    let column = open_column_u64::<u64>(alloc, column, Version::V2, num_docs)?;
-    with_full_index(column)
+    match column.into_u64() {
+        Some(column) => with_full_index(column),
+        None => Err(ColumnarError::InvalidData),
+    }
 }
 
 // The column, where its index is Full.

@@ -11,14 +11,14 @@ ghost use Rattle.col_tool.specs.Reported.{Prints, number_column, number_column_l
 
 use crate::line::Find;
 use crate::named_column::NamedColumn;
-use crate::reader::ColumnarReader;
+use crate::open_file::OpenFile;
 use col_numbers::NumValues;
 use col_values::ColumnValues;
 use serde_json::{Value, json};
 use std::alloc::{AllocError, Global};
 
 /// The report of a file's table and of what the lookups find in it.
-pub fn report(alloc: Global, reader: &ColumnarReader, finds: &[Find]) -> Result<Vec<u8>, AllocError>
+pub fn report(alloc: Global, reader: &OpenFile, finds: &[Find]) -> Result<Vec<u8>, AllocError>
     ensures { IfOk result (λ lines. lines.items
         ≡ report_of (number_table reader.now.0 reader.now.1) (map find_of finds.now) false) }
 {
@@ -85,7 +85,7 @@ fn row_value(alloc: Global, row: u32, value: u64) -> Result<Value, AllocError>
 fn push_finds(
     alloc: Global,
     lines: &mut Vec<u8>,
-    reader: &ColumnarReader,
+    reader: &OpenFile,
     finds: &[Find],
 ) -> Result<(), AllocError>
     ensures { OnOk result (Prints lines.old.items lines.new.items
@@ -107,7 +107,7 @@ fn find_value(alloc: Global, name: &str, found: Value) -> Result<Value, AllocErr
 }
 
 // The documents found, or null where no column has the name.
-fn found_value(alloc: Global, reader: &ColumnarReader, find: &Find) -> Result<Value, AllocError>
+fn found_value(alloc: Global, reader: &OpenFile, find: &Find) -> Result<Value, AllocError>
     ensures { IfOk result (λ v. view v
         ≡ found_data (number_table reader.now.0 reader.now.1) false (find_of find.now)) }
 {

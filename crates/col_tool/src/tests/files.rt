@@ -1,5 +1,5 @@
 //! Files that are opened, and bytes that are none.
-use crate::reader::ColumnarReader;
+use crate::open_file::OpenFile;
 use bytes::Bytes;
 use col_common::ColumnarError;
 use col_values::ColumnValues;
@@ -156,9 +156,9 @@ const FILES: [(&str, &str, Option<(u32, usize)>); 23] = [
     ),
 ];
 
-fn open(alloc: Global, digits: &str) -> Result<Result<ColumnarReader, ColumnarError>, Fail> {
+fn open(alloc: Global, digits: &str) -> Result<Result<OpenFile, ColumnarError>, Fail> {
     let bytes = Bytes::from_vec(hex::decode(alloc, digits)?)?;
-    Ok(ColumnarReader::open(alloc, bytes))
+    Ok(OpenFile::open(alloc, bytes))
 }
 
 fn counts_of(alloc: Global, digits: &str) -> Result<Option<(u32, usize)>, Fail> {

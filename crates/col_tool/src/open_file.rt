@@ -1,22 +1,22 @@
-//! Open files.
+//! Files whose columns are open.
 ghost use Rattle.std.specs.Prelude.{◌≡◌};
 
-use crate::keys::parse_keys;
 use crate::named_column::{NamedColumn, find_column};
 use crate::open::open_columns;
 use bytes::Bytes;
-use col_common::ColumnarError;
+use col_common::{ColumnarError, MemHandle};
+use col_file::ColumnarReader;
 use std::alloc::Global;
 use std::marker::Model;
 
 /// A file whose columns are open, in the order of their names.
 #[derive(Drop)]
-pub struct ColumnarReader {
+pub struct OpenFile {
     num_docs: u32,
     columns: Vec<NamedColumn>,
 }
 
-impl Model for ColumnarReader {
+impl Model for OpenFile {
     ghost use Rattle.std.specs.Prelude.{◌≡◌, ℕ, true, List, map, string_bytes};
     ghost use Rattle.col_model.specs.Ascending.{is_ascending};
     ghost use Rattle.col_model.specs.FullColumns.{NamedNumbers};
@@ -30,21 +30,23 @@ impl Model for ColumnarReader {
     ghost invariant = { λ r. is_ascending (map (λ c. string_bytes c.name) r.columns.items) ≡ true };
 }
 
-impl ColumnarReader {
+impl OpenFile {
     ghost use Rattle.std.specs.Prelude.{map, option_map};
-    ghost use Rattle.col_common.specs.Decoding.{Decodes};
     ghost use Rattle.col_model.specs.FullColumns.{numbers_of_file};
-    ghost use Rattle.col_tool.specs.Opened.{opened, numbers_named};
+    ghost use Rattle.col_tool.specs.Opened.{opened, numbers_named, GivesNumbers};
 
-    /// Opens a file of Full u64 columns, with its columns.
-    #[tactic(auto, unfolding(col_model::specs::FullColumns::numbers_of_file))]
-    pub fn open(alloc: Global, file: Bytes) -> Result<ColumnarReader, ColumnarError>
-        ensures { Decodes (λ reader. reader) result (numbers_of_file file) }
+    /// Opens a file in memory of Full u64 columns, with its columns.
+    pub fn open(alloc: Global, file: Bytes) -> Result<OpenFile, ColumnarError>
+        ensures { GivesNumbers result (numbers_of_file file) }
     {
-        let keys = parse_keys(alloc, file.as_slice())?;
-        let columns = open_columns(alloc, &file, keys.num_docs, keys.columns)?;
-        Ok(ColumnarReader {
-            num_docs: keys.num_docs,
+        let file = MemHandle::new(file, Vec::new(alloc));
+        let mut reader = match ColumnarReader::open(alloc, file) {
+            Ok(reader) => reader,
+            Err((_, error)) => return Err(error),
+        };
+        let columns = open_columns(alloc, &mut reader)?;
+        Ok(OpenFile {
+            num_docs: reader.num_docs(),
             columns,
         })
     }

@@ -1,7 +1,7 @@
 use Rattle.std.proofs.Common.{ap, sym, ◌∙◌, find, bytes_eq, string_bytes, option_map}
 use Rattle.col_tool.specs.Opened.{opened, numbers_named}
 use Rattle.col_tool.proofs.SearchLemmas.{numbers_named-opened, seen-twice}
-use Rattle.col_tool.proofs.reader.ColumnarReader.column.Goals as goal
+use Rattle.col_tool.proofs.open_file.OpenFile.column.Goals as goal
 
 pub returns : goal.returns
 returns c =
