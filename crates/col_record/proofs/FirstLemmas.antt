@@ -1,5 +1,5 @@
 -- The first keys of documents.
-use Rattle.std.proofs.Common.{◌≡◌, ◌<◌, ◌≤◌, ℕ, zero, suc, ◌+◌, ◌-◌, List, [], ◌∷◌, ◌++◌, length, map, take, drop, get_or, replicate, Bool, true, false, cond, Option, Some, None, refl, sym, ◌∙◌, ap, arith, le-leb, lt-ltb, eq-eqb}
+use Rattle.std.proofs.Common.{◌≡◌, ◌<◌, ◌≤◌, ℕ, zero, suc, ◌+◌, ◌-◌, List, [], ◌∷◌, ◌++◌, length, map, take, get_or, replicate, Bool, true, false, cond, Option, Some, None, refl, sym, ◌∙◌, ap, arith, le-leb, lt-ltb, eq-eqb}
 use Rattle.std.specs.Prelude.{nat_le, nat_lt, ◌==◌, ◌&&◌, ◌||◌, slice_get, slice_set, filter, unwrap_or}
 use Rattle.std.specs.List.{list_all, list_any, last_or, zip, range_with_len}
 use Rattle.std.proofs.lemmas.Bool.{and_parts, and_from}
@@ -201,22 +201,6 @@ past-last n (x ∷ xs) k l fall at f =
 pub past-none : (n : ℕ) (docs : List ℕ) → length docs ≡ 0 → false ≡ list_any (λ d. nat_le n d) docs
 past-none n [] e = refl
 past-none n (d ∷ docs) e = absurd (omega arith)
-
--- what is left of a list after all of it was lent
-pub given-back : (xs ys : List ℕ) (n : ℕ) → length xs ≡ n → length ys ≡ n → take n (xs ++ drop (length xs) ys) ≡ xs
-given-back xs ys n e f = ap (λ r. take n (xs ++ r)) (gone ys (length xs) (omega (arith, e, f))) ∙ whole xs n e
-  where
-    gone : (ys : List ℕ) (k : ℕ) → length ys ≤ k → drop k ys ≡ []
-    gone [] zero h = refl
-    gone [] (suc k) h = refl
-    gone (y ∷ ys) zero h = absurd (omega arith)
-    gone (y ∷ ys) (suc k) h = gone ys k (omega arith)
-
-    whole : (xs : List ℕ) (n : ℕ) → length xs ≡ n → take n (xs ++ []) ≡ xs
-    whole [] zero e = refl
-    whole [] (suc n) e = refl
-    whole (x ∷ xs) zero e = absurd (omega arith)
-    whole (x ∷ xs) (suc n) e = ap (λ r. x ∷ r) (whole xs n (omega arith))
 
 pub length-first_keys : (n : ℕ) (ps : List (ℕ × ℕ)) → length (map (first_key ps) (range_with_len 0 n)) ≡ n
 length-first_keys n ps = length-map-range_with_len (first_key ps) 0 n

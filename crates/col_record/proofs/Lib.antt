@@ -4,7 +4,7 @@ mod TypeListLemmas
 pub mod NumericalLemmas
 pub mod EntryLemmas
 pub mod TypingLemmas
-mod TextLemmas
+pub mod TextLemmas
 mod CardinalityLemmas
 mod OperationLemmas
 mod SortedLemmas
@@ -13,4 +13,4 @@ mod OrderLemmas
 mod FirstLemmas
 mod KeyedLemmas
 mod DocsLemmas
-mod TermBytesLemmas
+pub mod TermBytesLemmas

@@ -7,7 +7,7 @@ use Rattle.std.proofs.lemmas.List.{length-map}
 use Rattle.col_common.specs.declared.error.ColumnarError.TheVariants as answers
 use Rattle.col_model.specs.Refusal.{Refusal, ◌>>=◌, refuse_if, doc_order, too_large}
 use Rattle.col_rows.specs.Documents.{is_late_doc, docs_of}
-use Rattle.col_record.specs.Posted.{posted_after, AreBeside}
+use Rattle.col_record.specs.Posted.{posted_after}
 use Rattle.col_record.specs.Answers.{Answers}
 
 pub zip-push : {A B : Type 0} (ks : List A) (vs : List B) (k : A) (v : B) → length ks ≡ length vs → zip (ks ++ k ∷ []) (vs ++ v ∷ []) ≡ zip ks vs ++ (k, v) ∷ []
@@ -66,13 +66,6 @@ when_ok (Err x) b e f p = absurd (grind arith)
 -- two lists stay as long as each other
 pub both_more : {A B : Type 0} (xs xs' : List A) (ys ys' : List B) (x : A) (y : B) → length xs ≡ length ys → xs' ≡ xs ++ x ∷ [] → ys' ≡ ys ++ y ∷ [] → length xs' ≡ length ys'
 both_more xs xs' ys ys' x y e more also = omega (arith, e, ap length more, ap length also, length-append xs (x ∷ []), length-append ys (y ∷ []))
-
--- one more document beside one more value
-pub beside-more : {X : Type 0} (docs docs' : List ℕ) (vs vs' : List X) (d : ℕ) (x : X) → AreBeside docs vs → length vs < 2 ^ 32 - 1 → docs' ≡ docs ++ d ∷ [] → vs' ≡ vs ++ x ∷ [] → AreBeside docs' vs'
-beside-more docs docs' vs vs' d x h few ds xs = record {
-  many = both_more docs docs' vs vs' d x h.many ds xs;
-  few = omega (arith, few, ap length xs, length-append vs (x ∷ []));
-}
 
 -- as many values as there are beside documents
 pub as_many : {X : Type 0} (ps : List (ℕ × X)) (vs : List X) → vs ≡ map (λ p. p.1) ps → length ps ≡ length vs

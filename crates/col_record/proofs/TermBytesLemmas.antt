@@ -66,13 +66,17 @@ unfolding texts_by_id
 texts-of-ids terms [] = refl
 texts-of-ids terms (p ∷ ps) = ap (λ r. term_of terms p.1 ∷ r) (texts-of-ids terms ps)
 
--- the distinct texts have the bytes of the terms
-pub term-bytes : (terms : List (List ℕ)) (ps : List (ℕ × ℕ)) (now : List (ℕ × List ℕ)) → AreIds terms ps → texts_by_id terms ps ≡ now → min (sum_by length terms) (2 ^ 64 - 1) ≡ min (sum_by length (distinct_items (slice_cmp nat_cmp) (map (λ p. p.1) now))) (2 ^ 64 - 1)
-term-bytes terms ps now h is =
-    let same : ordered terms ≡ distinct_items (slice_cmp nat_cmp) (map (term_of terms) (ids_of ps)) =
+-- the distinct texts are the terms
+pub same-terms : (terms : List (List ℕ)) (ps : List (ℕ × ℕ)) → AreIds terms ps → ordered terms ≡ distinct_items (slice_cmp nat_cmp) (map (λ p. p.1) (texts_by_id terms ps))
+same-terms terms ps h =
     same_distinct (slice_cmp nat_cmp) nat_list_cmp_total (slice_cmp-IsAntisymmetric nat_cmp-IsAntisymmetric) terms (map (term_of terms) (ids_of ps))
     (λ q. both_true _ _
     (λ e. let k = term-found (eq_by_cmp (slice_cmp nat_cmp) q) terms e in id-found (eq_by_cmp (slice_cmp nat_cmp) q) terms k.0 (ids_of ps) k.2 (h.used k.0 k.1))
-    (texts-are-terms (eq_by_cmp (slice_cmp nat_cmp) q) terms (ids_of ps) h.known)) in
+    (texts-are-terms (eq_by_cmp (slice_cmp nat_cmp) q) terms (ids_of ps) h.known))
+    ∙ ap (distinct_items (slice_cmp nat_cmp)) (sym (texts-of-ids terms ps))
+
+-- the distinct texts have the bytes of the terms
+pub term-bytes : (terms : List (List ℕ)) (ps : List (ℕ × ℕ)) (now : List (ℕ × List ℕ)) → AreIds terms ps → texts_by_id terms ps ≡ now → min (sum_by length terms) (2 ^ 64 - 1) ≡ min (sum_by length (distinct_items (slice_cmp nat_cmp) (map (λ p. p.1) now))) (2 ^ 64 - 1)
+term-bytes terms ps now h is =
     ap (λ n. min n (2 ^ 64 - 1))
-    (sym (sum_by-IsPermutation length terms (ordered terms) (permutation-ordered terms h.differ)) ∙ ap (sum_by length) (same ∙ ap (distinct_items (slice_cmp nat_cmp)) (sym (texts-of-ids terms ps) ∙ ap (map (λ p. p.1)) is)))
+    (sym (sum_by-IsPermutation length terms (ordered terms) (permutation-ordered terms h.differ)) ∙ ap (sum_by length) (same-terms terms ps h ∙ ap (λ r. distinct_items (slice_cmp nat_cmp) (map (λ p. p.1) r)) is))

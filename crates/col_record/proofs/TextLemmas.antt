@@ -21,7 +21,7 @@ length-map : {A B : Type 0} (f : A → B) (xs : List A) → length (map f xs) �
 length-map f [] = refl
 length-map f (x ∷ xs) = ap suc (length-map f xs)
 
-same_docs : (terms : List (List ℕ)) (ps : List (ℕ × ℕ)) → docs_of (texts_by_id terms ps) ≡ docs_of ps
+pub same_docs : (terms : List (List ℕ)) (ps : List (ℕ × ℕ)) → docs_of (texts_by_id terms ps) ≡ docs_of ps
 unfolding texts_by_id
 same_docs terms [] = refl
 same_docs terms (p ∷ ps) = ap (λ r. p.0 ∷ r) (same_docs terms ps)

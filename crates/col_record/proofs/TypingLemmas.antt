@@ -1,6 +1,7 @@
 -- Types that are forced, by the entry of a column.
 use Rattle.std.proofs.Common.{◌≡◌, ◌⊎◌, ℕ, List, [], Bool, true, false, Option, Some, None, Result, Ok, Err, refl, sym, ◌∙◌, ap, inr}
 use Rattle.std.specs.Prelude.{ℤ, not, ◌||◌, cond, MatchOption, ⊤}
+use Rattle.std.proofs.lemmas.Option.{same_Some}
 use Rattle.col_common.specs.declared.error.ColumnarError.TheVariants as answers
 use Rattle.col_model.specs.ColumnType.{ColumnType}
 use Rattle.col_model.specs.ColumnType as types
@@ -109,3 +110,17 @@ forced-numbers a ts ps start t h accepted = record { many = h.many; summary = fo
     still : (start : Option ℤ) (t : NumericalType) → MatchOption start ⊤ (λ _. a ≡ StaticType kinds.I64) → is_accepted a (numerical_kind_of t) ≡ true → MatchOption start ⊤ (λ _. ◌≡◌ {A = CompatibleNumericalTypes} (StaticType t) (StaticType kinds.I64))
     still None t tied e = tt
     still (Some z) t tied e = one t (ap (λ b. is_accepted b (numerical_kind_of t)) (sym tied) ∙ e)
+
+-- ---- the type of a column holds its numbers
+
+holds : (a : CompatibleNumericalTypes) (rs : List Record) (t : ColumnType) → IsSummary a rs → accepted_type a ≡ Some t → accept_type rs t ≡ true
+unfolding IsSummary
+holds (StaticType s) rs t h e = ap (accept_type rs) (sym (same_Some (numerical_kind_of s) t e)) ∙ h
+holds (Dynamic true u) rs t h e = ap (accept_type rs) (sym (same_Some types.i64 t e)) ∙ sym h.0
+holds (Dynamic false true) rs t h e = ap (accept_type rs) (sym (same_Some types.u64 t e)) ∙ sym h.1
+holds (Dynamic false false) rs t h e = cc
+
+pub type-holds : (a : CompatibleNumericalTypes) (ts : List ColumnType) (ps : List (ℕ × ℕ)) (start : Option ℤ) (now : Entry) (t : ColumnType) → AreNumbers a ts ps start → numerical_entry a ts ps start ≡ now → entry_type categories.numerical now ≡ Some t → accept_type now.records t ≡ true
+type-holds a ts ps start now t h is e =
+    ap (λ (x : Entry). accept_type x.records t) (sym is)
+    ∙ holds a (numerical_records ts ps) t h.summary (accepted-type a ts ps start h ∙ ap (entry_type categories.numerical) is ∙ e)

@@ -17,6 +17,7 @@ pub use column_writer::ColumnWriter;
 pub use compatible_types::CompatibleNumericalTypes;
 pub use numerical_column_writer::NumericalColumnWriter;
 pub use plain_column_writer::PlainColumnWriter;
+pub use sort_order::is_past;
 pub use str_or_bytes_column_writer::StrOrBytesColumnWriter;
 pub use type_list::TypeList;
 

@@ -1,8 +1,9 @@
 //! The numbers of a column, in order of recording.
-ghost use Rattle.std.specs.Prelude.{◌≡◌, map, option_map, false};
+ghost use Rattle.std.specs.Prelude.{◌≡◌, map, option_map, true, false, Some};
 ghost use Rattle.col_index.specs.Versions.{cardinality_of};
 ghost use Rattle.col_model.specs.Category as categories;
-ghost use Rattle.col_model.specs.Recording.{no_records};
+ghost use Rattle.col_model.specs.ColumnType as types;
+ghost use Rattle.col_model.specs.Recording.{no_records, accept_type};
 ghost use Rattle.col_model.specs.Table.{number};
 ghost use Rattle.col_model.specs.Written.{entry_type};
 ghost use Rattle.col_types.specs.Kinds.{numerical_kind_of};
@@ -137,6 +138,16 @@ impl NumericalColumnWriter {
     {
         self.types.are_numerical();
         &self.column
+    }
+
+    /// That its type holds the numbers, and that those of a document aren't sorted.
+    pub fn numbers_have_its_type(&self)
+        ensures holds { (t : types.ColumnType) →
+            entry_type categories.numerical self.now ≡ Some t →
+            accept_type self.now.records t ≡ true }
+        ensures unsorted { self.now.sorts ≡ false }
+    {
+        let _ = &self.column;
     }
 
     /// The documents 0 to `num_docs` - 1 by their first number, or by falling ones.

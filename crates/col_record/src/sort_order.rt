@@ -32,8 +32,8 @@ pub(crate) fn sort_docs<K: SortKeys>(
     Ok(docs_by_number(alloc, &firsts, reversed)?)
 }
 
-// Whether a document isn't below a number.
-fn is_past(docs: &DocList, num_docs: RowId) -> bool
+/// Whether a document isn't below a number.
+pub fn is_past(docs: &DocList, num_docs: RowId) -> bool
     ensures { result ≡ list_any (λ d. nat_le num_docs d) docs.now }
 {
     let len = docs.len();

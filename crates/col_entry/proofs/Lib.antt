@@ -1,0 +1,13 @@
+pub mod OnRowLemmas
+pub mod NumberLemmas
+pub mod TextEntryLemmas
+pub mod PlainLemmas
+pub mod CheckLemmas
+pub mod StandLemmas
+pub mod EachLemmas
+pub mod FileLemmas
+pub mod WrittenLemmas
+pub mod PutColumnLemmas
+pub mod TableLemmas
+pub mod PlaceLemmas
+pub mod OutcomeLemmas

@@ -1,0 +1,3 @@
+//! Files of tables, by examples.
+
+mod tables;
