@@ -1,14 +1,14 @@
 -- What the content of columns has at a slot, and how one column's entry changes it.
-use Rattle.std.proofs.Common.{zero, suc, ◌≡◌, List, [], ◌∷◌, ◌++◌, map, Bool, true, false, cond, T, Option, Some, None, unwrap_or, refl, sym, ◌∙◌, ap, subst, string_bytes}
-use Rattle.std.specs.Prelude.{ℕ, bytes_eq, is_some, String}
+use Rattle.std.proofs.Common.{◌≡◌, List, [], ◌∷◌, ◌++◌, true, false, cond, T, Option, Some, None, unwrap_or, refl, sym, ◌∙◌, ap, string_bytes}
+use Rattle.std.specs.Prelude.{ℕ, bytes_eq, String}
 use Rattle.std.specs.declared.alloc.Global.{Global}
 use Rattle.std.specs.declared.cmp.Ordering.{Ordering}
 use Rattle.std.specs.declared.cmp.Ordering.TheVariants.{Less, Equal, Greater}
 use Rattle.std.specs.Ordering.{is_eq, nat_cmp, ordering_then, eq_by_cmp}
-use Rattle.std.specs.Cmp.{IsTotalOrder, tied_itself, nat_cmp_total}
+use Rattle.std.specs.Cmp.{tied_itself, nat_cmp_total}
 use Rattle.std.specs.Cmp.Lexicographic.{slice_cmp}
 use Rattle.std.specs.Map.{lookup}
-use Rattle.std.specs.FinMap.{find, put, is_sorted, IsAntisymmetric, nat_cmp-IsAntisymmetric, slice_cmp-IsAntisymmetric}
+use Rattle.std.specs.FinMap.{find, put, is_sorted}
 use Rattle.std.specs.FinMap.Entries.{find-put, is_sorted-put, same_entries}
 use Rattle.std.proofs.lemmas.Map.Text.{is_eq-slice_cmp}
 use Rattle.col_model.specs.Category.{Category, category_place, Slot, slot_cmp, same_slot}
@@ -16,40 +16,8 @@ use Rattle.col_model.specs.Category as categories
 use Rattle.col_model.specs.Written.{Entry, Recorded}
 use Rattle.col_model.specs.Recording.{entry_of, no_records}
 use Rattle.col_model.proofs.SlotLaws.{slots_total}
+use Rattle.col_model.proofs.OrderedColumns.{slot_cmp-antisymmetric}
 use Rattle.col_writer.specs.Contents.{Named, Columns, entries_in, under, put_all, slotted, content_of, IsNew}
-
--- ---- slots
-
-pub category_at : ℕ → Category
-category_at zero = categories.numerical
-category_at (suc zero) = categories.bytes
-category_at (suc (suc zero)) = categories.str
-category_at (suc (suc (suc zero))) = categories.bool
-category_at (suc (suc (suc (suc zero)))) = categories.ip
-category_at (suc (suc (suc (suc (suc _))))) = categories.datetime
-
-pub category_again : (c : Category) → category_at (category_place c) ≡ c
-unfolding category_at
-category_again categories.numerical = refl
-category_again categories.bytes = refl
-category_again categories.str = refl
-category_again categories.bool = refl
-category_again categories.ip = refl
-category_again categories.datetime = refl
-
-then_equal : (o p : Ordering) → ordering_then o p ≡ Equal → (o ≡ Equal) × (p ≡ Equal)
-then_equal Less p e = absurd (subst (λ r. T (is_eq r)) (sym e) tt)
-then_equal Equal p e = (refl, e)
-then_equal Greater p e = absurd (subst (λ r. T (is_eq r)) (sym e) tt)
-
--- slots that compare alike are one
-pub slots_same : IsAntisymmetric slot_cmp
-slots_same a b e =
-    let parts = then_equal (slice_cmp nat_cmp a.name b.name) (nat_cmp (category_place a.category) (category_place b.category)) e in
-    let names = slice_cmp-IsAntisymmetric nat_cmp-IsAntisymmetric a.name b.name parts.0 in
-    let places = nat_cmp-IsAntisymmetric _ _ parts.1 in
-    let kinds : a.category ≡ b.category = sym (category_again a.category) ∙ ap category_at places ∙ category_again b.category in
-    λ i. record { name = names i; category = kinds i }
 
 -- ---- look-ups
 
@@ -95,7 +63,7 @@ find-elsewhere : (q : Slot) (c : Category) (es : Named) → is_eq (nat_cmp (cate
 find-elsewhere q c [] e = refl
 find-elsewhere q c (p ∷ es) e = ap (λ b. cond b (Some p.1) (find slot_cmp q (under c es))) (apart (slice_cmp nat_cmp q.name (string_bytes p.0)) _ e) ∙ find-elsewhere q c es e
 
-find-put_all : (q : Slot) (es : List (Slot × Entry)) → find slot_cmp q (put_all es) ≡ find slot_cmp q es
+pub find-put_all : (q : Slot) (es : List (Slot × Entry)) → find slot_cmp q (put_all es) ≡ find slot_cmp q es
 unfolding put_all
 find-put_all q [] = refl
 find-put_all q (e ∷ es) = find-put slot_cmp slots_total q e.0 e.1 (put_all es) ∙ ap (cond (eq_by_cmp slot_cmp q e.0) (Some e.1)) (find-put_all q es)
@@ -153,7 +121,7 @@ find-content m q = find-put_all q _ ∙ six q (under categories.numerical m.nume
 
 -- the contents with the same look-ups are one
 pub same_content : (m : Columns) (w : Recorded) → T (is_sorted slot_cmp w) → ((q : Slot) → find slot_cmp q w ≡ entry_at q.name (entries_in m q.category)) → w ≡ content_of m
-same_content m w sorted at = same_entries slot_cmp slots_total slots_same w (content_of m) sorted (sorted-content m) (λ q. at q ∙ sym (find-content m q))
+same_content m w sorted at = same_entries slot_cmp slots_total slot_cmp-antisymmetric w (content_of m) sorted (sorted-content m) (λ q. at q ∙ sym (find-content m q))
 
 -- the columns have this entry under this slot, and else what they had
 unfoldable pub Puts : Slot → Entry → Columns → Columns → Type 0
@@ -175,14 +143,11 @@ put-found s e m found =
     by : (q : Slot) (o : Ordering) → slot_cmp q s ≡ o → cond (is_eq o) (Some e) (entry_at q.name (entries_in m q.category)) ≡ entry_at q.name (entries_in m q.category)
     by q Less p = refl
     by q Greater p = refl
-    by q Equal p = sym found ∙ ap (λ (r : Slot). entry_at r.name (entries_in m r.category)) (sym (slots_same q s p))
+    by q Equal p = sym found ∙ ap (λ (r : Slot). entry_at r.name (entries_in m r.category)) (sym (slot_cmp-antisymmetric q s p))
 
 -- the entry of a slot
 pub entry_of-found : (s : Slot) (e : Entry) (m : Columns) → entry_at s.name (entries_in m s.category) ≡ Some e → entry_of (content_of m) s ≡ e
 entry_of-found s e m found = ap (λ o. unwrap_or o no_records) (find-content m s ∙ found)
-
-pub entry_of-missing : (s : Slot) (m : Columns) → entry_at s.name (entries_in m s.category) ≡ None → entry_of (content_of m) s ≡ no_records
-entry_of-missing s m none = ap (λ o. unwrap_or o no_records) (find-content m s ∙ none)
 
 -- the entry of a slot that is new
 pub entry_of-new : (m : Columns) (c : Category) (name : List ℕ) (w : Recorded) (e : Entry) → content_of m ≡ w → IsNew c name w → e ≡ no_records → entry_of (content_of m) (record { name = name; category = c }) ≡ e

@@ -10,7 +10,7 @@ use Rattle.col_model.specs.Table.{Cell}
 use Rattle.col_model.specs.Category.{Category, category_of, Slot, slot_cmp}
 use Rattle.col_model.specs.Written.{Entry, Recorded}
 use Rattle.col_model.specs.Recording.{entry_of, no_records, recorded, content_after}
-use Rattle.col_model.specs.Refusal.{Refusal, ◌>>=◌}
+use Rattle.col_model.specs.Refusal.{◌>>=◌}
 use Rattle.col_record.specs.Answers.{Answers}
 use Rattle.col_record.specs.Entries.{recorded_entry}
 use Rattle.col_writer.specs.Columns.{each_entry}

@@ -3,3 +3,7 @@ mod RecordingLemmas
 mod EntryLemmas
 mod TypingLemmas
 mod OrderLemmas
+mod ListedLemmas
+mod ListingLemmas
+mod SortedColumnLemmas
+mod UsageLemmas

@@ -1,8 +1,7 @@
 -- The column that documents are sorted by.
-use Rattle.std.proofs.Common.{◌≡◌, List, [], ◌∷◌, Bool, Option, Some, None, Result, Ok, refl, sym, ◌∙◌, ap, subst}
+use Rattle.std.proofs.Common.{◌≡◌, List, [], Bool, Option, Some, None, Result, Ok, refl, sym, ◌∙◌, ap, subst}
 use Rattle.std.specs.Prelude.{ℕ, option_map}
 use Rattle.std.specs.Option.{option_or}
-use Rattle.std.specs.FinMap.{find}
 use Rattle.col_common.specs.declared.error.ColumnarError.{ColumnarError}
 use Rattle.col_model.specs.Category.{Category, Slot, slot_cmp}
 use Rattle.col_model.specs.Category as categories
@@ -10,7 +9,7 @@ use Rattle.col_model.specs.Written.{Entry, Recorded}
 use Rattle.col_model.specs.SortOrder.{entry_in, sorting_categories, sort_order}
 use Rattle.col_record.specs.Answers.{Gives}
 use Rattle.col_record.specs.Sorting.{sorted_docs}
-use Rattle.col_writer.specs.Contents.{Columns, entries_in, content_of}
+use Rattle.col_writer.specs.Contents.{Columns, content_of}
 use Rattle.col_writer.proofs.ContentLemmas.{entry_at, find-content}
 
 -- the order by the first entry of a name

@@ -1,15 +1,14 @@
 -- Calls that record, by the entry of their slot.
-use Rattle.std.proofs.Common.{◌≡◌, ◌⊎◌, List, [], ◌∷◌, ◌++◌, map, length, Bool, true, false, cond, T, Option, Some, None, Result, Ok, Err, unwrap_or, refl, sym, ◌∙◌, ap, subst, string_bytes, inl, inr}
-use Rattle.std.specs.Prelude.{ℕ, bytes_eq, is_some, String, nat_le, ◌-◌, ◌^◌}
-use Rattle.std.specs.declared.alloc.Global.{Global}
+use Rattle.std.proofs.Common.{◌≡◌, ◌⊎◌, List, [], ◌∷◌, ◌++◌, length, Bool, true, false, cond, Some, Result, Ok, Err, refl, sym, ◌∙◌, ap, subst, inl, inr}
+use Rattle.std.specs.Prelude.{ℕ, bytes_eq, nat_le, ◌-◌, ◌^◌}
 use Rattle.std.specs.declared.cmp.Ordering.{Ordering}
 use Rattle.std.specs.declared.cmp.Ordering.TheVariants.{Less, Equal, Greater}
-use Rattle.std.specs.Ordering.{is_eq, nat_cmp, ordering_then, eq_by_cmp}
+use Rattle.std.specs.Ordering.{is_eq, nat_cmp, ordering_then}
 use Rattle.std.specs.Cmp.{eq_by_cmp_equiv}
 use Rattle.std.proofs.lemmas.Cmp.{nat_list_cmp_total}
 use Rattle.std.specs.Cmp.Lexicographic.{slice_cmp}
 use Rattle.std.specs.Map.{update}
-use Rattle.std.specs.FinMap.{find, put, nat_cmp-IsAntisymmetric}
+use Rattle.std.specs.FinMap.{put, nat_cmp-IsAntisymmetric}
 use Rattle.std.proofs.lemmas.Map.Text.{is_eq-slice_cmp}
 use Rattle.col_common.specs.declared.error.ColumnarError.{ColumnarError}
 use Rattle.col_common.specs.declared.error.ColumnarError.TheVariants as answers
@@ -21,13 +20,14 @@ use Rattle.col_types.specs.declared.numerical_value.NumericalValue.{NumericalVal
 use Rattle.col_types.specs.declared.numerical_value.NumericalValue.TheVariants.{I64, U64}
 use Rattle.col_model.specs.Category.{Category, category_place, Slot, slot_of, slot_cmp, same_slot}
 use Rattle.col_model.specs.Category as categories
-use Rattle.col_model.specs.Written.{Record, Entry, Recorded}
-use Rattle.col_model.specs.Recording.{entry_of, no_records, recorded, content_after, forces_other, is_late}
+use Rattle.col_model.specs.Written.{Entry, Recorded}
+use Rattle.col_model.specs.Recording.{entry_of, recorded, content_after, forces_other, is_late}
 use Rattle.col_model.specs.Refusal.{Refusal, ◌>>=◌, refuse_if, forced_type, doc_order, too_large}
-use Rattle.col_record.specs.Answers.{Answers, Refuses, answer_of}
+use Rattle.col_record.specs.Answers.{Answers, Refuses}
 use Rattle.col_record.specs.Entries.{recorded_entry}
 use Rattle.col_writer.specs.Contents.{Named, Columns, entries_in, with_entries, content_of}
-use Rattle.col_writer.proofs.ContentLemmas.{entry_at, apart, Puts, content-put, put-found, category_at, category_again}
+use Rattle.col_writer.proofs.ContentLemmas.{entry_at, apart, Puts, content-put, put-found}
+use Rattle.col_model.proofs.OrderedColumns.{category_at, place-category}
 
 -- ---- one category changes
 
@@ -95,7 +95,7 @@ puts-with m c es name e up q =
     by Less p = sym (ap (λ b. cond b (Some e) (entry_at q.name (entries_in m q.category))) (apart (slice_cmp nat_cmp q.name name) Less refl))
     by Greater p = sym (ap (λ b. cond b (Some e) (entry_at q.name (entries_in m q.category))) (apart (slice_cmp nat_cmp q.name name) Greater refl))
     by Equal p =
-        let kinds : q.category ≡ c = sym (category_again q.category) ∙ ap category_at (nat_cmp-IsAntisymmetric _ _ p) ∙ category_again c in
+        let kinds : q.category ≡ c = sym (place-category q.category) ∙ ap category_at (nat_cmp-IsAntisymmetric _ _ p) ∙ place-category c in
         up q.name
         ∙ ap (λ b. cond b (Some e) (entry_at q.name (entries_in m c))) (sym (kept (slice_cmp nat_cmp q.name name) ∙ is_eq-turned q.name name))
         ∙ ap (λ k. cond (is_eq (ordering_then (slice_cmp nat_cmp q.name name) Equal)) (Some e) (entry_at q.name (entries_in m k))) (sym kinds)

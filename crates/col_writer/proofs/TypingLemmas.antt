@@ -1,5 +1,5 @@
 -- Calls that force a type, by the entry of their slot.
-use Rattle.std.proofs.Common.{◌≡◌, ℕ, List, Bool, true, false, Option, Some, Result, Ok, Err, refl, sym, ◌∙◌, ap, subst, string_bytes}
+use Rattle.std.proofs.Common.{◌≡◌, ℕ, List, Bool, true, false, Some, Result, Ok, refl, sym, ◌∙◌, ap, subst}
 use Rattle.std.specs.Prelude.{ℤ, bytes_eq, String, option_map}
 use Rattle.std.specs.declared.alloc.Global.{Global}
 use Rattle.std.specs.Map.{update}
@@ -17,7 +17,7 @@ use Rattle.col_record.specs.Entries.{typed_entry, tied_entry}
 use Rattle.col_writer.specs.Columns.{each_entry}
 use Rattle.col_writer.specs.Contents.{Named, Columns, entries_in, with_entries, content_of, IsNew}
 use Rattle.col_writer.proofs.ContentLemmas.{entry_at, entry_of-found, entry_of-new}
-use Rattle.col_writer.proofs.RecordingLemmas.{Lifts, UpdatesName, puts-with, lifted-found, lifted-new, lifted-refused}
+use Rattle.col_writer.proofs.RecordingLemmas.{Lifts, UpdatesName, puts-with, lifted-found, lifted-new}
 use Rattle.col_writer.proofs.EntryLemmas.{Holds, column_at, each-found, each-updates}
 
 -- ---- any call at a slot
@@ -44,13 +44,6 @@ call-new {X} m c f old new now name key w v call after h law none fresh is_name 
     let P : Recorded → Type 0 = λ x. Answers x (content_of (with_entries m c (each_entry f new))) (Ok tt) (content_after x call) in
     subst P h.is (lifted-new s m (with_entries m c (each_entry f new)) (f w) (f v) _ _
     (puts-with m c (each_entry f new) name (f v) (subst U (sym h.these) (each-updates f name v old new (subst K is_name up)))) answer
-    (law (content_of m) (f w) (entry_of-new m c name now (f w) h.is none fresh)))
-
-pub call-refused : {X : Type 0} (m : Columns) (c : Category) (f : X → Entry) (old : List (String Global × X)) (now : Recorded) (name : List ℕ) (w v : X) (r : Result (Unit {0}) ColumnarError) (x y : ColumnarError) (call : Call) (after : Entry → Result Entry Refusal) → Holds m c f old now → Follows (record { name = name; category = c }) call after → IsNew c name now → f w ≡ no_records → r ≡ Err x → x ≡ y → Answers (f w) (f v) (Err y) (after (f w)) → Answers now now r (content_after now call)
-call-refused m c f old now name w v r x y call after h law none fresh is_err is_same answer =
-    let s : Slot = record { name = name; category = c } in
-    let P : Recorded → Type 0 = λ z. Answers z z r (content_after z call) in
-    subst P h.is (lifted-refused s (content_of m) (f w) (f v) r x y _ _ is_err is_same answer
     (law (content_of m) (f w) (entry_of-new m c name now (f w) h.is none fresh)))
 
 -- ---- a forced type

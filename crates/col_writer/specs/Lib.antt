@@ -8,3 +8,5 @@ pub use Rattle.col_record.specs.Answers
 pub use Rattle.col_record.specs.Values
 pub mod Contents
 pub mod Columns
+pub mod Listed
+pub mod Usage

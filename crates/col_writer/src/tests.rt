@@ -1,5 +1,7 @@
 //! What a writer records, by examples.
 
+mod files;
+
 use crate::ColumnarWriter;
 use col_common::{ColumnarError, DateTime, DocId, Ipv6Addr};
 use col_types::{ColumnType, NumericalValue};
@@ -104,5 +106,26 @@ fn a_type_that_does_not_hold_the_numbers_is_refused(rt: HostRuntime) -> Result<(
     writer.record_numerical(0, "n", NumericalValue::I64(-1))?;
     let forced = writer.record_column_type("n", ColumnType::U64, false);
     assert_eq!(&rt; forced, Err(ColumnarError::ForcedType));
+    Ok(())
+}
+
+// Besides those words: hello once more, two numbers, a bool, an address and a point in time.
+fn of_all_kinds(alloc: Global) -> Result<ColumnarWriter, ColumnarError> {
+    let mut writer = words(alloc)?;
+    writer.record_str(2, "word", "hello")?;
+    writer.record_numerical(0, "size", NumericalValue::I64(5))?;
+    writer.record_numerical(1, "size", NumericalValue::U64(6))?;
+    writer.record_bool(0, "flag", true)?;
+    writer.record_ip_addr(0, "ip", Ipv6Addr::from_bits(1))?;
+    writer.record_datetime(0, "time", DateTime::from_timestamp_nanos(-5))?;
+    Ok(writer)
+}
+
+#[test]
+fn names_records_and_distinct_texts_take_memory(rt: HostRuntime) -> Result<(), Fail> {
+    let writer = of_all_kinds(rt.alloc())?;
+    // word of bytes 4 + 8 + 3, word of str 4 + 3 * 8 + 10, other 5 + 8 + 3, size 4 + 2 * 12,
+    // flag 4 + 5, ip 2 + 20, time 4 + 12.
+    assert_eq!(rt; writer.mem_usage(), 144);
     Ok(())
 }

@@ -12,6 +12,8 @@ ghost use Rattle.col_record.specs.Values.{value_type, time_cell};
 ghost use Rattle.col_writer.specs.Contents.{IsNew};
 
 mod column_types;
+mod mem_usage;
+mod serialize;
 mod sort_order;
 
 use col_common::{ColumnarError, DateTime, DocId, Ipv6Addr};
@@ -41,7 +43,8 @@ impl Model for ColumnarWriter {
 
     ghost Value = { Recorded };
 
-    ghost view = { λ w. content_of (columns_of w.numerical w.bytes w.strs w.bools w.ip_addrs w.datetimes) };
+    ghost view = { λ w. content_of
+        (columns_of w.numerical w.bytes w.strs w.bools w.ip_addrs w.datetimes) };
 }
 
 impl ColumnarWriter {

@@ -1,17 +1,14 @@
-use Rattle.std.proofs.Common.{rules, ◌∙◌, ap, sym, refl, ◌≡◌, Some, None, string_bytes}
+use Rattle.std.proofs.Common.{refl, Some, string_bytes}
 use Rattle.std.proofs.lemmas.Result.{err_from_is_err_and}
 use Rattle.std.proofs.lemmas.Map.Text.{hash_map_updates_text}
-use Rattle.std.specs.FinMap.{find}
 use Rattle.col_model.specs.ColumnType as types
-use Rattle.col_model.specs.Table.{number, text}
+use Rattle.col_model.specs.Table.{text}
 use Rattle.col_model.specs.Category.{Slot, slot_cmp}
 use Rattle.col_model.specs.Category as categories
-use Rattle.col_writer.specs.Contents.{content_of, IsNew}
-use Rattle.col_types.specs.Cells.{bool_cell, unsigned_cell}
-use Rattle.col_record.specs.Columns.{text_entry, plain_entry}
+use Rattle.col_record.specs.Columns.{text_entry}
 use Rattle.col_writer.specs.Columns.{columns_of}
-use Rattle.col_writer.proofs.EntryLemmas.{record-found, record-new, record-refused, new-name, column_at}
-use Rattle.col_record.proofs.EntryLemmas.{text-answers, plain-answers, text-new, plain-new}
+use Rattle.col_writer.proofs.EntryLemmas.{record-new, record-refused}
+use Rattle.col_record.proofs.EntryLemmas.{text-answers, text-new}
 use Rattle.col_writer.proofs.writer.ColumnarWriter.add_bytes.Goals as goal
 
 pub returns-in_err-record_bytes : goal.returns-in_err-record_bytes

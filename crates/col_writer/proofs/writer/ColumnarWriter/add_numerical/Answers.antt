@@ -1,7 +1,6 @@
-use Rattle.std.proofs.Common.{rules, ◌∙◌, ap, sym, subst, ◌≡◌, Some, None, Ok, refl, string_bytes}
+use Rattle.std.proofs.Common.{subst, Some, Ok, string_bytes}
 use Rattle.std.proofs.lemmas.Result.{err_from_is_err_and}
 use Rattle.std.proofs.lemmas.Map.Text.{hash_map_updates_text}
-use Rattle.std.specs.HashMap.{HashMap}
 use Rattle.col_model.specs.Table.{number}
 use Rattle.col_model.specs.Category as categories
 use Rattle.col_model.specs.Written.{Recorded}
@@ -9,9 +8,9 @@ use Rattle.col_model.specs.Recording.{recorded, content_after}
 use Rattle.col_record.specs.Answers.{Answers}
 use Rattle.col_types.specs.Numbers.{number_of}
 use Rattle.col_record.specs.Values.{value_type}
-use Rattle.col_writer.specs.Contents.{content_of, with_entries, Named}
+use Rattle.col_writer.specs.Contents.{content_of, with_entries}
 use Rattle.col_writer.specs.Columns.{columns_of}
-use Rattle.col_writer.proofs.ContentLemmas.{entry_at, entry_of-new, Puts}
+use Rattle.col_writer.proofs.ContentLemmas.{entry_of-new, Puts}
 use Rattle.col_writer.proofs.RecordingLemmas.{lifted-new, lifted-refused, puts-with, updates, number-lifts}
 use Rattle.col_writer.proofs.writer.ColumnarWriter.add_numerical.Goals as goal
 

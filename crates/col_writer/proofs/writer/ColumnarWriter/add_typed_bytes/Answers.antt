@@ -1,26 +1,15 @@
-use Rattle.std.proofs.Common.{rules, ◌∙◌, ap, sym, subst, refl, ◌≡◌, Some, None, Ok, true, false, string_bytes}
-use Rattle.std.proofs.lemmas.Result.{err_from_is_err_and}
+use Rattle.std.proofs.Common.{refl, Some, string_bytes}
 use Rattle.std.proofs.lemmas.Map.Text.{hash_map_updates_text}
-use Rattle.std.specs.FinMap.{find}
 use Rattle.col_model.specs.ColumnType as types
-use Rattle.col_model.specs.Table.{number, text}
 use Rattle.col_model.specs.Category.{Slot, slot_cmp}
 use Rattle.col_model.specs.Category as categories
-use Rattle.col_model.specs.Written.{Recorded}
-use Rattle.col_model.specs.Recording.{typed, content_after, entry_of}
-use Rattle.col_record.specs.Answers.{Answers}
+use Rattle.col_model.specs.Recording.{typed}
 use Rattle.col_record.specs.Entries.{typed_entry}
-use Rattle.col_types.specs.Kinds.{numerical_kind_of}
-use Rattle.col_writer.specs.Contents.{content_of, with_entries}
-use Rattle.col_types.specs.Cells.{bool_cell, unsigned_cell}
-use Rattle.col_record.specs.Columns.{text_entry, plain_entry}
+use Rattle.col_record.specs.Columns.{text_entry}
 use Rattle.col_writer.specs.Columns.{columns_of}
-use Rattle.col_writer.proofs.ContentLemmas.{entry_at, entry_of-found, entry_of-new, find-content, Puts}
-use Rattle.col_writer.proofs.RecordingLemmas.{puts-with, updates, lifted-found, lifted-new, lifted-refused}
-use Rattle.col_writer.proofs.EntryLemmas.{new-name}
-use Rattle.col_record.proofs.EntryLemmas.{text-new, plain-new}
-use Rattle.col_writer.proofs.TypingLemmas.{call-found, call-new, typed-follows}
-use Rattle.col_record.proofs.TypingLemmas.{text-typed, plain-typed, number-kind}
+use Rattle.col_record.proofs.EntryLemmas.{text-new}
+use Rattle.col_writer.proofs.TypingLemmas.{call-new, typed-follows}
+use Rattle.col_record.proofs.TypingLemmas.{text-typed}
 use Rattle.col_writer.proofs.writer.ColumnarWriter.add_typed_bytes.Goals as goal
 
 pub returns : goal.returns

@@ -1,6 +1,5 @@
-use Rattle.std.proofs.Common.{◌∙◌, ap}
+use Rattle.std.proofs.Common.{◌∙◌}
 use Rattle.col_model.specs.ColumnType as types
-use Rattle.col_model.specs.Table.{number}
 use Rattle.col_record.specs.Columns.{text_entry, plain_entry}
 use Rattle.col_writer.specs.Columns.{each_entry}
 use Rattle.col_types.specs.Cells.{bool_cell, unsigned_cell}

@@ -1,4 +1,4 @@
-use Rattle.std.proofs.Common.{rules, ◌∙◌, ap, sym, subst, ◌≡◌, Some, None, refl}
+use Rattle.std.proofs.Common.{rules, ◌∙◌, ap, sym, subst, ◌≡◌, Some, None}
 use Rattle.std.proofs.lemmas.Map.Text.{hash_map_updates_text}
 use Rattle.col_model.specs.Table.{number}
 use Rattle.col_model.specs.Category.{Slot, slot_cmp}

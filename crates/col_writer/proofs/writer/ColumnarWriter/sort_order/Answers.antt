@@ -1,5 +1,4 @@
-use Rattle.std.proofs.Common.{◌∙◌, ap, sym, ◌≡◌, None, Some}
-use Rattle.std.specs.Prelude.{option_map}
+use Rattle.std.proofs.Common.{sym}
 use Rattle.col_model.specs.ColumnType as types
 use Rattle.col_record.specs.Columns.{text_entry, plain_entry}
 use Rattle.col_record.specs.Values.{time_cell}

@@ -1,0 +1,5 @@
+use Rattle.col_writer.proofs.ListingLemmas.{names-apart}
+use Rattle.col_writer.proofs.writer.serialize.names_differ.Goals as goal
+
+pub returns : goal.returns
+returns g c = names-apart c.args.columns.now.entries c.iter.ensures.unique
