@@ -1,0 +1,6 @@
+mod PartLemmas
+mod WordLemmas
+mod FindLemmas
+mod PieceLemmas
+mod DraftLemmas
+mod TakeLemmas

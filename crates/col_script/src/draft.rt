@@ -1,0 +1,141 @@
+//! What the lines of a script say so far.
+ghost use Rattle.std.specs.Prelude.{◌≡◌, ◌++◌, Some, IfOk, OnOk, map, [], ◌∷◌};
+ghost use Rattle.std.specs.Option.{option_to_list};
+ghost use Rattle.col_model.specs.Script as model;
+ghost use Rattle.col_find.specs.Finds.{find_of};
+ghost use Rattle.col_script.specs.Lines.{line_of, call_of, required_of};
+ghost use Rattle.col_script.specs.Parts.{address_of};
+ghost use Rattle.col_script.specs.Scripts.{no_parts, parts_of, summary_of, summary_with, Takes, TakesPiece};
+
+use crate::line::{Call, Line, parse_line};
+use crate::script::Script;
+use crate::segment::Segment;
+use col_common::RowAddr;
+use col_find::Find;
+use col_types::ColumnType;
+use std::alloc::{AllocError, Global};
+
+/// What the lines so far say.
+#[derive(Drop)]
+pub struct Draft {
+    earlier: Vec<Segment>,
+    last: Option<Segment>,
+    required: Vec<(String, ColumnType)>,
+    order: Option<Vec<RowAddr>>,
+    finds: Vec<Find>,
+}
+
+impl Draft {
+    /// Before any line.
+    pub fn new(alloc: Global) -> Draft
+        ensures { parts_of result ≡ no_parts }
+    {
+        Draft {
+            earlier: Vec::new(alloc),
+            last: None,
+            required: Vec::new(alloc),
+            order: None,
+            finds: Vec::new(alloc),
+        }
+    }
+
+    /// Takes the line that a piece spells, or tells that no script has it here.
+    pub fn take_piece(&mut self, alloc: Global, piece: &[u8]) -> Result<bool, AllocError>
+        ensures { IfOk result (TakesPiece piece.now self.old self.new) }
+    {
+        if piece.is_empty() {
+            return Ok(true);
+        }
+        match parse_line(alloc, piece)? {
+            Some(line) => self.take(alloc, line),
+            None => Ok(false),
+        }
+    }
+
+    fn take(&mut self, alloc: Global, line: Line) -> Result<bool, AllocError>
+        ensures { IfOk result (Takes (line_of line) self.old self.new) }
+    {
+        match line {
+            Line::Segment(num_docs) => self.take_segment(alloc, num_docs),
+            Line::Record(call) => self.take_call(call),
+            Line::Require { name, column_type } => self.take_required(name, column_type),
+            Line::Order(rows) => Ok(self.take_order(rows)),
+            Line::Lookup(find) => self.take_find(find),
+        }
+    }
+
+    fn take_segment(&mut self, alloc: Global, num_docs: u32) -> Result<bool, AllocError>
+        ensures { IfOk result (Takes (model.segment num_docs) self.old self.new) }
+    {
+        let last = self.last.replace(Segment::new(alloc, num_docs));
+        add_last(&mut self.earlier, last)?;
+        Ok(true)
+    }
+
+    fn take_call(&mut self, call: Call) -> Result<bool, AllocError>
+        ensures { IfOk result (Takes (model.call (call_of call)) self.old self.new) }
+    {
+        let Some(segment) = &mut self.last else {
+            return Ok(false);
+        };
+        segment.record(&call)?;
+        Ok(true)
+    }
+
+    fn take_required(&mut self, name: String, column_type: ColumnType) -> Result<bool, AllocError>
+        ensures { IfOk result
+            (Takes (model.require (required_of (name, column_type))) self.old self.new) }
+    {
+        self.required.push((name, column_type))?;
+        Ok(true)
+    }
+
+    fn take_order(&mut self, rows: Vec<RowAddr>) -> bool
+        ensures { Takes (model.order (map address_of rows.items)) self.old self.new result }
+    {
+        if self.order.is_some() {
+            return false;
+        }
+        self.order = Some(rows);
+        true
+    }
+
+    fn take_find(&mut self, find: Find) -> Result<bool, AllocError>
+        ensures { IfOk result (Takes (model.lookup (find_of find)) self.old self.new) }
+    {
+        self.finds.push(find)?;
+        Ok(true)
+    }
+
+    /// The script, if no lines are behind the draft.
+    pub fn finish(self) -> Result<Script, AllocError>
+        ensures { IfOk result
+            (λ script. summary_with (parts_of self) [] ≡ Some (summary_of script)) }
+    {
+        let Draft {
+            mut earlier,
+            last,
+            required,
+            order,
+            finds,
+        } = self;
+        add_last(&mut earlier, last)?;
+        Ok(Script {
+            segments: earlier,
+            required,
+            order,
+            finds,
+        })
+    }
+}
+
+// Adds the last segment, if there is one.
+fn add_last(segments: &mut Vec<Segment>, last: Option<Segment>) -> Result<(), AllocError>
+    ensures { OnOk result (segments.new.items ≡ segments.old.items ++ option_to_list last) }
+{
+    let Some(segment) = last else {
+        return Ok(());
+    };
+    segments.push(segment)?;
+    Ok(())
+}

@@ -1,0 +1,3 @@
+//! Lines and scripts by examples.
+mod lines;
+mod scripts;
