@@ -1,0 +1,12 @@
+mod SetLemmas
+mod NoteLemmas
+mod TakeLemmas
+mod PickLemmas
+mod KnownLemmas
+mod TermLemmas
+mod RowLemmas
+mod OrdinalLemmas
+mod DictionaryLemmas
+mod ContentLemmas
+mod WritingLemmas
+pub mod CallerLemmas

@@ -1,0 +1,4 @@
+pub mod Noting
+pub mod Merged
+pub mod Taking
+pub mod Writing
