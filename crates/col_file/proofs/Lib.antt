@@ -4,3 +4,5 @@ mod NameLemmas
 mod ListLemmas
 mod EndLemmas
 pub mod PartLemmas
+mod OpenedLemmas
+mod TypeLemmas

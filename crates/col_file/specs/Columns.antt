@@ -1,7 +1,8 @@
 -- Columns that are opened by their handles.
 use Rattle.std.specs.Prelude.{◌≡◌, ◌-◌, ℕ, List, Option, slice_range}
 use Rattle.col_common.specs.Reading.{◌>>=◌, only_if}
-use Rattle.col_dynamic.specs.Dynamic.{type_of, content_of}
+use Rattle.col_column.specs.Columns.{row_count}
+use Rattle.col_dynamic.specs.Dynamic.{type_of, content_of, dynamic_shape, value_count}
 use Rattle.col_dynamic.specs.declared.dynamic_column.DynamicColumn.{DynamicColumn}
 use Rattle.col_model.specs.Column.{column}
 use Rattle.col_model.specs.ColumnType.{ColumnType}
@@ -24,6 +25,11 @@ content_at k h bytes = bytes_at k h bytes >>= λ part.
 pub record IsColumn (t : ColumnType) (content : Content) (c : DynamicColumn) : Type 0 where
   pub kind : type_of c ≡ t
   pub cells : content_of c ≡ content
+
+-- a column of this type and of so many rows
+pub record IsTyped (t : ColumnType) (n : ℕ) (c : DynamicColumn) : Type 0 where
+  pub kind : type_of c ≡ t
+  pub rows : row_count (dynamic_shape c) (value_count c) ≡ n
 
 -- the bytes of the handle's column with this content, and those of its dictionary apart
 abbrev pub IsUsage : Handle → Content → Usage → Type 0

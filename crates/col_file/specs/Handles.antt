@@ -1,5 +1,5 @@
 -- Where a column stands in a file.
-use Rattle.std.specs.Prelude.{ℕ, ◌==◌, ◌&&◌, nat_eq, Bool, List, [], ◌∷◌, ◌++◌, filter, bytes_eq}
+use Rattle.std.specs.Prelude.{ℕ, ◌==◌, ◌&&◌, nat_eq, Bool, List, [], ◌∷◌, ◌++◌, Option, filter, find, bytes_eq}
 use Rattle.std.specs.List.{list_any, starts_with}
 use Rattle.col_model.specs.ColumnType.{ColumnType, same_type}
 use Rattle.col_model.specs.Keys.{Entry, FileKeys}
@@ -30,6 +30,11 @@ listed e = (e.key.name, handle_of e)
 -- the entries of a name, in order
 abbrev pub entries_named : List ℕ → List Entry → List Entry
 entries_named name es = filter (λ e. bytes_eq e.key.name name) es
+
+-- the entry of a name and a type
+abbrev pub entry_typed : List ℕ → ColumnType → List Entry → Option Entry
+entry_typed name t es =
+    find (λ e. bytes_eq e.key.name name && same_type e.key.column_type t) es
 
 -- the byte between the parts of a path
 abbrev pub separator : ℕ

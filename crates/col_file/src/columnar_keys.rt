@@ -1,17 +1,20 @@
 //! What the end of a file says, and its columns by their names.
-ghost use Rattle.std.specs.Prelude.{◌≡◌, ◌<◌, ◌≤◌, ◌^◌, Some, true, length, map, option_map, slice_get, slice_range, string_bytes, bytes_eq, nat_eq, IfOk, IfErr};
+ghost use Rattle.std.specs.Prelude.{◌≡◌, ◌<◌, ◌≤◌, ◌^◌, Some, true, length, map, option_and_then, option_map, slice_get, slice_range, string_bytes, bytes_eq, nat_eq, IfOk, IfErr};
 ghost use Rattle.std.specs.List.{list_any, starts_with};
 ghost use Rattle.col_index.specs.Versions.{version_number};
 ghost use Rattle.col_keys.specs.KeyTables.{all_keyed, keys_seen};
 ghost use Rattle.col_model.specs.Keys.{entries_from, total_length, are_keys};
 ghost use Rattle.col_file.specs.Entries.{entry_of};
-ghost use Rattle.col_file.specs.Handles.{handle_of, listed, is_at, is_entry};
+ghost use Rattle.col_model.specs.ColumnType.{same_type};
+ghost use Rattle.col_types.specs.Kinds.{kind_of};
+ghost use Rattle.col_file.specs.Handles.{handle_of, listed, is_at, is_entry, entry_typed};
 ghost use Rattle.col_file.specs.Runs.{IsRun};
 
 use crate::column_entry::ColumnEntry;
 use crate::dynamic_column_handle::DynamicColumnHandle;
 use crate::entries::entries_of;
 use col_common::{ColumnarError, RowId};
+use col_dynamic::ColumnType;
 use col_index::Version;
 use col_keys::KeyedLength;
 use std::alloc::Global;
@@ -125,6 +128,30 @@ impl ColumnarKeys {
         let start = columns.partition_point(|entry| entry.compare_name(name).is_lt());
         let end = columns.partition_point(|entry| entry.compare_name(name).is_le());
         start..end
+    }
+
+    // The place of the column of a name and a type, by halves.
+    pub(crate) fn place_of(&self, name: &str, column_type: ColumnType) -> Option<usize>
+        ensures { option_and_then (slice_get self.now.entries) result
+            ≡ entry_typed name.now (kind_of column_type) self.now.entries }
+    {
+        let places = self.named(name);
+        for at in places.start..places.end {
+            if self.is_of(at, column_type) {
+                return Some(at);
+            }
+        }
+        None
+    }
+
+    // Whether the column at a place is of a type.
+    fn is_of(&self, at: usize, column_type: ColumnType) -> bool
+        requires { at < length self.now.entries }
+        ensures { option_map (λ e. same_type e.key.column_type (kind_of column_type))
+            (slice_get self.now.entries at) ≡ Some result }
+    {
+        let entry = &self.columns[at];
+        entry.key.column_type.to_code() == column_type.to_code()
     }
 
     // The places of the columns whose names begin so, by halves.

@@ -1,9 +1,9 @@
 //! Opens the columns of handles.
-ghost use Rattle.std.specs.Prelude.{◌≡◌, false, Err};
+ghost use Rattle.std.specs.Prelude.{◌≡◌, false, Err, IfOk};
 ghost use Rattle.col_dynamic.specs.Dynamic.{type_of, content_of};
 ghost use Rattle.col_open.specs.Contents.{usage_of};
 ghost use Rattle.col_open.specs.Lenient.{IsInPlaceOf};
-ghost use Rattle.col_file.specs.Columns.{content_at, IsColumn, IsUsage};
+ghost use Rattle.col_file.specs.Columns.{content_at, IsColumn, IsTyped, IsUsage};
 ghost use Rattle.col_file.specs.Files.{Answers};
 ghost use Rattle.col_file.specs.Handles.{is_entry};
 ghost use Rattle.col_file.specs.Readers.{Reads};
@@ -27,6 +27,8 @@ impl DynamicColumnHandle {
             → result ≡ Err ColumnarError.InvalidData }
         ensures answer { Answers (IsColumn self.now.column_type) reader.old.file reader.new.file
             result (content_at reader.old.keys self.now) }
+        // Also where the file doesn't tell its bytes.
+        ensures typed { IfOk result (IsTyped self.now.column_type reader.old.keys.row_count) }
         ensures kept { Reads 1 reader.old reader.new }
     {
         let bytes = reader.read_column(alloc, self)?;

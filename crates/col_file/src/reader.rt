@@ -1,9 +1,10 @@
 //! Open files.
-ghost use Rattle.std.specs.Prelude.{◌≡◌, false, length, map, string_bytes, Err, IfOk, IfErr};
+ghost use Rattle.std.specs.Prelude.{◌≡◌, false, length, map, option_and_then, slice_get, string_bytes, Err, IfOk, IfErr};
 ghost use Rattle.col_index.specs.Versions.{version_number};
 ghost use Rattle.col_file.specs.Columns.{bytes_at};
 ghost use Rattle.col_file.specs.Files.{seen_by, Answers};
-ghost use Rattle.col_file.specs.Handles.{handle_of, listed, is_entry, entries_named, entries_below};
+ghost use Rattle.col_file.specs.Handles.{handle_of, listed, is_entry, entry_typed, entries_named, entries_below};
+ghost use Rattle.col_types.specs.Kinds.{kind_of};
 ghost use Rattle.col_file.specs.Readers.{IsRead, Reads, Opens};
 
 use crate::column_iter::ColumnIter;
@@ -13,6 +14,7 @@ use crate::path::front_of_path;
 use crate::reading::{read_keys, read_part};
 use bytes::Bytes;
 use col_common::{ColumnarError, FileHandle, RowId};
+use col_dynamic::ColumnType;
 use col_index::Version;
 use std::alloc::Global;
 use std::fmt;
@@ -104,6 +106,14 @@ impl<F: FileHandle> ColumnarReader<F> {
         ensures err { IfErr result (λ e. e ≡ ColumnarError.OutOfMemory) }
     {
         self.keys.list(alloc)
+    }
+
+    /// The place, among all columns, of the column of a name and a type. It is found by halves.
+    pub fn column_place(&self, column_name: &str, column_type: ColumnType) -> Option<usize>
+        ensures { option_and_then (slice_get self.now.keys.entries) result
+            ≡ entry_typed column_name.now (kind_of column_type) self.now.keys.entries }
+    {
+        self.keys.place_of(column_name, column_type)
     }
 
     /// The columns of a name, by the type's code. There may be several, of different types.

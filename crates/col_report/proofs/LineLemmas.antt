@@ -1,0 +1,58 @@
+-- The lines of columns.
+use Rattle.std.proofs.Common.{◌≡◌, ◌∙◌, ℕ, zero, suc, ◌+◌, ◌≤◌, min, Bool, true, false, List, [], ◌∷◌, map, length, sum, take, drop, replicate, refl, sym, ap, arith, length-take, length-drop}
+use Rattle.std.specs.List.{enumerate_from}
+use Rattle.std.proofs.lemmas.List.Sums.{sum_by-cons}
+use Rattle.serde_json.specs.Data.{Data}
+use Rattle.col_model.specs.Dictionary.{cut}
+use Rattle.col_model.specs.Index.{Shape, empty_shape, full_shape, optional_shape, multivalued_shape}
+use Rattle.col_model.specs.Limits.{cell_count}
+use Rattle.col_model.specs.Report.{column_line, column_lines, row_lines}
+use Rattle.col_model.specs.Table.{Cell, Column}
+use Rattle.col_column.specs.Columns.{IsCounted, rows_by}
+use Rattle.col_report.specs.Printed.{Prints, filled_lines}
+use Rattle.col_report.proofs.RowLemmas.{Prints-then}
+
+sum-cons : (k : ℕ) (ks : List ℕ) → sum (k ∷ ks) ≡ k + sum ks
+sum-cons k ks = sum_by-cons (λ k. k) k ks
+
+count-cons : (row : List Cell) (rows : List (List Cell)) → cell_count (row ∷ rows) ≡ length row + cell_count rows
+count-cons row rows = sum_by-cons length row rows
+
+length-cells : {T : Type 0} (cell : T → Cell) (xs : List T) → length (map cell xs) ≡ length xs
+length-cells cell [] = refl
+length-cells cell (x ∷ xs) = ap suc (length-cells cell xs)
+
+-- a list that is cut whole has as many cells as values
+cut-counted : {T : Type 0} (cell : T → Cell) (ks : List ℕ) (xs : List T) → sum ks ≡ length xs → length xs ≡ cell_count (map (map cell) (cut ks xs))
+unfolding cut
+cut-counted cell [] xs e = sym e
+cut-counted cell (k ∷ ks) xs e =
+    let s = sum-cons k ks in
+    let fits : k ≤ length xs = omega arith in
+    let front : length (take k xs) ≡ k = length-take k xs ∙ (let f : min k (length xs) ≡ k = omega arith in f) in
+    let rest = cut-counted cell ks (drop k xs) (let d = length-drop k xs in omega arith) in
+    omega (arith, count-cons (map cell (take k xs)) (map (map cell) (cut ks (drop k xs))), length-cells cell (take k xs), front, rest, length-drop k xs, s, e)
+
+sum-zeros : (m : ℕ) → sum (replicate m 0) ≡ 0
+sum-zeros zero = refl
+sum-zeros (suc m) = sum-cons 0 (replicate m 0) ∙ (let none : 0 + sum (replicate m 0) ≡ 0 = omega (arith, sum-zeros m) in none)
+
+sum-ones : (m : ℕ) → sum (replicate m 1) ≡ m
+sum-ones zero = refl
+sum-ones (suc m) = sum-cons 1 (replicate m 1) ∙ (let more : 1 + sum (replicate m 1) ≡ suc m = omega (arith, sum-ones m) in more)
+
+pub cells-counted : {T : Type 0} (cell : T → Cell) (s : Shape) (xs : List T) → IsCounted s (length xs) → length xs ≡ cell_count (map (map cell) (rows_by s xs))
+unfolding rows_by
+cells-counted cell (empty_shape m) xs none = cut-counted cell (replicate m 0) xs (sum-zeros m ∙ sym none)
+cells-counted cell full_shape xs any = cut-counted cell (replicate (length xs) 1) xs (sum-ones (length xs))
+cells-counted cell (optional_shape cs) xs all = cut-counted cell cs xs all
+cells-counted cell (multivalued_shape cs) xs all = cut-counted cell cs xs all
+
+-- the line of a column alone, in a short report
+pub column-short : (a b : List ℕ) (c : Column) (line : Data) (short : Bool) → short ≡ true → line ≡ column_line c → Prints a b (line ∷ []) → Prints a b (column_lines short c)
+column-short a b c line short is same printed = rw is (rw same at printed)
+
+-- and with its rows
+pub column-long : (a b d : List ℕ) (c : Column) (line : Data) (short : Bool) → short ≡ false → line ≡ column_line c → Prints a b (line ∷ []) → Prints b d (filled_lines c.column_type (enumerate_from 0 c.content.rows)) → Prints a d (column_lines short c)
+unfolding filled_lines
+column-long a b d c line short is same printed rows = rw is (Prints-then a b d (column_line c ∷ []) (row_lines c) (rw same at printed) rows)

@@ -1,0 +1,19 @@
+//! Reports on open files, of columns and lookups of every type. Contracts see the bytes that a
+//! report appends as the text of the definition's lines.
+#![tactic(auto)]
+
+mod cells;
+mod found;
+mod lines;
+mod lookups;
+mod open;
+mod report;
+mod rows;
+mod term_cells;
+mod text;
+mod words;
+
+pub use report::write_report;
+
+#[cfg(test)]
+mod tests;

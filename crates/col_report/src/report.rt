@@ -1,0 +1,167 @@
+//! Reports on open files.
+ghost use Rattle.std.specs.Prelude.{◌≡◌, ℕ, List, ◌∷◌, ◌++◌, [], map, flat_map, option_map, string_bytes, IfOk, IfSome, OnOk};
+ghost use Rattle.serde_json.specs.View.{view};
+ghost use Rattle.col_dynamic.specs.Dynamic.{type_of, content_of};
+ghost use Rattle.col_file.specs.Files.{Answers};
+ghost use Rattle.col_find.specs.Finds as wanted;
+ghost use Rattle.col_model.specs.File.{table_of};
+ghost use Rattle.col_model.specs.Report.{rows_line, column_lines, find_line, report_of};
+ghost use Rattle.col_report.specs.Opened.{opened, column_typed, table_opened, AreRead};
+ghost use Rattle.col_report.specs.Printed.{Prints};
+
+use crate::found::{push_absent, push_find};
+use crate::lines::push_column;
+use crate::open::{NamedColumn, open_columns};
+use crate::text::push_line;
+use col_common::{ColumnarError, FileHandle};
+use col_dynamic::DynamicColumn;
+use col_file::ColumnarReader;
+use col_find::Find;
+use serde_json::{Value, json};
+use std::alloc::{AllocError, Global};
+
+/// Appends the report of a file and of what lookups find in it; a short one leaves out the rows,
+/// and counts the documents of lookups. Each column is read once, and all are open at once. It
+/// answers InvalidData where the bytes of some column are none of its type.
+pub fn write_report<F: FileHandle>(
+    alloc: Global,
+    reader: &mut ColumnarReader<F>,
+    finds: &[Find],
+    short: bool,
+    out: &mut Vec<u8>,
+) -> Result<(), ColumnarError>
+    ensures answer { Answers (λ t _. out.new.items
+        ≡ out.old.items ++ report_of t (map wanted.find_of finds.now) short)
+        reader.old.file reader.new.file result table_of }
+    ensures keys { reader.new.keys ≡ reader.old.keys }
+{
+    reader.tell();
+    let columns = open_columns(alloc, reader)?;
+    let pushed = push_report(alloc, reader, &columns, finds, short, out);
+    let_go(columns);
+    pushed?;
+    Ok(())
+}
+
+fn let_go(columns: Vec<NamedColumn>) {
+    drop(columns);
+}
+
+// Appends the report of a file's open columns.
+fn push_report<F: FileHandle>(
+    alloc: Global,
+    reader: &ColumnarReader<F>,
+    columns: &[NamedColumn],
+    finds: &[Find],
+    short: bool,
+    out: &mut Vec<u8>,
+) -> Result<(), AllocError>
+    ensures { (bytes : List ℕ) → AreRead bytes reader.now.keys columns.now → OnOk result (out.new.items
+        ≡ out.old.items ++ report_of (table_opened reader.now.keys.row_count columns.now)
+        (map wanted.find_of finds.now) short) }
+{
+    let value = rows_value(alloc, reader.num_docs())?;
+    push_line(alloc, out, &value)?;
+    push_columns(alloc, columns, short, out)?;
+    push_finds(alloc, reader, columns, finds, short, out)
+}
+
+fn rows_value(alloc: Global, count: u32) -> Result<Value, AllocError>
+    ensures { IfOk result (λ v. view v ≡ rows_line count) }
+{
+    json!(in alloc; ["rows", count])
+}
+
+// Appends the lines of columns.
+fn push_columns(
+    alloc: Global,
+    columns: &[NamedColumn],
+    short: bool,
+    out: &mut Vec<u8>,
+) -> Result<(), AllocError>
+    ensures { OnOk result (Prints out.old.items out.new.items
+        (flat_map (λ c. column_lines short (opened c)) columns.now)) }
+{
+    for named in columns {
+        push_named(alloc, named, short, out)?;
+    }
+    Ok(())
+}
+
+fn push_named(
+    alloc: Global,
+    named: &NamedColumn,
+    short: bool,
+    out: &mut Vec<u8>,
+) -> Result<(), AllocError>
+    ensures { OnOk result (Prints out.old.items out.new.items
+        (column_lines short (opened named.now))) }
+{
+    push_column(alloc, &named.name, &named.column, short, out)
+}
+
+// Appends the lines of lookups.
+fn push_finds<F: FileHandle>(
+    alloc: Global,
+    reader: &ColumnarReader<F>,
+    columns: &[NamedColumn],
+    finds: &[Find],
+    short: bool,
+    out: &mut Vec<u8>,
+) -> Result<(), AllocError>
+    ensures { (bytes : List ℕ) → AreRead bytes reader.now.keys columns.now → OnOk result
+        (Prints out.old.items out.new.items (map (λ f. find_line
+        (table_opened reader.now.keys.row_count columns.now) short (wanted.find_of f))
+        finds.now)) }
+{
+    let mut docs = Vec::new(alloc);
+    for find in finds {
+        push_found_line(alloc, reader, columns, find, short, &mut docs, out)?;
+    }
+    Ok(())
+}
+
+// Appends the line of a lookup.
+fn push_found_line<F: FileHandle>(
+    alloc: Global,
+    reader: &ColumnarReader<F>,
+    columns: &[NamedColumn],
+    find: &Find,
+    short: bool,
+    docs: &mut Vec<u32>,
+    out: &mut Vec<u8>,
+) -> Result<(), AllocError>
+    ensures { (bytes : List ℕ) → AreRead bytes reader.now.keys columns.now → OnOk result
+        (Prints out.old.items out.new.items (find_line
+        (table_opened reader.now.keys.row_count columns.now) short (wanted.find_of find.now)
+        ∷ [])) }
+{
+    match column_of_find(reader, columns, find) {
+        Some(column) => push_find(alloc, column, find, short, docs, out),
+        None => push_absent(alloc, find, out),
+    }
+}
+
+// The column of a lookup, by halves.
+fn column_of_find<'a, F: FileHandle>(
+    reader: &ColumnarReader<F>,
+    columns: &'a [NamedColumn],
+    find: &Find,
+) -> Option<&'a DynamicColumn>
+    ensures kind { IfSome result (λ c. type_of c.now ≡ wanted.type_of find.now.ends) }
+    ensures column { (bytes : List ℕ) → AreRead bytes reader.now.keys columns.now →
+        option_map (λ c. content_of c.now) result
+        ≡ option_map (λ c. c.content) (column_typed (string_bytes find.now.name)
+        (wanted.type_of find.now.ends) (map opened columns.now)) }
+{
+    let Some(place) = reader.column_place(&find.name, find.ends.column_type()) else {
+        return None;
+    };
+    let Some(named) = columns.get(place) else {
+        return None;
+    };
+    if named.column.column_type().to_code() != find.ends.column_type().to_code() {
+        return None;
+    }
+    Some(&named.column)
+}
