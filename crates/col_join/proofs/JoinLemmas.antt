@@ -79,11 +79,11 @@ merged-counted {T = T} m i is ordered within = record {
 
 -- ---- whether a column is too large
 
-not-false : (a : Bool) → false ≡ not a → a ≡ true
+pub not-false : (a : Bool) → false ≡ not a → a ≡ true
 not-false true e = refl
 not-false false e = absurd (true≢false (sym e))
 
-not-true : (a : Bool) → true ≡ not a → a ≡ false
+pub not-true : (a : Bool) → true ≡ not a → a ≡ false
 not-true true e = absurd (true≢false e)
 not-true false e = refl
 

@@ -3,3 +3,5 @@ mod LimitLemmas
 mod NumberLemmas
 mod JoinLemmas
 mod SlotLemmas
+mod TextLemmas
+mod TextSlotLemmas

@@ -29,12 +29,12 @@ use Rattle.col_join.specs.Limits.{counts_picked, is_past_limits, IsMergedWithin}
 -- ---- counts of rows
 
 -- how many items lists have, by how many each has
-count-lengths : {A : Type 0} (xss : List (List A)) → sum_by length xss ≡ sum (map length xss)
+pub count-lengths : {A : Type 0} (xss : List (List A)) → sum_by length xss ≡ sum (map length xss)
 count-lengths [] = refl
 count-lengths (xs ∷ xss) = sum_by-cons length xs xss ∙ ap (λ n. length xs + n) (count-lengths xss) ∙ sym (sum_by-cons (λ x. x) (length xs) (map length xss))
 
 -- how many of them have an item
-count-some : {A : Type 0} (xss : List (List A)) → count_by (λ xs. not (length xs == 0)) xss ≡ count_by (λ c. not (c == 0)) (map length xss)
+pub count-some : {A : Type 0} (xss : List (List A)) → count_by (λ xs. not (length xs == 0)) xss ≡ count_by (λ c. not (c == 0)) (map length xss)
 count-some [] = refl
 count-some (xs ∷ xss) =
     sum_by-cons (λ ys. cond (not (length ys == 0)) 1 0) xs xss

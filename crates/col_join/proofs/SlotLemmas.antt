@@ -63,7 +63,7 @@ module _ {T : Type 0} (cell : T → Cell) (slot : Slot) (picked : List (ℕ × �
   cells-of o = unwrap_or (option_map (λ c. row_of c.content d) o) []
 
   -- a picked row of a column that holds no cell in picked rows is empty
-  empty-row : (c : Column) (i : ℕ) → slice_get picked i ≡ Some (k, d) → list_any (λ q. (q.0 == k) && nat_lt 0 (length (row_of c.content q.1))) picked ≡ false → row_of c.content d ≡ []
+  pub empty-row : (c : Column) (i : ℕ) → slice_get picked i ≡ Some (k, d) → list_any (λ q. (q.0 == k) && nat_lt 0 (length (row_of c.content q.1))) picked ≡ false → row_of c.content d ≡ []
   empty-row c i at h =
       let none = any-none (λ (q : ℕ × ℕ). (q.0 == k) && nat_lt 0 (length (row_of c.content q.1))) picked i (k, d) at h in
       no-length (row_of c.content d) (ap (λ b. b && nat_lt 0 (length (row_of c.content d))) (sym (eq-eqb k k refl)) ∙ none)
@@ -80,24 +80,24 @@ module _ {T : Type 0} (cell : T → Cell) (slot : Slot) (picked : List (ℕ × �
 -- ---- segments
 
 -- the segment of a row that passes the test is there
-row-named : (counts : List ℕ) (p : ℕ × ℕ) → has_row counts p ≡ true → p.0 < length counts
+pub row-named : (counts : List ℕ) (p : ℕ × ℕ) → has_row counts p ≡ true → p.0 < length counts
 row-named counts p h = grind (arith, common_steps, gets, slice_get_cases counts p.0)
 
 -- the first item behind others
-get-first : {A : Type 0} (xs : List A) (k : ℕ) (y : A) (ys : List A) → drop k xs ≡ y ∷ ys → slice_get xs k ≡ Some y
+pub get-first : {A : Type 0} (xs : List A) (k : ℕ) (y : A) (ys : List A) → drop k xs ≡ y ∷ ys → slice_get xs k ≡ Some y
 get-first [] zero y ys e = absurd (omega (arith, ap length e))
 get-first [] (suc k) y ys e = absurd (omega (arith, ap length e))
 get-first (x ∷ xs) zero y ys e = ap (λ zs. slice_get zs 0) e
 get-first (x ∷ xs) (suc k) y ys e = get-first xs k y ys e
 
 -- the part that a pick names
-part-at : (parts : List Part) (k : ℕ) → k < length parts → (p : Part) × (slice_get parts k ≡ Some p)
+pub part-at : (parts : List Part) (k : ℕ) → k < length parts → (p : Part) × (slice_get parts k ≡ Some p)
 part-at [] k h = absurd (omega arith)
 part-at (p ∷ parts) zero h = (p, refl)
 part-at (p ∷ parts) (suc k) h = part-at parts k (omega arith)
 
 -- cells of a named part
-cells-named : (slot : Slot) (parts : List Part) (k d : ℕ) (part : Part) → slice_get parts k ≡ Some part → cells_in slot parts (k, d) ≡ unwrap_or (option_map (λ c. row_of c.content d) (whole_column_in slot part)) []
+pub cells-named : (slot : Slot) (parts : List Part) (k d : ℕ) (part : Part) → slice_get parts k ≡ Some part → cells_in slot parts (k, d) ≡ unwrap_or (option_map (λ c. row_of c.content d) (whole_column_in slot part)) []
 cells-named slot parts k d part e = ap (λ o. unwrap_or (option_map (λ c. row_of c.content d) (option_and_then (whole_column_in slot) o)) []) e
 
 module _ {T : Type 0} (cell : T → Cell) (slot : Slot) (parts : List Part) (c : Columns T) (picked : List (ℕ × ℕ)) (kept : AreKeptAs cell slot picked parts c) where
@@ -155,7 +155,7 @@ map-joined f [] = refl
 map-joined f (xs ∷ xss) = ap (λ ys. map f xs ++ ys) (map-joined f xss) ∙ sym (map-append f xs (joined_lists xss))
 
 -- the tightest cardinality is that of their counts
-tightest-counts : (rows : List (List Cell)) → tightest rows ≡ tightest_of (map length rows)
+pub tightest-counts : (rows : List (List Cell)) → tightest rows ≡ tightest_of (map length rows)
 tightest-counts rows =
     λ i. cond (sym (list_all-map (λ c. c == 1) length rows) i) tables.full (cond (sym (list_all-map (λ c. nat_le c 1) length rows) i) tables.optional tables.multivalued)
 

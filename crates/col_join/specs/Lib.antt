@@ -1,3 +1,4 @@
 pub mod Limits
 pub mod Joins
 pub mod Slots
+pub mod TextSlots

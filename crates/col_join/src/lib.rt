@@ -7,10 +7,12 @@ mod cell_counts;
 mod laws;
 mod merged_index;
 mod numbers;
+mod texts;
 
 pub use addresses::join_addresses;
-pub use laws::picked_content_is_joined;
+pub use laws::{merged_content_is_joined, picked_content_is_joined};
 pub use numbers::join_numbers;
+pub use texts::join_texts;
 
 #[cfg(test)]
 mod tests;

@@ -5,13 +5,16 @@ ghost use Rattle.col_order.specs.RowOrders.{order_of};
 ghost use Rattle.col_value_merge.specs.Merges.{IsMerge};
 ghost use Rattle.col_join.specs.Joins.{number_merge, address_merge};
 
-use crate::{join_addresses, join_numbers, picked_content_is_joined};
+use crate::{
+    join_addresses, join_numbers, join_texts, merged_content_is_joined, picked_content_is_joined,
+};
 use bytes::Bytes;
 use col_column::{IpColumn, IpValues, open_column_u128};
 use col_common::{Buffer, ColumnarError, RowAddr};
 use col_index::{ColumnIndex, MultiValueIndex, Version};
 use col_numbers::{NumValues, load_u64_based_column_values};
 use col_order::{MergeRowOrder, ShuffleMergeOrder, StackMergeOrder};
+use col_text::{BytesColumn, open_column_bytes};
 use col_values::ColumnValues;
 use std::alloc::Global;
 use std::process::Abort;
@@ -35,6 +38,11 @@ const TWO_AND_FOUR: &[u8] = &[
     0, 0x82, 0x01, 0x0d, 0, 0, 0, 0, 0, 0, 0, 0, 0x82, 0x84, 0x82, 0x02, 0x81, 0x82, 0x82, 0x0f, 0,
     0, 0, 0, 0, 0, 0, 1, 0, 0, 0, 0, 0, 0, 0,
 ];
+
+// Rows with hello, happy and tax: three terms, a Full index, the ordinals 1, 0, 2, how long the
+// index and the dictionary are.
+const THREE_TEXTS: &[u8] = b"\x03\0\0\0\x05\0\0\0\x0a\0\0\0\x0d\0\0\0happyhellotax\
+    \0\0\x80\x81\x82\x83\x21\x01\0\0\0\0\0\0\0\x1d\0\0\0";
 
 // Of two rows the second and the first.
 fn turned(alloc: Global) -> Result<MergeRowOrder, ColumnarError>
@@ -127,4 +135,22 @@ fn addresses_of_a_stack_are_joined(rt: HostRuntime) -> Result<(), Fail> {
     let alloc = rt.alloc();
     let bytes = Bytes::from_static(TWO_AND_FOUR);
     assert_stacked(&rt, alloc, open_column_u128(alloc, bytes, Version::V2, 2)?)
+}
+
+// A column of terms of one segment, stacked.
+fn assert_texts(rt: &impl Abort, alloc: Global, column: BytesColumn) -> Result<(), Fail> {
+    merged_content_is_joined();
+    let num_rows = column.num_rows();
+    let order = MergeRowOrder::from(StackMergeOrder::from_row_counts(alloc, &[num_rows])?);
+    let mut sink = Buffer::new(alloc);
+    join_texts(alloc, &[column], &order, &mut sink)?;
+    assert_eq!(rt; sink.as_slice(), THREE_TEXTS);
+    Ok(())
+}
+
+#[test]
+fn texts_of_a_stack_are_joined(rt: HostRuntime) -> Result<(), Fail> {
+    let alloc = rt.alloc();
+    let bytes = Bytes::from_static(THREE_TEXTS);
+    assert_texts(&rt, alloc, open_column_bytes(alloc, bytes, Version::V2, 3)?)
 }

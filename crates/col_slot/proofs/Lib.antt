@@ -1,0 +1,11 @@
+pub mod SegmentLemmas
+mod SlotTypeLemmas
+mod BoundLemmas
+mod ReadLemmas
+mod KeptLemmas
+mod OwnLemmas
+mod PartLemmas
+mod SharedLemmas
+mod JoinedLemmas
+mod TextLemmas
+mod TextPartLemmas

@@ -1,0 +1,32 @@
+use Rattle.std.proofs.Common.{length, take, ap, ◌∙◌, arith}
+use Rattle.std.proofs.lemmas.List.FromFn.{length-map-range_with_len}
+use Rattle.col_slot.specs.Kept.{keeps}
+use Rattle.col_slot.proofs.KeptLemmas.{none-found, named-there, walked, all-walked}
+use Rattle.col_slot.proofs.kept.note_named.Goals as goal
+
+pub loop-addr-init : goal.loop-addr-init
+loop-addr-init c = c.requires.flags ∙ none-found 0 (length c.args.columns.now)
+
+pub has_value_at-found-requires : goal.has_value_at-found-requires
+has_value_at-found-requires c =
+    let addrs = c.iter_new_to_old_row_addrs-addr-items in
+    let order = c.args.order.now in
+    named-there order.counts addrs.result.now order.addresses c.loop-addr.addr-index (length c.args.columns.now) (record { segment_ord = 0; row_id = 0 }) addrs.ensures c.rows_are_there.ensures c.loop-addr-test.true c.requires.segments
+
+pub note-requires : goal.note-requires
+note-requires c =
+    let addrs = c.iter_new_to_old_row_addrs-addr-items in
+    let order = c.args.order.now in
+    let there = named-there order.counts addrs.result.now order.addresses c.loop-addr.addr-index (length c.args.columns.now) (record { segment_ord = 0; row_id = 0 }) addrs.ensures c.rows_are_there.ensures c.loop-addr-test.true c.requires.segments in
+    omega (arith, there, ap length c.loop-addr.invariant, length-map-range_with_len (keeps c.args.columns.now (take c.loop-addr.addr-index order.addresses)) 0 (length c.args.columns.now))
+
+pub loop-addr-preserved : goal.loop-addr-preserved
+loop-addr-preserved c =
+    let addrs = c.iter_new_to_old_row_addrs-addr-items in
+    let order = c.args.order.now in
+    walked c.args.columns.now addrs.result.now order.addresses order.counts c.loop-addr.addr-index (record { segment_ord = 0; row_id = 0 }) c.loop-addr.kept c.note.new.kept c.has_value_at-found.result addrs.ensures c.rows_are_there.ensures c.loop-addr-test.true c.requires.segments c.loop-addr.invariant c.has_value_at-found.ensures c.note.ensures
+
+pub returns : goal.returns
+returns c =
+    let addrs = c.iter_new_to_old_row_addrs-addr-items in
+    all-walked c.args.columns.now addrs.result.now c.args.order.now.addresses c.loop-addr.addr-index c.loop-addr.kept addrs.ensures (omega (arith, c.loop-addr-test.false)) c.loop-addr.invariant

@@ -1,0 +1,17 @@
+use Rattle.std.proofs.Common.{◌≡◌, map, ap, ◌∙◌, subst}
+use Rattle.std.specs.List.{AllByRecursion}
+use Rattle.col_order.specs.RowOrders.{order_of}
+use Rattle.col_column.specs.Columns.{docs_in}
+use Rattle.col_numbers.specs.NumValues.{num_values_of}
+use Rattle.col_slot.specs.Segments.{where_set}
+use Rattle.col_slot.specs.Texts.{text_type, IsCountedText}
+use Rattle.col_slot.proofs.TextLemmas.{text-terms, texts-written}
+use Rattle.col_slot.proofs.texts.write_texts.Goals as goal
+
+pub join_texts-requires : goal.join_texts-requires
+join_texts-requires g c = ap (map (λ x. docs_in num_values_of x.ords)) c.deref-2.ensures.value ∙ c.in_ok-texts.ensures.ok.fit
+
+pub returns : goal.returns
+returns g c =
+    texts-written (text_type c.args.is_text) (order_of c.args.merge_row_order.now) (where_set c.args.columns.now c.args.kept.now) c.in_ok-texts.texts.items c.deref-2.result.now _ _ c.join_texts.result
+    c.deref-2.ensures.value c.orders_are_picks.ensures (subst (AllByRecursion IsCountedText) c.deref.ensures.value c.texts_are_counted.ensures) c.in_ok-texts.ensures.ok (c.join_texts.ensures (text_type c.args.is_text) (text-terms c.args.is_text))

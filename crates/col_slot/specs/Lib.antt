@@ -1,0 +1,5 @@
+pub mod Segments
+pub mod SlotTypes
+pub mod Kept
+pub mod Texts
+pub mod JoinedSlots
