@@ -1,0 +1,6 @@
+pub mod Parts
+pub mod Readings
+pub mod Opened
+pub mod Turns
+pub mod Joined
+pub mod Merges

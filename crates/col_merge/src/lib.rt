@@ -1,0 +1,10 @@
+//! Merges files: one column for each name and category of their columns, of the rows that an order
+//! picks. Contracts see the parts that the readers tell.
+#![tactic(auto)]
+
+mod join_columns;
+mod merge;
+mod open_columns;
+mod turn;
+
+pub use merge::merge_columnar;

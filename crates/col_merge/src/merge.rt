@@ -1,0 +1,94 @@
+//! Merges files.
+ghost use Rattle.std.specs.Prelude.{◌≡◌, List, length};
+ghost use Rattle.col_model.specs.Category.{Slot};
+ghost use Rattle.col_model.specs.Merge.{Required, required_type, merged};
+ghost use Rattle.col_order.specs.Orders.{counts_of, picks_of};
+ghost use Rattle.col_order.specs.RowOrders.{order_of};
+ghost use Rattle.col_merge.specs.Joined.{joined_by};
+ghost use Rattle.col_merge.specs.Merges.{MergesFiles, WritesSlots};
+ghost use Rattle.col_merge.specs.Readings.{AllStay};
+ghost use Rattle.col_slots.specs.RequiredTypes.{known_type};
+ghost use Rattle.col_slots.specs.Slots.{counts_read, required_of};
+ghost use Rattle.col_merge.specs.Turns.{GoesOn};
+
+use crate::open_columns::files_are_read;
+use crate::turn::merge_slots;
+use col_common::{ColumnarError, FileHandle, RowId, Sink};
+use col_file::ColumnarReader;
+use col_keys::ColumnarSerializer;
+use col_order::{MergeRowOrder, orders_are_picks};
+use col_slots::{SlotKey, is_order_of, required_types, slots_of};
+use col_types::ColumnType;
+use std::alloc::Global;
+use std::collections::BTreeMap;
+
+/// Writes a file with the rows that an order picks from the readers' files: a column for each name
+/// and category of their columns, where some picked row has a value, and for each one that is
+/// required. It refuses in the order of the definition: BadOrder, BadName or RequiredConflict, then
+/// slot by slot.
+pub fn merge_columnar<F: FileHandle, K: Sink>(
+    alloc: Global,
+    columnar_readers: &mut [ColumnarReader<F>],
+    required_columns: &[(String, ColumnType)],
+    merge_row_order: MergeRowOrder,
+    output: &mut K,
+) -> Result<(), ColumnarError>
+    ensures answer { MergesFiles columnar_readers.old columnar_readers.new
+        (K.seen output.old) (K.seen output.new) result
+        (λ parts. merged parts (required_of required_columns.now) (order_of merge_row_order)) }
+    ensures kept { AllStay columnar_readers.old columnar_readers.new }
+    ensures sink { GoesOn (K.seen output.old) (K.seen output.new) }
+{
+    files_are_read(columnar_readers);
+    orders_are_picks(&merge_row_order);
+    let num_rows = merge_row_order.num_rows();
+    if !is_order_of(&merge_row_order, columnar_readers) {
+        return Err(ColumnarError::BadOrder);
+    }
+    let types = required_types(alloc, required_columns)?;
+    let slots = slots_of(alloc, columnar_readers, required_columns)?;
+    write_slots(
+        alloc,
+        columnar_readers,
+        &slots,
+        &types,
+        &merge_row_order,
+        num_rows,
+        output,
+    )
+}
+
+// Writes the file of slots, of the types that are required.
+fn write_slots<F: FileHandle, K: Sink>(
+    alloc: Global,
+    columnar_readers: &mut [ColumnarReader<F>],
+    slots: &[SlotKey],
+    types: &BTreeMap<SlotKey, ColumnType>,
+    merge_row_order: &MergeRowOrder,
+    num_rows: RowId,
+    output: &mut K,
+) -> Result<(), ColumnarError>
+    requires counts { counts_read columnar_readers.old
+        ≡ counts_of (order_of merge_row_order.now) }
+    requires rows { num_rows ≡ length (picks_of (order_of merge_row_order.now)) }
+    ensures answer { (required : List Required)
+        → ((q : Slot) → known_type types.now q ≡ required_type required q)
+        → WritesSlots columnar_readers.old columnar_readers.new
+        (K.seen output.old) (K.seen output.new) result
+        (length (picks_of (order_of merge_row_order.now)))
+        (joined_by (order_of merge_row_order.now) required) slots.now }
+    ensures kept { AllStay columnar_readers.old columnar_readers.new }
+    ensures sink { GoesOn (K.seen output.old) (K.seen output.new) }
+{
+    let mut columns = ColumnarSerializer::new(alloc);
+    merge_slots(
+        alloc,
+        columnar_readers,
+        slots,
+        types,
+        merge_row_order,
+        &mut columns,
+        output,
+    )?;
+    columns.finalize(num_rows, output)
+}

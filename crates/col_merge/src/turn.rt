@@ -1,0 +1,103 @@
+//! Merges one slot after another.
+ghost use Rattle.std.specs.Prelude.{◌≡◌, length, List, option_map};
+ghost use Rattle.col_model.specs.Category.{Slot};
+ghost use Rattle.col_model.specs.Merge.{Required, required_type};
+ghost use Rattle.col_order.specs.Orders.{counts_of, picks_of};
+ghost use Rattle.col_order.specs.RowOrders.{order_of};
+ghost use Rattle.col_types.specs.Kinds.{kind_of};
+ghost use Rattle.col_keys.specs.KeyTables.{key_at};
+ghost use Rattle.col_keys.specs.Put.{Puts, no_columns};
+ghost use Rattle.col_merge.specs.Joined.{joined_by};
+ghost use Rattle.col_merge.specs.Readings.{AllStay};
+ghost use Rattle.col_slots.specs.RequiredTypes.{known_type};
+ghost use Rattle.col_slots.specs.Slots.{counts_read};
+ghost use Rattle.col_merge.specs.Turns.{GoesOn, MergesOne, MergesSlots};
+
+use crate::join_columns::join_columns;
+use col_common::{Buffer, ColumnarError, FileHandle, Sink};
+use col_file::ColumnarReader;
+use col_keys::ColumnarSerializer;
+use col_order::MergeRowOrder;
+use col_slots::SlotKey;
+use col_types::ColumnType;
+use std::alloc::Global;
+use std::collections::BTreeMap;
+
+// Merges slots, in order, of the types that are required.
+pub(crate) fn merge_slots<F: FileHandle, K: Sink>(
+    alloc: Global,
+    columnar_readers: &mut [ColumnarReader<F>],
+    slots: &[SlotKey],
+    types: &BTreeMap<SlotKey, ColumnType>,
+    merge_row_order: &MergeRowOrder,
+    columns: &mut ColumnarSerializer,
+    output: &mut K,
+) -> Result<(), ColumnarError>
+    requires counts { counts_read columnar_readers.old
+        ≡ counts_of (order_of merge_row_order.now) }
+    requires none { columns.old ≡ no_columns }
+    ensures answer { (required : List Required)
+        → ((q : Slot) → known_type types.now q ≡ required_type required q)
+        → MergesSlots columnar_readers.old columnar_readers.new columns.new
+        (K.seen output.old) (K.seen output.new) result
+        (length (picks_of (order_of merge_row_order.now)))
+        (joined_by (order_of merge_row_order.now) required) slots.now }
+    ensures kept { AllStay columnar_readers.old columnar_readers.new }
+    ensures sink { GoesOn (K.seen output.old) (K.seen output.new) }
+{
+    for slot in slots {
+        let wanted = types.get(slot).copied();
+        merge_slot(
+            alloc,
+            columnar_readers,
+            slot,
+            wanted,
+            merge_row_order,
+            columns,
+            output,
+        )?;
+    }
+    Ok(())
+}
+
+// Merges one slot, of the type that is required of it.
+fn merge_slot<F: FileHandle, K: Sink>(
+    alloc: Global,
+    columnar_readers: &mut [ColumnarReader<F>],
+    slot: &SlotKey,
+    wanted: Option<ColumnType>,
+    merge_row_order: &MergeRowOrder,
+    columns: &mut ColumnarSerializer,
+    output: &mut K,
+) -> Result<(), ColumnarError>
+    requires { counts_read columnar_readers.old ≡ counts_of (order_of merge_row_order.now) }
+    ensures answer { (required : List Required)
+        → option_map kind_of wanted ≡ required_type required slot.now
+        → MergesOne columnar_readers.old columnar_readers.new columns.old columns.new
+        (K.seen output.old) (K.seen output.new) result
+        (length (picks_of (order_of merge_row_order.now)))
+        (λ parts. joined_by (order_of merge_row_order.now) required parts slot.now) }
+    ensures kept { AllStay columnar_readers.old columnar_readers.new }
+    ensures sink { GoesOn (K.seen output.old) (K.seen output.new) }
+{
+    match join_columns(alloc, columnar_readers, slot, wanted, merge_row_order)? {
+        Some((column_type, bytes)) => put_column(slot.name(), column_type, bytes, columns, output),
+        None => Ok(()),
+    }
+}
+
+// Puts a column behind those of the file.
+fn put_column<K: Sink>(
+    name: &str,
+    column_type: ColumnType,
+    bytes: Buffer,
+    columns: &mut ColumnarSerializer,
+    output: &mut K,
+) -> Result<(), ColumnarError>
+    ensures { Puts columns.old columns.new (K.seen output.old) (K.seen output.new) result
+        (key_at name.now column_type) bytes }
+{
+    let mut column = columns.start_serialize_column(name, column_type);
+    column.bytes = bytes;
+    column.finalize(columns, output)
+}

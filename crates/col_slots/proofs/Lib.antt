@@ -1,0 +1,4 @@
+pub mod CountLemmas
+mod ListLemmas
+mod DistinctLemmas
+mod RequiredLemmas
