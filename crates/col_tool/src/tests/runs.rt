@@ -23,7 +23,10 @@ struct Ended {
 const TWO_VALUES: &str =
     "[\"segment\",2]\n[\"type\",\"a\",\"u64\"]\n[\"u64\",0,\"a\",10]\n[\"u64\",1,\"a\",20]\n";
 
-const ROWS: [Row; 3] = [
+const TWO_VALUES_FILE: &str =
+    "00008a8a818202010000000000000081836100018f0600000000000000020000000200000002717742";
+
+const ROWS: [Row; 4] = [
     Row {
         script: "",
         file: "800100000000000000000000000200000002717742",
@@ -35,12 +38,17 @@ const ROWS: [Row; 3] = [
         report: "[\"rows\",4000000000]\n",
     },
     Row {
+        script: "[\"segment\",1]\n[\"segment\",1]",
+        file: "800100000000000000020000000200000002717742",
+        report: "[\"rows\",2]\n",
+    },
+    Row {
         script: "[\"segment\",2]\n[\"type\",\"a\",\"u64\"]\n\
             [\"u64\",0,\"a\",10]\n[\"u64\",1,\"a\",20]\n\
             [\"find\",\"a\",\"u64\",0,5,0,2]\n[\"find\",\"a\",\"u64\",11,19,0,2]\n\
             [\"find\",\"a\",\"u64\",11,18446744073709551615,0,2]\n\
             [\"find\",\"a\",\"u64\",20,10,0,2]\n[\"find\",\"b\",\"u64\",0,5,0,2]\n",
-        file: "00008a8a818202010000000000000081836100018f0600000000000000020000000200000002717742",
+        file: TWO_VALUES_FILE,
         report: "[\"rows\",2]\n[\"column\",\"a\",\"u64\",\"full\",2]\n\
             [\"row\",0,[10]]\n[\"row\",1,[20]]\n\
             [\"find\",\"a\",\"u64\",[]]\n[\"find\",\"a\",\"u64\",[]]\n\
@@ -49,12 +57,34 @@ const ROWS: [Row; 3] = [
     },
 ];
 
-const BAD_SCRIPTS: [&str; 5] = [
-    "[\"i64\",0,\"a\",1.5]",
-    "[\"segment\",1]\n[\"type\",\"a\",\"u64\"]\n[\"u64\",0,\"a\",1.5]",
-    "[\"type\",\"a\",\"u64\"]\n[\"u64\",0,\"a\",1]\n[\"segment\",1]",
-    "[\"segment\",1]\n[\"segment\",1]",
-    "[\"segment\",2]\n[\"type\",\"a\",\"u64\"]\n[\"u64\",1,\"a\",1]\n[\"u64\",0,\"a\",1]",
+// Scripts that are refused, and with which status.
+const REFUSED: [(&str, u8); 9] = [
+    ("[\"i64\",0,\"a\",1.5]", 20),
+    ("[\"segment\",1]\n[\"u64\",0,\"a\",1.5]", 20),
+    ("[\"u64\",0,\"a\",1]\n[\"segment\",1]", 20),
+    ("[\"order\",[]]\n[\"order\",[]]", 20),
+    ("[\"order\",[[0,0]]]", 7),
+    (
+        "[\"require\",\"a\",\"u64\"]\n[\"require\",\"a\",\"i64\"]",
+        9,
+    ),
+    (
+        "[\"segment\",1]\n[\"type\",\"a\",\"u64\"]\n[\"i64\",0,\"a\",1]",
+        14,
+    ),
+    (
+        "[\"segment\",2]\n[\"u64\",1,\"a\",1]\n[\"u64\",0,\"a\",1]",
+        15,
+    ),
+    ("[\"segment\",1]\n[\"u64\",1,\"a\",1]", 16),
+];
+
+// The words of a run, the digits of its one input, the reads of it that fail, and the status.
+const INPUTS: [(&[&str], &str, &[u64], u8); 4] = [
+    (&["merge", "out", "in"], TWO_VALUES_FILE, &[], 0),
+    (&["merge", "out"], TWO_VALUES_FILE, &[], 2),
+    (&["merge", "out", "in"], TWO_VALUES_FILE, &[0], 4),
+    (&["merge", "out", "in"], "", &[], 6),
 ];
 
 // A run on a script, where the calls with these numbers fail.
@@ -71,6 +101,29 @@ fn run_over(alloc: Global, script: &str, failing: [&[u64]; 3]) -> Result<Ended, 
         file: hex::encode(alloc, output.into_bytes().as_slice())?,
         report: report.into_bytes(),
     })
+}
+
+// A run without a script on an input with these digits.
+fn run_with_input(
+    alloc: Global,
+    words: &[&str],
+    digits: &str,
+    failing: &[u64],
+) -> Result<(Ended, usize), Fail> {
+    let words = words_of(alloc, words)?;
+    let bytes = Bytes::from_vec(hex::decode(alloc, digits)?)?;
+    let mut inputs = Vec::new(alloc);
+    inputs.push(MemHandle::new(bytes, failing.to_vec(alloc)?))?;
+    let mut source = MemSource::new(Vec::new(alloc), Vec::new(alloc));
+    let mut output = VecSink::new(Vec::new(alloc), Vec::new(alloc));
+    let mut report = VecSink::new(Vec::new(alloc), Vec::new(alloc));
+    let outcome = run(alloc, &words, inputs, &mut source, &mut output, &mut report);
+    let ended = Ended {
+        status: outcome.status,
+        file: hex::encode(alloc, output.into_bytes().as_slice())?,
+        report: report.into_bytes(),
+    };
+    Ok((ended, outcome.inputs.len()))
 }
 
 fn words_of(alloc: Global, texts: &[&str]) -> Result<Vec<String>, AllocError> {
@@ -98,9 +151,9 @@ fn scripts_come_to_their_file_and_report_or_to_nothing(rt: HostRuntime) -> Resul
         let ended = run_over(rt.alloc(), row.script, [&[], &[], &[]])?;
         assert!(rt; is_as_wanted(row, &ended), "{}", row.script);
     }
-    for script in BAD_SCRIPTS {
+    for (script, status) in REFUSED {
         let ended = run_over(rt.alloc(), script, [&[], &[], &[]])?;
-        assert_eq!(rt; lens_of(&ended), (20, 0, 0), "{script}");
+        assert_eq!(rt; lens_of(&ended), (status, 0, 0), "{script}");
     }
     Ok(())
 }
@@ -120,15 +173,12 @@ fn faults_leave_a_front_of_what_was_to_be_written(rt: HostRuntime) -> Result<(),
 }
 
 #[test]
-fn words_with_an_input_give_it_back(rt: HostRuntime) -> Result<(), Fail> {
-    let alloc = rt.alloc();
-    let words = words_of(alloc, &["merge", "out", "in"])?;
-    let mut inputs = Vec::new(alloc);
-    inputs.push(MemHandle::new(Bytes::new(), Vec::new(alloc)))?;
-    let mut source = MemSource::new(Vec::new(alloc), Vec::new(alloc));
-    let mut sink = VecSink::new(Vec::new(alloc), Vec::new(alloc));
-    let mut report = VecSink::new(Vec::new(alloc), Vec::new(alloc));
-    let ended = run(alloc, &words, inputs, &mut source, &mut sink, &mut report);
-    assert_eq!(rt; (ended.status, ended.inputs.len()), (2, 1));
+fn an_input_is_merged_and_given_back(rt: HostRuntime) -> Result<(), Fail> {
+    for (words, digits, failing, status) in INPUTS {
+        let (ended, kept) = run_with_input(rt.alloc(), words, digits, failing)?;
+        let file = if status == 0 { digits } else { "" };
+        assert_eq!(rt; (ended.status, kept), (status, 1));
+        assert_eq!(rt; ended.file.as_str(), file);
+    }
     Ok(())
 }

@@ -1,0 +1,9 @@
+mod HandleLemmas
+mod InputLemmas
+mod MadeFileLemmas
+mod MakeLemmas
+mod MergedFileLemmas
+mod MergedLemmas
+mod OrderLemmas
+mod SegmentLemmas
+mod TableLemmas

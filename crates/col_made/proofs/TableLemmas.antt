@@ -1,0 +1,68 @@
+-- Files of tables that are opened.
+use Rattle.std.proofs.Common.{◌≡◌, ◌<◌, ℕ, zero, suc, List, [], ◌∷◌, map, length, get_or, Option, Some, None, Result, Ok, refl, ap, ap₂, ◌∙◌, arith}
+use Rattle.std.proofs.lemmas.Option.{same_Some}
+use Rattle.col_common.specs.Reading.{◌>>=◌}
+use Rattle.col_file.specs.Readers.{SeenReader}
+use Rattle.col_model.specs.File.{Part, PartColumn, parts_of, whole_column, for_each, table_of, table_of_part, part_of_column, part_of_table, StandsFor}
+use Rattle.col_model.specs.Refusal.{Refusal}
+use Rattle.col_model.specs.Table.{Content, Column, Table}
+use Rattle.col_made.specs.Inputs.{IsOpenedFrom}
+use Rattle.col_made.specs.Making.{Makes, IsFileOf}
+
+-- columns that are whole, as a part has them
+whole-columns : (ps : List PartColumn) (cs : List Column) → for_each whole_column ps ≡ Some cs → ps ≡ map part_of_column cs
+whole-columns [] cs e = ap (map part_of_column) (same_Some [] cs e)
+whole-columns (p ∷ ps) cs e = by p.content refl (for_each whole_column ps) refl e (λ ys rest. whole-columns ps ys rest)
+  where
+    by : (o : Option Content) → p.content ≡ o → (q : Option (List Column)) → for_each whole_column ps ≡ q → ((o >>= λ content. Some (record { name = p.name; column_type = p.column_type; content = content })) >>= λ (y : Column). q >>= λ ys. Some (y ∷ ys)) ≡ Some cs → ((ys : List Column) → for_each whole_column ps ≡ Some ys → ps ≡ map part_of_column ys) → p ∷ ps ≡ map part_of_column cs
+    by None at q rest h later = cc
+    by (Some content) at None rest h later = cc
+    by (Some content) at (Some ys) rest h later =
+        ap₂ (λ (c : PartColumn) cs. c ∷ cs) (λ i. record { name = p.name; column_type = p.column_type; content = at i }) (later ys rest)
+        ∙ ap (map part_of_column) (same_Some (record { name = p.name; column_type = p.column_type; content = content } ∷ ys) cs h)
+
+-- a part whose table is this
+whole-table : (p : Part) (t : Table) → table_of_part p ≡ Some t → p ≡ part_of_table t
+whole-table p t e = by (for_each whole_column p.columns) refl e
+  where
+    by : (q : Option (List Column)) → for_each whole_column p.columns ≡ q → (q >>= λ cs. Some (record { row_count = p.row_count; columns = cs })) ≡ Some t → p ≡ part_of_table t
+    by None rest h = cc
+    by (Some cs) rest h = (λ i. record { row_count = p.row_count; columns = whole-columns p.columns cs rest i }) ∙ ap part_of_table (same_Some (record { row_count = p.row_count; columns = cs }) t h)
+
+-- the part of a file that stands for a table
+whole-part : (bytes : List ℕ) (t : Table) → table_of bytes ≡ Some t → parts_of bytes ≡ Some (part_of_table t)
+whole-part bytes t = by (parts_of bytes)
+  where
+    by : (o : Option Part) → (o >>= table_of_part) ≡ Some t → o ≡ Some (part_of_table t)
+    by None h = cc
+    by (Some p) h = ap Some (whole-table p t h)
+
+-- a file that was written is opened with the part that its table is
+pub file-opened : (expected : Result Table Refusal) (bytes : List ℕ) (r : SeenReader) → Makes StandsFor (Ok bytes) expected → IsOpenedFrom bytes (Ok r) → Makes IsFileOf (Ok r) expected
+file-opened expected bytes r h opened = by h.ok
+  where
+    by : ((t : Table) × (expected ≡ Ok t) × StandsFor t bytes) → Makes IsFileOf (Ok r) expected
+    by (t, at, stands) = record { ok = (t, at, ap (λ o. o >>= parts_of) opened.0 ∙ whole-part bytes t stands.content); refused = tt }
+
+-- the first item of a list, and the others
+abbrev head_or : {C : Type 0} → C → List C → C
+head_or c [] = c
+head_or c (x ∷ xs) = x
+
+abbrev tail_of : {C : Type 0} → List C → List C
+tail_of [] = []
+tail_of (x ∷ xs) = xs
+
+-- items whose images are the same, place by place
+pub same-at : {A B C : Type 0} (f : A → C) (g : B → C) (xs : List A) (ys : List B) (i : ℕ) (d : A) (e : B) → map f xs ≡ map g ys → i < length ys → f (get_or xs i d) ≡ g (get_or ys i e)
+same-at f g [] [] i d e same within = absurd (omega arith)
+same-at f g [] (y ∷ ys) i d e same within = cc
+same-at f g (x ∷ xs) [] i d e same within = absurd (omega arith)
+same-at f g (x ∷ xs) (y ∷ ys) zero d e same within = ap (head_or (f x)) same
+same-at f g (x ∷ xs) (y ∷ ys) (suc i) d e same within = same-at f g xs ys i d e (ap tail_of same) (omega arith)
+
+pub same-length : {A B C : Type 0} (f : A → C) (g : B → C) (xs : List A) (ys : List B) → map f xs ≡ map g ys → length xs ≡ length ys
+same-length f g [] [] same = refl
+same-length f g [] (y ∷ ys) same = cc
+same-length f g (x ∷ xs) [] same = cc
+same-length f g (x ∷ xs) (y ∷ ys) same = ap suc (same-length f g xs ys (ap tail_of same))

@@ -1,0 +1,5 @@
+pub mod HandedBack
+pub mod InMemory
+pub mod Inputs
+pub mod Making
+pub mod Ordered

@@ -1,0 +1,34 @@
+-- What a script that was read, and what was made of it, say of the answer.
+use Rattle.std.proofs.Common.{◌≡◌, ◌⊎◌, ℕ, Option, Some, None, Ok, Err, IfSome, List, map, Contains, refl}
+use Rattle.col_common.specs.Outside.{Told, SeenSink}
+use Rattle.col_model.specs.Script as scripts
+use Rattle.col_script.specs.Scripts.{IsScript, IsScriptOf}
+use Rattle.col_script.specs.declared.script.Script.{Script}
+use Rattle.col_made.specs.HandedBack.{SomeRose}
+use Rattle.col_made.specs.declared.made.Made.{Made}
+use Rattle.col_tool.specs.Answer.{refusal_status, refusals, IsAnswer, Leaves, Delivers}
+use Rattle.col_tool.specs.Expected.{script_answer}
+use Rattle.col_tool.specs.declared.refusal.Refusal.{Refusal}
+use Rattle.col_tool.proofs.Left.{leaves_delivered, leaves_refused}
+use Rattle.col_tool.proofs.RefusedLemmas.{refusals-not_done, refusals-unwritten}
+
+-- what was parsed is a script
+pub script-found : (o : Option scripts.Script) (found : Script) → IsScriptOf o (Some found) → (s : scripts.Script) × (o ≡ Some s) × IsScript s found
+script-found None found is = absurd is
+script-found (Some s) found is = (s, refl, is)
+
+-- what a refusal leaves
+pub refused-leaves : (files : Option (List (List ℕ))) (told : Told) (output report : SeenSink) (e : Refusal) → Contains refusals (refusal_status e) → IfSome files (λ fs. IfSome told (λ bytes. IsAnswer (script_answer fs bytes) (Err e))) → IfSome files (λ fs. IfSome told (λ bytes. Leaves output output report report (refusal_status e) (script_answer fs bytes)))
+refused-leaves None told output report e among h = tt
+refused-leaves (Some fs) None output report e among h = tt
+refused-leaves (Some fs) (Some bytes) output report e among h = leaves_refused output report e (script_answer fs bytes) h (refusals-not_done (refusal_status e) among) (refusals-unwritten (refusal_status e) among)
+
+-- what a delivery leaves
+pub delivered-leaves : (files : Option (List (List ℕ))) (told : Told) (output output' report report' : SeenSink) (made : Made) (status : ℕ) → IfSome files (λ fs. IfSome told (λ bytes. IsAnswer (script_answer fs bytes) (Ok made))) → Delivers output output' report report' made.file made.report.items status → IfSome files (λ fs. IfSome told (λ bytes. Leaves output output' report report' status (script_answer fs bytes)))
+delivered-leaves None told output output' report report' made status h d = tt
+delivered-leaves (Some fs) None output output' report report' made status h d = tt
+delivered-leaves (Some fs) (Some bytes) output output' report report' made status h d = leaves_delivered output output' report report' made status (script_answer fs bytes) h d
+
+-- inputs that came back through a list that was lent, of which a count may have risen
+pub fault-lent : {H : Type 0} (faults : H → ℕ) (lent lent' old new : List H) (Read : Type 0) → new ≡ lent' → lent ≡ old → Read ⊎ SomeRose (map faults lent) (map faults lent') → Read ⊎ SomeRose (map faults old) (map faults new)
+fault-lent faults lent lent' old new Read same was h = rw (same, ← was) h
