@@ -8,8 +8,6 @@ use Rattle.col_model.specs.Stats.{stats_of, least_of, greatest_of}
 use Rattle.col_model.specs.Ascending.{AreBelow}
 use Rattle.col_model.specs.U64List.{values64, bitpacked_bytes}
 use Rattle.col_model.specs.Codecs.{codec_bytes, chosen_codec}
-use Rattle.col_model.specs.File.{StandsFor}
-use Rattle.col_model.specs.FullColumns.{NamedNumbers, number_table, number_file, AreNumberColumns}
 
 -- What a number is spelled by is read as it, whatever follows, and what is read as it is that.
 pub record NumbersHaveOneForm : Type 0 where
@@ -55,9 +53,3 @@ ChosenIsReadBack = (codecs xs : List ℕ) (codec : ℕ) → AreBelow (2 ^ 64) xs
 abbrev pub BitpackedHasOneForm : Type 0
 BitpackedHasOneForm = (bytes xs : List ℕ) → IsBytes bytes → values64 (0 ∷ bytes) ≡ Some xs
     → 0 ∷ bytes ≡ bitpacked_bytes xs
-
--- The file of Full u64 columns stands for their table, where these are the columns of a table of
--- fewer than 2 ^ 32 rows, and the file's length fits 64 bits.
-abbrev pub NumberFilesAreReadBack : Type 0
-NumberFilesAreReadBack = (n : ℕ) (ps : List NamedNumbers) → n < 2 ^ 32 → AreNumberColumns n ps
-    → length (number_file n ps) < 2 ^ 64 → StandsFor (number_table n ps) (number_file n ps)
