@@ -1,0 +1,4 @@
+mod PartLemmas
+mod MadeLemmas
+mod SegmentLemmas
+mod ScriptLemmas

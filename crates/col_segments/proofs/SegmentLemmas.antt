@@ -1,0 +1,83 @@
+-- Files that are merged in any bracketing.
+use Rattle.std.proofs.Common.{◌≡◌, ℕ, sum, List, [], ◌∷◌, None, Ok, refl, sym, ◌∙◌}
+use Rattle.std.specs.List.{AllByRecursion}
+use Rattle.col_common.specs.Reading.{IsBytes}
+use Rattle.col_model.specs.Refusal.{each_ok}
+use Rattle.col_model.specs.Segmentation.{run_table}
+use Rattle.col_model.specs.Stacking.{stacked, unbracketed}
+use Rattle.col_model.specs.Table.{Table}
+use Rattle.col_model.specs.Written.{written}
+use Rattle.col_model.proofs.BracketLaws.{IsLeaf, sound-leaf, shaped-leaves, bracketing}
+use Rattle.col_model.proofs.DecodedTables.{decoded-is-sound}
+use Rattle.col_model.proofs.RunLaws.{segmentation-does-not-matter}
+use Rattle.col_model.proofs.SeenLaws.{column_at}
+use Rattle.col_model.proofs.StackSeen.{IsShaped}
+use Rattle.col_model.proofs.StackTables.{stack-gist, stacked-is}
+use Rattle.col_model.proofs.WholeLaws.{CanStack, bracketing-ok, writing-at-once-is-enough}
+use Rattle.col_segments.specs.SegmentFiles.{file_table, stacked_files}
+use Rattle.col_segments.specs.FileLaws.{IsFile, FilesOfRunsMergeToOne, FilesOfRunsAreMade, FilesMergeInAnyBracketing, MergingAtOnceIsEnough}
+use Rattle.col_segments.proofs.PartLemmas.{has-table}
+use Rattle.col_segments.proofs.MadeLemmas.{each-one, ok-value, have-tables, stacked-tables, made-table, refuses-nothing}
+
+-- ---- runs
+
+pub files-of-runs-merge-to-one : FilesOfRunsMergeToOne
+files-of-runs-merge-to-one w lengths b file plain runs made = record {
+  table = made.is.table;
+  is = (segmentation-does-not-matter w lengths b made.is.table plain runs (made-table run_table b file made)).0;
+  stands = made.is.stands;
+}
+
+pub files-of-runs-are-made : FilesOfRunsAreMade
+files-of-runs-are-made w lengths b plain few runs ok =
+    let t = ok-value (written w (sum lengths) None) ok in
+    refuses-nothing run_table b t.0 (writing-at-once-is-enough w lengths b t.0 plain few runs t.1)
+
+-- ---- any files
+
+-- the table of a file is sound
+file-leaf : (file : List ℕ) (t : Table) → IsBytes file → file_table file ≡ Ok t → IsLeaf t
+file-leaf file t bytes e = sound-leaf t (decoded-is-sound file t bytes (has-table file t e))
+
+-- merging at once gives the stack of the files' tables
+at-once : (files : List (List ℕ)) (ts : List Table) → each_ok file_table files ≡ Ok ts → stacked_files files ≡ stacked ts
+at-once files ts e = stacked-tables files ts (have-tables files ts e)
+
+pub files-merge-in-any-bracketing : FilesMergeInAnyBracketing
+files-merge-in-any-bracketing b file all made =
+    let own = bracketing file_table IsBytes file-leaf b made.is.table all (made-table file_table b file made) in
+    record {
+      table = made.is.table;
+      is = at-once (unbracketed b) own.0 own.1 ∙ own.3;
+      stands = made.is.stands;
+    }
+
+-- all files have tables, which are sound
+record AreSound (files : List (List ℕ)) : Type 0 where
+  tables : List Table
+  are : each_ok file_table files ≡ Ok tables
+  leaves : AllByRecursion IsLeaf tables
+
+are-sound : (files : List (List ℕ)) → AllByRecursion IsFile files → AreSound files
+are-sound [] all = record { tables = []; are = refl; leaves = tt }
+are-sound (file ∷ files) all =
+    let t = ok-value (file_table file) all.0.whole in
+    let later = are-sound files all.1 in
+    record {
+      tables = t.0 ∷ later.tables;
+      are = each-one file_table file files t.0 later.tables t.1 later.are;
+      leaves = (file-leaf file t.0 all.0.bytes t.1, later.leaves);
+    }
+
+can-stack : (ts : List Table) (t : Table) → AllByRecursion IsShaped ts → stacked ts ≡ Ok t → CanStack ts
+can-stack ts t shaped e =
+    let is = stacked-is ts t shaped e in
+    record { few = is.few; joined = λ slot. (column_at slot t, sym (stack-gist slot ts shaped) ∙ is.columns slot) }
+
+pub merging-at-once-is-enough : MergingAtOnceIsEnough
+merging-at-once-is-enough b all ok =
+    let sound = are-sound (unbracketed b) all in
+    let t = ok-value (stacked_files (unbracketed b)) ok in
+    let can = can-stack sound.tables t.0 (shaped-leaves sound.tables sound.leaves) (sym (at-once (unbracketed b) sound.tables sound.are) ∙ t.1) in
+    let found = bracketing-ok file_table IsFile (λ file t is e. file-leaf file t is.bytes e) b sound.tables all sound.are can in
+    refuses-nothing file_table b found.0 found.1

@@ -1,0 +1,9 @@
+pub use Rattle.col_model.specs.File
+pub use Rattle.col_model.specs.Outcome
+pub use Rattle.col_model.specs.Recording
+pub use Rattle.col_model.specs.Refusal
+pub use Rattle.col_model.specs.Stacking
+pub use Rattle.col_model.specs.Segmentation
+pub mod SegmentFiles
+pub mod FileLaws
+pub mod ScriptFiles

@@ -1,0 +1,54 @@
+//! Laws about files that are merged in brackets, each the contract of a call that does nothing.
+ghost use Rattle.col_segments.specs.FileLaws.{
+  FilesMergeInAnyBracketing,
+  FilesOfRunsAreMade,
+  FilesOfRunsMergeToOne,
+  MergingAtOnceIsEnough,
+};
+ghost use Rattle.col_segments.specs.ScriptFiles.{
+  ScriptsStackFiles,
+  SegmentsAreMade,
+  SegmentsMergeToOne,
+};
+
+// ---- Consecutive runs of a writer's documents, written as files and merged in any bracketing.
+
+/// The file that is made in the end stands for the table of writing all documents at once.
+pub fn files_of_runs_merge_to_one()
+    ensures { FilesOfRunsMergeToOne }
+{}
+
+/// Where writing at once refuses nothing, no run and no merge on the way does.
+pub fn files_of_runs_are_made()
+    ensures { FilesOfRunsAreMade }
+{}
+
+// ---- Any files, merged in any bracketing.
+
+/// The file that is made in the end stands for the table of merging all files at once.
+pub fn files_merge_in_any_bracketing()
+    ensures { FilesMergeInAnyBracketing }
+{}
+
+/// Where merging at once refuses nothing, no merge on the way does.
+pub fn merging_at_once_is_enough()
+    ensures { MergingAtOnceIsEnough }
+{}
+
+// ---- Segments and inputs of scripts.
+
+/// The file that is made in the end, of segments that are runs of the documents of one, stands for
+/// the table of that one.
+pub fn segments_merge_to_one()
+    ensures { SegmentsMergeToOne }
+{}
+
+/// Where one segment has a table, no run of its documents and no merge on the way is refused.
+pub fn segments_are_made()
+    ensures { SegmentsAreMade }
+{}
+
+/// A script without required columns and an order merges the inputs and its segments' files.
+pub fn scripts_stack_files()
+    ensures { ScriptsStackFiles }
+{}

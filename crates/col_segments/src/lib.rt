@@ -1,0 +1,10 @@
+//! Laws about files that are merged in brackets: of segments that were written apart, and of any
+//! files. Definitions and laws stand in `specs/`.
+#![tactic(auto)]
+
+mod laws;
+
+pub use laws::{
+    files_merge_in_any_bracketing, files_of_runs_are_made, files_of_runs_merge_to_one,
+    merging_at_once_is_enough, scripts_stack_files, segments_are_made, segments_merge_to_one,
+};
