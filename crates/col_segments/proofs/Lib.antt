@@ -1,4 +1,6 @@
 mod PartLemmas
 mod MadeLemmas
+mod KeyLemmas
+mod WholeLemmas
 mod SegmentLemmas
 mod ScriptLemmas

@@ -1,5 +1,5 @@
 -- Files that are merged in any bracketing.
-use Rattle.std.proofs.Common.{◌≡◌, ℕ, sum, List, [], ◌∷◌, None, Ok, refl, sym, ◌∙◌}
+use Rattle.std.proofs.Common.{◌≡◌, ℕ, sum, List, [], ◌∷◌, None, Ok, refl, sym, ap, ◌∙◌}
 use Rattle.std.specs.List.{AllByRecursion}
 use Rattle.col_common.specs.Reading.{IsBytes}
 use Rattle.col_model.specs.Refusal.{each_ok}
@@ -14,9 +14,14 @@ use Rattle.col_model.proofs.SeenLaws.{column_at}
 use Rattle.col_model.proofs.StackSeen.{IsShaped}
 use Rattle.col_model.proofs.StackTables.{stack-gist, stacked-is}
 use Rattle.col_model.proofs.WholeLaws.{CanStack, bracketing-ok, writing-at-once-is-enough}
-use Rattle.col_segments.specs.SegmentFiles.{file_table, stacked_files}
-use Rattle.col_segments.specs.FileLaws.{IsFile, FilesOfRunsMergeToOne, FilesOfRunsAreMade, FilesMergeInAnyBracketing, MergingAtOnceIsEnough}
+use Rattle.col_segments.specs.SegmentFiles.{file_table, parts_in, stacked_files}
+use Rattle.col_segments.specs.FileLaws.{FilesOfRunsMergeToOne, FilesOfRunsAreMade, FilesMergeInAnyBracketing, MergingAtOnceIsEnough}
 use Rattle.col_segments.proofs.PartLemmas.{has-table}
+use Rattle.col_segments.proofs.WholeLemmas.{merged-files-are-whole}
+use Rattle.col_model.specs.Merge.{merged, row_counts}
+use Rattle.col_model.specs.Order.{stack}
+use Rattle.std.specs.Prelude.{IsOk, is_ok}
+use Rattle.col_model.proofs.RefusalLaws.{bind-ok}
 use Rattle.col_segments.proofs.MadeLemmas.{each-one, ok-value, have-tables, stacked-tables, made-table, refuses-nothing}
 
 -- ---- runs
@@ -58,15 +63,15 @@ record AreSound (files : List (List ℕ)) : Type 0 where
   are : each_ok file_table files ≡ Ok tables
   leaves : AllByRecursion IsLeaf tables
 
-are-sound : (files : List (List ℕ)) → AllByRecursion IsFile files → AreSound files
-are-sound [] all = record { tables = []; are = refl; leaves = tt }
-are-sound (file ∷ files) all =
-    let t = ok-value (file_table file) all.0.whole in
-    let later = are-sound files all.1 in
+are-sound : (files : List (List ℕ)) → AllByRecursion IsBytes files → AllByRecursion (λ file. IsOk (file_table file)) files → AreSound files
+are-sound [] all whole = record { tables = []; are = refl; leaves = tt }
+are-sound (file ∷ files) all whole =
+    let t = ok-value (file_table file) whole.0 in
+    let later = are-sound files all.1 whole.1 in
     record {
       tables = t.0 ∷ later.tables;
       are = each-one file_table file files t.0 later.tables t.1 later.are;
-      leaves = (file-leaf file t.0 all.0.bytes t.1, later.leaves);
+      leaves = (file-leaf file t.0 all.0 t.1, later.leaves);
     }
 
 can-stack : (ts : List Table) (t : Table) → AllByRecursion IsShaped ts → stacked ts ≡ Ok t → CanStack ts
@@ -76,8 +81,10 @@ can-stack ts t shaped e =
 
 pub merging-at-once-is-enough : MergingAtOnceIsEnough
 merging-at-once-is-enough b all ok =
-    let sound = are-sound (unbracketed b) all in
     let t = ok-value (stacked_files (unbracketed b)) ok in
+    let step = bind-ok (parts_in (unbracketed b)) (λ parts. merged parts [] (stack (row_counts parts))) t.0 t.1 in
+    let whole = merged-files-are-whole (unbracketed b) step.0 [] (stack (row_counts step.0)) step.1 (ap is_ok step.2) in
+    let sound = are-sound (unbracketed b) all whole in
     let can = can-stack sound.tables t.0 (shaped-leaves sound.tables sound.leaves) (sym (at-once (unbracketed b) sound.tables sound.are) ∙ t.1) in
-    let found = bracketing-ok file_table IsFile (λ file t is e. file-leaf file t is.bytes e) b sound.tables all sound.are can in
+    let found = bracketing-ok file_table IsBytes file-leaf b sound.tables all sound.are can in
     refuses-nothing file_table b found.0 found.1

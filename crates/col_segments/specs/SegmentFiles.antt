@@ -1,7 +1,7 @@
 -- Files that are made in a bracketing. States docs/RULES.md, Segments.
 use Rattle.std.specs.Prelude.{◌≡◌, ℕ, List, [], ◌∷◌, Some, Result, Ok, IsOk}
 use Rattle.col_model.specs.Table.{Table}
-use Rattle.col_model.specs.File.{parts_of, table_of, StandsFor}
+use Rattle.col_model.specs.File.{Part, parts_of, table_of, StandsFor}
 use Rattle.col_model.specs.Order.{stack}
 use Rattle.col_model.specs.Merge.{merged, row_counts}
 use Rattle.col_model.specs.Refusal.{Refusal, ◌>>=◌, or_refuse, each_ok, invalid_data}
@@ -11,11 +11,14 @@ use Rattle.col_model.specs.Stacking.{Bracketing, nothing, item, bracket}
 abbrev pub file_table : List ℕ → Result Table Refusal
 file_table file = or_refuse (table_of file) invalid_data
 
+-- the parts of files
+abbrev pub parts_in : List (List ℕ) → Result (List Part) Refusal
+parts_in files = each_ok (λ file. or_refuse (parts_of file) invalid_data) files
+
 -- the table of merging files, segment after segment and without required columns
 abbrev pub stacked_files : List (List ℕ) → Result Table Refusal
-stacked_files files = do
-  parts ← each_ok (λ file. or_refuse (parts_of file) invalid_data) files
-  merged parts [] (stack (row_counts parts))
+stacked_files files =
+    parts_in files >>= λ parts. merged parts [] (stack (row_counts parts))
 
 -- a file of the table that is expected, of any version
 pub record HasTable (expected : Result Table Refusal) (file : List ℕ) : Type 0 where

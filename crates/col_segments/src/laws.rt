@@ -3,6 +3,7 @@ ghost use Rattle.col_segments.specs.FileLaws.{
   FilesMergeInAnyBracketing,
   FilesOfRunsAreMade,
   FilesOfRunsMergeToOne,
+  MergedFilesAreWhole,
   MergingAtOnceIsEnough,
 };
 ghost use Rattle.col_segments.specs.ScriptFiles.{
@@ -33,6 +34,11 @@ pub fn files_merge_in_any_bracketing()
 /// Where merging at once refuses nothing, no merge on the way does.
 pub fn merging_at_once_is_enough()
     ensures { MergingAtOnceIsEnough }
+{}
+
+/// A merge that isn't refused, in any order, has merged files of which each stands for a table.
+pub fn merged_files_are_whole()
+    ensures { MergedFilesAreWhole }
 {}
 
 // ---- Segments and inputs of scripts.

@@ -6,5 +6,6 @@ mod laws;
 
 pub use laws::{
     files_merge_in_any_bracketing, files_of_runs_are_made, files_of_runs_merge_to_one,
-    merging_at_once_is_enough, scripts_stack_files, segments_are_made, segments_merge_to_one,
+    merged_files_are_whole, merging_at_once_is_enough, scripts_stack_files, segments_are_made,
+    segments_merge_to_one,
 };

@@ -1,0 +1,190 @@
+-- The columns of a file are of different slots.
+use Rattle.std.proofs.Common.{◌≡◌, ℕ, ◌+◌, ◌==◌, Bool, true, false, cond, List, [], ◌∷◌, map, filter, find, length, Some, refl, sym, ap, ◌∙◌, subst, T}
+use Rattle.std.specs.Prelude.{Option, is_none}
+use Rattle.std.specs.List.{AllByRecursion}
+use Rattle.std.specs.Ordering.{nat_cmp, is_lt, is_eq}
+use Rattle.std.specs.Cmp.Lexicographic.{slice_cmp}
+use Rattle.std.proofs.lemmas.Bool.{and_parts, false≢true}
+use Rattle.std.proofs.lemmas.Cmp.{tied_itself, nat_list_cmp_total}
+use Rattle.col_common.specs.Reading.{◌>>=◌, only_if, back, items, nothing_left}
+use Rattle.col_common.specs.VInt.{vint}
+use Rattle.col_model.specs.Ascending.{is_before, is_ascending}
+use Rattle.col_model.specs.Category.{category_of, only_type, Slot, slot_of, same_slot}
+use Rattle.col_model.specs.ColumnType.{ColumnType, is_numerical}
+use Rattle.col_model.specs.ColumnType as types
+use Rattle.col_model.specs.File.{Part, PartColumn, part_column, parts_of}
+use Rattle.col_model.specs.Keys.{Key, key_bytes, keyed_length, are_keys, key_table, Entry, entries_from, total_length, FileKeys, FileFooter, file_footer, keys}
+use Rattle.col_model.specs.Merge.{part_slot}
+use Rattle.col_model.proofs.DecodedNumbers.{step-of, if-of}
+use Rattle.col_model.proofs.OrderedColumns.{same-slots}
+use Rattle.col_model.proofs.OrderingLaws.{less_of}
+use Rattle.col_model.proofs.SharedTypes.{same-some, only-type}
+use Rattle.col_model.proofs.SlotLaws.{slots_total}
+use Rattle.col_model.proofs.StatsLaws.{all_by, all_mapped, map-map}
+
+-- ---- lists
+
+any : {A : Type 0} {P : A → Type 0} → ((x : A) → P x) → (xs : List A) → AllByRecursion P xs
+any f [] = tt
+any f (x ∷ xs) = (f x, any f xs)
+
+pub both : {A : Type 0} (P Q : A → Type 0) (xs : List A) → AllByRecursion P xs → AllByRecursion Q xs → AllByRecursion (λ x. P x × Q x) xs
+both P Q [] p q = tt
+both P Q (x ∷ xs) p q = ((p.0, q.0), both P Q xs p.1 q.1)
+
+-- ---- byte lists that ascend
+
+before-trans : (a b c : List ℕ) → is_before a b ≡ true → is_before b c ≡ true → is_before a c ≡ true
+before-trans a b c e f = ap is_lt (nat_list_cmp_total.trans a b c (less_of (slice_cmp nat_cmp a b) (subst T (sym e) tt)) (less_of (slice_cmp nat_cmp b c) (subst T (sym f) tt)))
+
+not-before : (a : List ℕ) → is_before a a ≡ true → ⊥
+not-before a e = false≢true (sym (ap is_lt (tied_itself nat_list_cmp_total a)) ∙ e)
+
+behind : (a : List ℕ) (others : List (List ℕ)) → is_ascending (a ∷ others) ≡ true → AllByRecursion (λ b. is_before a b ≡ true) others
+behind a [] e = tt
+behind a (b ∷ bs) e =
+    let parts = and_parts (is_before a b) (is_ascending (b ∷ bs)) e in
+    (parts.0, all_by (λ c f. before-trans a b c parts.0 f) bs (behind b bs parts.1))
+
+ascending-tail : (a : List ℕ) (others : List (List ℕ)) → is_ascending (a ∷ others) ≡ true → is_ascending others ≡ true
+ascending-tail a [] e = refl
+ascending-tail a (b ∷ bs) e = (and_parts (is_before a b) (is_ascending (b ∷ bs)) e).1
+
+-- ---- keys of different slots
+
+abbrev key_slot : Key → Slot
+key_slot k = slot_of k.name k.column_type
+
+-- only the numerical category has no type of its own
+own-type : (t : ColumnType) → is_numerical t ≡ false → only_type (category_of t) ≡ Some t
+own-type types.i64 e = absurd (false≢true (sym e))
+own-type types.u64 e = absurd (false≢true (sym e))
+own-type types.bytes e = refl
+own-type types.str e = refl
+own-type types.bool e = refl
+own-type types.ip e = refl
+own-type types.datetime e = refl
+
+numerical-by : (t : ColumnType) → is_numerical t ≡ is_none (only_type (category_of t))
+numerical-by types.i64 = refl
+numerical-by types.u64 = refl
+numerical-by types.bytes = refl
+numerical-by types.str = refl
+numerical-by types.bool = refl
+numerical-by types.ip = refl
+numerical-by types.datetime = refl
+
+-- k stands before l, and before it by name where both are numerical
+record IsBehind (k l : Key) : Type 0 where
+  before : is_before (key_bytes k) (key_bytes l) ≡ true
+  numerical : is_numerical k.column_type ≡ true → is_numerical l.column_type ≡ true → is_before k.name l.name ≡ true
+
+-- such keys are of different slots
+apart-two : (k l : Key) → IsBehind k l → same_slot (key_slot k) (key_slot l) ≡ false
+apart-two k l h = by (same_slot (key_slot k) (key_slot l)) refl
+  where
+    kind : key_slot k ≡ key_slot l → (b : Bool) → is_numerical k.column_type ≡ b → ⊥
+    kind e true n =
+        let other : is_numerical l.column_type ≡ true = numerical-by l.column_type ∙ ap (λ s. is_none (only_type s.category)) (sym e) ∙ sym (numerical-by k.column_type) ∙ n in
+        not-before k.name (ap (is_before k.name) (ap (λ s. s.name) e) ∙ h.numerical n other)
+    kind e false n =
+        let own = own-type k.column_type n in
+        let other : l.column_type ≡ k.column_type = only-type l.column_type k.column_type (ap (λ s. only_type s.category) (sym e) ∙ own) in
+        let same : key_bytes k ≡ key_bytes l = λ i. key_bytes (record { name = (ap (λ s. s.name) e) i; column_type = (sym other) i }) in
+        not-before (key_bytes k) (ap (is_before (key_bytes k)) same ∙ h.before)
+
+    by : (b : Bool) → same_slot (key_slot k) (key_slot l) ≡ b → b ≡ false
+    by true e = absurd (kind (same-slots (key_slot k) (key_slot l) e) (is_numerical k.column_type) refl)
+    by false e = refl
+
+-- the slots of keys are different
+abbrev pub AreApart : List Key → Type 0
+AreApart [] = Unit {0}
+AreApart (k ∷ ks) = AllByRecursion (λ l. same_slot (key_slot k) (key_slot l) ≡ false) ks × AreApart ks
+
+abbrev names : List Key → List (List ℕ)
+names ks = map (λ k. k.name) (filter (λ k. is_numerical k.column_type) ks)
+
+names-behind : (name : List ℕ) (ks : List Key) → AllByRecursion (λ other. is_before name other ≡ true) (names ks) → AllByRecursion (λ (k : Key). is_numerical k.column_type ≡ true → is_before name k.name ≡ true) ks
+names-behind name [] all = tt
+names-behind name (k ∷ ks) all = by (is_numerical k.column_type) refl all (names-behind name ks)
+  where
+    by : (b : Bool) → is_numerical k.column_type ≡ b → AllByRecursion (λ other. is_before name other ≡ true) (map (λ k. k.name) (cond b (k ∷ filter (λ k. is_numerical k.column_type) ks) (filter (λ k. is_numerical k.column_type) ks)))
+        → (AllByRecursion (λ other. is_before name other ≡ true) (names ks) → AllByRecursion (λ (k : Key). is_numerical k.column_type ≡ true → is_before name k.name ≡ true) ks)
+        → (is_numerical k.column_type ≡ true → is_before name k.name ≡ true) × AllByRecursion (λ (k : Key). is_numerical k.column_type ≡ true → is_before name k.name ≡ true) ks
+    by true e all later = (λ _. all.0, later all.1)
+    by false e all later = (λ n. absurd (false≢true (sym e ∙ n)), later all)
+
+module _ (k : Key) (ks : List Key) (before : is_ascending (map key_bytes (k ∷ ks)) ≡ true) (named : is_ascending (names (k ∷ ks)) ≡ true) where
+  named-as : (b : Bool) → is_numerical k.column_type ≡ b → is_ascending (map (λ k. k.name) (cond b (k ∷ filter (λ k. is_numerical k.column_type) ks) (filter (λ k. is_numerical k.column_type) ks))) ≡ true
+  named-as b e = ap (λ b. is_ascending (map (λ k. k.name) (cond b (k ∷ filter (λ k. is_numerical k.column_type) ks) (filter (λ k. is_numerical k.column_type) ks)))) (sym e) ∙ named
+
+  by-name : (b : Bool) → is_numerical k.column_type ≡ b → AllByRecursion (λ (l : Key). is_numerical k.column_type ≡ true → is_numerical l.column_type ≡ true → is_before k.name l.name ≡ true) ks
+  by-name true e = all_by (λ l f _. f) ks (names-behind k.name ks (behind k.name (names ks) (named-as true e)))
+  by-name false e = any (λ l n. absurd (false≢true (sym e ∙ n))) ks
+
+  all-behind : AllByRecursion (IsBehind k) ks
+  all-behind = all_by (λ l p. record { before = p.0; numerical = p.1 }) ks
+      (both _ _ ks (all_mapped (λ b. is_before (key_bytes k) b ≡ true) key_bytes ks (behind (key_bytes k) (map key_bytes ks) before)) (by-name (is_numerical k.column_type) refl))
+
+  names-tail : (b : Bool) → is_numerical k.column_type ≡ b → is_ascending (names ks) ≡ true
+  names-tail true e = ascending-tail k.name (names ks) (named-as true e)
+  names-tail false e = named-as false e
+
+are-apart : (ks : List Key) → is_ascending (map key_bytes ks) ≡ true → is_ascending (names ks) ≡ true → AreApart ks
+are-apart [] before named = tt
+are-apart (k ∷ ks) before named =
+    (all_by (apart-two k) ks (all-behind k ks before named), are-apart ks (ascending-tail (key_bytes k) (map key_bytes ks) before) (names-tail k ks before named (is_numerical k.column_type) refl))
+
+-- ---- the keys of a file
+
+key_table-keys : (bytes : List ℕ) (found : List (Key × ℕ)) → key_table bytes ≡ Some found → are_keys (map (λ p. p.0) found) ≡ true
+unfolding key_table
+key_table-keys bytes found e =
+    let last : List (Key × ℕ) → Option (List (Key × ℕ)) = λ found. only_if (are_keys (map (λ p. p.0) found)) found in
+    let a = step-of (vint bytes) (λ n. items keyed_length n.0 n.1 >>= nothing_left >>= last) found e in
+    let b = step-of (items keyed_length a.x.0 a.x.1 >>= nothing_left) last found a.rest in
+    let made = if-of (are_keys (map (λ p. p.0) b.x)) b.x found b.rest in
+    subst (λ found. are_keys (map (λ p. p.0) found) ≡ true) made.1 made.0
+
+keys_of_entries : (start : ℕ) (ps : List (Key × ℕ)) → map (λ e. e.key) (entries_from start ps) ≡ map (λ p. p.0) ps
+keys_of_entries start [] = refl
+keys_of_entries start (p ∷ ps) = ap (λ r. p.0 ∷ r) (keys_of_entries (start + p.1) ps)
+
+keys-are : (bytes : List ℕ) (k : FileKeys) → keys bytes ≡ Some k → are_keys (map (λ e. e.key) k.entries) ≡ true
+unfolding keys
+keys-are bytes k e =
+    let made : FileFooter → List (Key × ℕ) → FileKeys = λ f found. record { row_count = f.row_count; version = f.version; entries = entries_from 0 found } in
+    let last : FileFooter → List ℕ → List (Key × ℕ) → Option FileKeys = λ f body found. only_if (total_length found == length body) (made f found) in
+    let a = step-of (back 20 bytes) (λ parts. file_footer parts.1 >>= λ f. back f.table_length parts.0 >>= λ body. key_table body.1 >>= last f body.0) k e in
+    let b = step-of (file_footer a.x.1) (λ f. back f.table_length a.x.0 >>= λ body. key_table body.1 >>= last f body.0) k a.rest in
+    let c = step-of (back b.x.table_length a.x.0) (λ body. key_table body.1 >>= last b.x body.0) k b.rest in
+    let d = step-of (key_table c.x.1) (last b.x c.x.0) k c.rest in
+    let whole = if-of (total_length d.x == length c.x.0) (made b.x d.x) k d.rest in
+    ap (λ (k : FileKeys). are_keys (map (λ e. e.key) k.entries)) (sym whole.1) ∙ ap are_keys (keys_of_entries 0 d.x) ∙ key_table-keys c.x.1 d.x d.first
+
+-- the key of a part's column
+abbrev pub part_key : PartColumn → Key
+part_key c = record { name = c.name; column_type = c.column_type }
+
+-- The columns of a file are of different slots.
+pub file-apart : (file : List ℕ) (p : Part) → parts_of file ≡ Some p → AreApart (map part_key p.columns)
+unfolding parts_of
+file-apart file p e =
+    let made : FileKeys → Part = λ k. record { row_count = k.row_count; columns = map (part_column file k) k.entries } in
+    let a = step-of (keys file) (λ k. Some (made k)) p e in
+    let ks = map (λ (e : Entry). e.key) a.x.entries in
+    let is : are_keys ks ≡ true = keys-are file a.x a.first in
+    let parts = and_parts (is_ascending (map key_bytes ks)) (is_ascending (names ks)) is in
+    subst (λ (p : Part). AreApart (map part_key p.columns)) (same-some (made a.x) p a.rest)
+    (subst AreApart (sym (map-map (part_column file a.x) part_key a.x.entries)) (are-apart ks parts.0 parts.1))
+
+-- ---- columns by their slots
+
+-- a column of different slots is found by its own
+pub found-own : (cs : List PartColumn) → AreApart (map part_key cs) → AllByRecursion (λ c. find (λ d. same_slot (part_slot d) (part_slot c)) cs ≡ Some c) cs
+found-own [] apart = tt
+found-own (c ∷ cs) apart = (
+  ap (λ o. cond (is_eq o) (Some c) (find (λ d. same_slot (part_slot d) (part_slot c)) cs)) (tied_itself slots_total (part_slot c)),
+  all_by (λ d p. ap (λ b. cond b (Some c) (find (λ e. same_slot (part_slot e) (part_slot d)) cs)) p.0 ∙ p.1) cs (both _ _ cs (all_mapped (λ l. same_slot (part_slot c) (key_slot l) ≡ false) part_key cs apart.0) (found-own cs apart.1)),
+)
