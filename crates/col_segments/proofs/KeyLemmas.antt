@@ -151,6 +151,12 @@ keys_of_entries : (start : ℕ) (ps : List (Key × ℕ)) → map (λ e. e.key) (
 keys_of_entries start [] = refl
 keys_of_entries start (p ∷ ps) = ap (λ r. p.0 ∷ r) (keys_of_entries (start + p.1) ps)
 
+entries-keyed : (bytes : List ℕ) (found : List (Key × ℕ)) → key_table bytes ≡ Some found → are_keys (map (λ e. e.key) (entries_from 0 found)) ≡ true
+entries-keyed bytes found e = ap are_keys (keys_of_entries 0 found) ∙ key_table-keys bytes found e
+
+are-keyed : (l k : FileKeys) → l ≡ k → are_keys (map (λ e. e.key) l.entries) ≡ true → are_keys (map (λ e. e.key) k.entries) ≡ true
+are-keyed l k same e = subst (λ (k : FileKeys). are_keys (map (λ e. e.key) k.entries) ≡ true) same e
+
 keys-are : (bytes : List ℕ) (k : FileKeys) → keys bytes ≡ Some k → are_keys (map (λ e. e.key) k.entries) ≡ true
 unfolding keys
 keys-are bytes k e =
@@ -161,7 +167,7 @@ keys-are bytes k e =
     let c = step-of (back b.x.table_length a.x.0) (λ body. key_table body.1 >>= last b.x body.0) k b.rest in
     let d = step-of (key_table c.x.1) (last b.x c.x.0) k c.rest in
     let whole = if-of (total_length d.x == length c.x.0) (made b.x d.x) k d.rest in
-    ap (λ (k : FileKeys). are_keys (map (λ e. e.key) k.entries)) (sym whole.1) ∙ ap are_keys (keys_of_entries 0 d.x) ∙ key_table-keys c.x.1 d.x d.first
+    are-keyed (made b.x d.x) k whole.1 (entries-keyed c.x.1 d.x d.first)
 
 -- the key of a part's column
 abbrev pub part_key : PartColumn → Key

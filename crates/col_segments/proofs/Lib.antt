@@ -1,3 +1,4 @@
+mod FileBracketings
 mod PartLemmas
 mod MadeLemmas
 mod KeyLemmas
