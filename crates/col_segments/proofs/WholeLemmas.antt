@@ -23,7 +23,8 @@ use Rattle.col_model.proofs.StackTables.{not-refused}
 use Rattle.col_model.proofs.StatsLaws.{all_by}
 use Rattle.col_segments.specs.SegmentFiles.{file_table, parts_in}
 use Rattle.col_segments.specs.FileLaws.{MergedFilesAreWhole}
-use Rattle.col_segments.proofs.KeyLemmas.{both, AreApart, part_key, file-apart, found-own}
+use Rattle.col_segments.proofs.KeyLemmas.{both, AreApart}
+use Rattle.col_segments.proofs.FileKeyLemmas.{part_key, file-apart, found-own}
 use Rattle.col_segments.proofs.MadeLemmas.{part_in, ok-value}
 
 -- ---- a part whose columns are whole

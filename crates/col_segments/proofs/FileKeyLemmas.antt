@@ -1,0 +1,78 @@
+-- The columns of a file are of different slots.
+use Rattle.std.proofs.Common.{◌≡◌, ℕ, ◌+◌, ◌==◌, true, false, cond, List, [], ◌∷◌, map, find, length, Some, refl, sym, ap, ◌∙◌, subst}
+use Rattle.std.specs.Prelude.{Option}
+use Rattle.std.specs.List.{AllByRecursion}
+use Rattle.std.specs.Ordering.{is_eq}
+use Rattle.std.proofs.lemmas.Bool.{and_parts}
+use Rattle.std.proofs.lemmas.Cmp.{tied_itself}
+use Rattle.col_common.specs.Reading.{◌>>=◌, only_if, back, items, nothing_left}
+use Rattle.col_common.specs.VInt.{vint}
+use Rattle.col_model.specs.Ascending.{is_ascending}
+use Rattle.col_model.specs.Category.{same_slot}
+use Rattle.col_model.specs.File.{Part, PartColumn, part_column, parts_of}
+use Rattle.col_model.specs.Keys.{Key, key_bytes, keyed_length, are_keys, key_table, Entry, entries_from, total_length, FileKeys, FileFooter, file_footer, keys}
+use Rattle.col_model.specs.Merge.{part_slot}
+use Rattle.col_model.proofs.DecodedNumbers.{step-of, if-of}
+use Rattle.col_model.proofs.SharedTypes.{same-some}
+use Rattle.col_model.proofs.SlotLaws.{slots_total}
+use Rattle.col_model.proofs.StatsLaws.{all_by, all_mapped, map-map}
+use Rattle.col_segments.proofs.KeyLemmas.{both, key_slot, names, AreApart, are-apart}
+
+-- ---- the keys of a file
+
+key_table-keys : (bytes : List ℕ) (found : List (Key × ℕ)) → key_table bytes ≡ Some found → are_keys (map (λ p. p.0) found) ≡ true
+unfolding key_table
+key_table-keys bytes found e =
+    let last : List (Key × ℕ) → Option (List (Key × ℕ)) = λ found. only_if (are_keys (map (λ p. p.0) found)) found in
+    let a = step-of (vint bytes) (λ n. items keyed_length n.0 n.1 >>= nothing_left >>= last) found e in
+    let b = step-of (items keyed_length a.x.0 a.x.1 >>= nothing_left) last found a.rest in
+    let made = if-of (are_keys (map (λ p. p.0) b.x)) b.x found b.rest in
+    subst (λ found. are_keys (map (λ p. p.0) found) ≡ true) made.1 made.0
+
+keys_of_entries : (start : ℕ) (ps : List (Key × ℕ)) → map (λ e. e.key) (entries_from start ps) ≡ map (λ p. p.0) ps
+keys_of_entries start [] = refl
+keys_of_entries start (p ∷ ps) = ap (λ r. p.0 ∷ r) (keys_of_entries (start + p.1) ps)
+
+entries-keyed : (bytes : List ℕ) (found : List (Key × ℕ)) → key_table bytes ≡ Some found → are_keys (map (λ e. e.key) (entries_from 0 found)) ≡ true
+entries-keyed bytes found e = ap are_keys (keys_of_entries 0 found) ∙ key_table-keys bytes found e
+
+are-keyed : (l k : FileKeys) → l ≡ k → are_keys (map (λ e. e.key) l.entries) ≡ true → are_keys (map (λ e. e.key) k.entries) ≡ true
+are-keyed l k same e = subst (λ (k : FileKeys). are_keys (map (λ e. e.key) k.entries) ≡ true) same e
+
+keys-are : (bytes : List ℕ) (k : FileKeys) → keys bytes ≡ Some k → are_keys (map (λ e. e.key) k.entries) ≡ true
+unfolding keys
+keys-are bytes k e =
+    let made : FileFooter → List (Key × ℕ) → FileKeys = λ f found. record { row_count = f.row_count; version = f.version; entries = entries_from 0 found } in
+    let last : FileFooter → List ℕ → List (Key × ℕ) → Option FileKeys = λ f body found. only_if (total_length found == length body) (made f found) in
+    let a = step-of (back 20 bytes) (λ parts. file_footer parts.1 >>= λ f. back f.table_length parts.0 >>= λ body. key_table body.1 >>= last f body.0) k e in
+    let b = step-of (file_footer a.x.1) (λ f. back f.table_length a.x.0 >>= λ body. key_table body.1 >>= last f body.0) k a.rest in
+    let c = step-of (back b.x.table_length a.x.0) (λ body. key_table body.1 >>= last b.x body.0) k b.rest in
+    let d = step-of (key_table c.x.1) (last b.x c.x.0) k c.rest in
+    let whole = if-of (total_length d.x == length c.x.0) (made b.x d.x) k d.rest in
+    are-keyed (made b.x d.x) k whole.1 (entries-keyed c.x.1 d.x d.first)
+
+-- the key of a part's column
+abbrev pub part_key : PartColumn → Key
+part_key c = record { name = c.name; column_type = c.column_type }
+
+-- The columns of a file are of different slots.
+pub file-apart : (file : List ℕ) (p : Part) → parts_of file ≡ Some p → AreApart (map part_key p.columns)
+unfolding parts_of
+file-apart file p e =
+    let made : FileKeys → Part = λ k. record { row_count = k.row_count; columns = map (part_column file k) k.entries } in
+    let a = step-of (keys file) (λ k. Some (made k)) p e in
+    let ks = map (λ (e : Entry). e.key) a.x.entries in
+    let is : are_keys ks ≡ true = keys-are file a.x a.first in
+    let parts = and_parts (is_ascending (map key_bytes ks)) (is_ascending (names ks)) is in
+    subst (λ (p : Part). AreApart (map part_key p.columns)) (same-some (made a.x) p a.rest)
+    (subst AreApart (sym (map-map (part_column file a.x) part_key a.x.entries)) (are-apart ks parts.0 parts.1))
+
+-- ---- columns by their slots
+
+-- a column of different slots is found by its own
+pub found-own : (cs : List PartColumn) → AreApart (map part_key cs) → AllByRecursion (λ c. find (λ d. same_slot (part_slot d) (part_slot c)) cs ≡ Some c) cs
+found-own [] apart = tt
+found-own (c ∷ cs) apart = (
+  ap (λ o. cond (is_eq o) (Some c) (find (λ d. same_slot (part_slot d) (part_slot c)) cs)) (tied_itself slots_total (part_slot c)),
+  all_by (λ d p. ap (λ b. cond b (Some c) (find (λ e. same_slot (part_slot e) (part_slot d)) cs)) p.0 ∙ p.1) cs (both _ _ cs (all_mapped (λ l. same_slot (part_slot c) (key_slot l) ≡ false) part_key cs apart.0) (found-own cs apart.1)),
+)
