@@ -1,5 +1,7 @@
 // Ascending lists under any codec, and places in them: what the measures of indexes and columns share.
-use crate::shared::{BLOCK, Bitpacked, Blockwise, Linear, List, load, put_vint};
+#![allow(dead_code)] // each measure takes a part of it
+
+use crate::shared::{Bitpacked, Blockwise, Linear, List, load, put_best, put_vint};
 
 enum Codec { Bitpacked(Bitpacked), Linear(Linear), Blockwise(Blockwise) }
 
@@ -23,6 +25,17 @@ impl Numbers {
             Codec::Linear(list) => list.get(at as usize),
             Codec::Blockwise(list) => list.get(at as usize),
         }
+    }
+
+    pub fn to_vec(&self) -> Vec<u64> {
+        let mut vals = Vec::with_capacity(self.count as usize);
+        let places = 0..self.count as usize;
+        match &self.codec {
+            Codec::Bitpacked(list) => list.each(places, |_, val| vals.push(val)),
+            Codec::Linear(list) => list.each(places, |_, val| vals.push(val)),
+            Codec::Blockwise(list) => list.each(places, |_, val| vals.push(val)),
+        }
+        vals
     }
 
     // How many are below a target, by halves. Out of line, which keeps walks short.
@@ -71,16 +84,7 @@ impl Place {
 }
 
 // Writes a list under Bitpacked or Linear, whichever takes fewer bytes.
-pub fn put_list(vals: &[u64], out: &mut Vec<u8>) {
-    let mut packed = vec![Bitpacked::CODE];
-    Bitpacked::write(vals, &mut packed);
-    if vals.len() >= BLOCK {
-        let mut linear = vec![Linear::CODE];
-        Linear::write(vals, &mut linear);
-        if linear.len() < packed.len() { packed = linear }
-    }
-    out.extend_from_slice(&packed);
-}
+pub fn put_list(vals: &[u64], out: &mut Vec<u8>) { put_best::<Linear>(vals, out) }
 
 pub fn set_bytes(num_rows: usize, rows: &[u64]) -> Vec<u8> {
     let mut out = Vec::new();

@@ -1,5 +1,7 @@
 // What the measures in Rust share: lists of numbers in their packed forms, and the best of several runs.
 // Where a proof makes a test needless, `unsafe` leaves it out here too.
+#![allow(dead_code)] // each measure takes a part of it
+
 use std::ops::Range;
 use std::time::Instant;
 
@@ -22,6 +24,15 @@ impl Line {
         self.intercept.wrapping_add(rise as i64 as u64)
     }
 
+    // How many bytes the line takes with its width.
+    fn num_bytes(self) -> usize { vint_len(self.slope) + vint_len(self.intercept) + 1 }
+
+    fn put(self, bits: usize, out: &mut Vec<u8>) {
+        put_vint(self.slope, out);
+        put_vint(self.intercept, out);
+        out.push(bits as u8);
+    }
+
     fn train(ys: &[u64]) -> Line {
         let steps = ys.len() as u64 - 1;
         if steps == 0 { return Line::default(); }
@@ -38,10 +49,10 @@ impl Line {
 }
 
 #[derive(Clone, Copy)]
-struct Packed { data: &'static [u8], bits: usize, mask: u64 }
+pub struct Packed { data: &'static [u8], bits: usize, mask: u64 }
 
 impl Packed {
-    fn new(data: &'static [u8], bits: usize) -> Self {
+    pub fn new(data: &'static [u8], bits: usize) -> Self {
         Packed { data, bits, mask: if bits == 64 { u64::MAX } else { (1 << bits) - 1 } }
     }
 
@@ -71,7 +82,7 @@ impl Packed {
 
     // Numbers whose eight bytes are there come first, without a test.
     #[inline(always)]
-    fn each(self, places: Range<usize>, mut f: impl FnMut(usize, u64)) {
+    pub fn each(self, places: Range<usize>, mut f: impl FnMut(usize, u64)) {
         let padded = match self.data.len().checked_sub(8) {
             None => places.start,
             Some(last) => (last * 8 / self.bits.max(1) + 1).clamp(places.start, places.end),
@@ -100,6 +111,8 @@ pub fn put_vint(mut value: u64, out: &mut Vec<u8>) {
     out.push(value as u8 | 128);
 }
 
+fn vint_len(value: u64) -> usize { (64 - value.leading_zeros() as usize).div_ceil(7).max(1) }
+
 fn pack(bits: usize, values: impl Iterator<Item = u64>, out: &mut Vec<u8>) {
     let (mut held, mut filled) = (0, 0);
     for value in values {
@@ -119,19 +132,27 @@ fn gcd(mut a: u64, mut b: u64) -> u64 {
     a
 }
 
-// Adds the statistics, and gives the least value, the divisor and the steps.
-fn put_stats(vals: &[u64], out: &mut Vec<u8>) -> (u64, u64, u64) {
-    let first = vals.first().copied().unwrap_or_default();
-    let (mut min, mut max, mut divisor) = (first, first, 0);
-    for &val in vals {
-        if divisor != 1 { divisor = gcd(val.abs_diff(first), divisor); }
-        min = min.min(val);
-        max = max.max(val);
+// The statistics of a list.
+pub struct Stats { min: u64, gcd: u64, steps: u64, count: usize }
+
+impl Stats {
+    pub fn of(vals: &[u64]) -> Stats {
+        let first = vals.first().copied().unwrap_or_default();
+        let (mut min, mut max, mut divisor) = (first, first, 0);
+        for &val in vals {
+            if divisor != 1 { divisor = gcd(val.abs_diff(first), divisor); }
+            min = min.min(val);
+            max = max.max(val);
+        }
+        let divisor = divisor.max(1);
+        Stats { min, gcd: divisor, steps: (max - min) / divisor, count: vals.len() }
     }
-    let divisor = divisor.max(1);
-    let steps = (max - min) / divisor;
-    for part in [min, divisor, steps, vals.len() as u64] { put_vint(part, out); }
-    (min, divisor, steps)
+
+    fn parts(&self) -> [u64; 4] { [self.min, self.gcd, self.steps, self.count as u64] }
+
+    fn put(&self, out: &mut Vec<u8>) { for part in self.parts() { put_vint(part, out) } }
+
+    fn num_bytes(&self) -> usize { self.parts().into_iter().map(vint_len).sum() }
 }
 
 // What statistics tell of a list.
@@ -139,10 +160,19 @@ pub struct Told { pub count: usize, pub min: u64, pub max: u64 }
 
 pub trait List: Sized {
     const CODE: u8;
-    fn write(vals: &[u64], out: &mut Vec<u8>);
+    // How many bytes the list takes, as the choice among codecs counts them.
+    fn estimate(vals: &[u64], stats: &Stats) -> usize;
+    // Adds what stands behind the statistics.
+    fn put(vals: &[u64], stats: &Stats, out: &mut Vec<u8>);
     fn open(rest: &'static [u8], min: u64, gcd: u64, steps: u64, count: usize) -> Self;
     fn get(&self, row: usize) -> u64;
     fn each(&self, rows: Range<usize>, f: impl FnMut(usize, u64));
+
+    fn write(vals: &[u64], out: &mut Vec<u8>) {
+        let stats = Stats::of(vals);
+        stats.put(out);
+        Self::put(vals, &stats, out);
+    }
 
     fn read(mut bytes: &'static [u8]) -> (Self, Told) {
         bytes = &bytes[1..];
@@ -157,8 +187,12 @@ pub struct Bitpacked { packed: Packed, min: u64, gcd: u64 }
 impl List for Bitpacked {
     const CODE: u8 = 0;
 
-    fn write(vals: &[u64], out: &mut Vec<u8>) {
-        let (min, gcd, steps) = put_stats(vals, out);
+    fn estimate(vals: &[u64], stats: &Stats) -> usize {
+        stats.num_bytes() + (vals.len() * width(stats.steps)).div_ceil(8)
+    }
+
+    fn put(vals: &[u64], stats: &Stats, out: &mut Vec<u8>) {
+        let &Stats { min, gcd, steps, .. } = stats;
         if gcd == 1 { pack(width(steps), vals.iter().map(|val| val - min), out) }
         else { pack(width(steps), vals.iter().map(|val| (val - min) / gcd), out) }
     }
@@ -179,11 +213,9 @@ impl List for Bitpacked {
 
 pub struct Linear { packed: Packed, line: Line }
 
-impl List for Linear {
-    const CODE: u8 = 1;
-
-    fn write(vals: &[u64], out: &mut Vec<u8>) {
-        put_stats(vals, out);
+impl Linear {
+    // The line below all values, and the width of what they lie above it.
+    fn fit(vals: &[u64]) -> (Line, usize) {
         let mut line = Line::train(&vals[..BLOCK]);
         let (mut least, mut greatest) = (u64::MAX, 0);
         for (row, val) in vals.iter().enumerate() {
@@ -192,11 +224,24 @@ impl List for Linear {
             greatest = greatest.max(deviation);
         }
         line.intercept = line.intercept.wrapping_add(least).wrapping_sub(HALF_SPACE);
-        put_vint(line.slope, out);
-        put_vint(line.intercept, out);
-        out.push(width(greatest - least) as u8);
+        (line, width(greatest - least))
+    }
+}
+
+impl List for Linear {
+    const CODE: u8 = 1;
+
+    fn estimate(vals: &[u64], stats: &Stats) -> usize {
+        if vals.len() < BLOCK { return usize::MAX; }
+        let (line, bits) = Linear::fit(vals);
+        stats.num_bytes() + line.num_bytes() + (vals.len() * bits).div_ceil(8)
+    }
+
+    fn put(vals: &[u64], _: &Stats, out: &mut Vec<u8>) {
+        let (line, bits) = Linear::fit(vals);
+        line.put(bits, out);
         let offsets = vals.iter().enumerate().map(|(row, val)| val.wrapping_sub(line.eval(row)));
-        pack(width(greatest - least), offsets, out);
+        pack(bits, offsets, out);
     }
 
     fn open(mut rest: &'static [u8], _: u64, _: u64, _: u64, _: usize) -> Self {
@@ -219,8 +264,18 @@ pub struct Blockwise { blocks: Vec<Linear>, min: u64, gcd: u64 }
 impl List for Blockwise {
     const CODE: u8 = 2;
 
-    fn write(vals: &[u64], out: &mut Vec<u8>) {
-        let (min, gcd, _) = put_stats(vals, out);
+    fn estimate(vals: &[u64], stats: &Stats) -> usize {
+        let blocks = vals.chunks(BLOCK).map(|block| {
+            let line = Line::train(block);
+            let offsets = block.iter().enumerate().map(|(at, val)| val.wrapping_sub(line.eval(at)));
+            line.num_bytes() + (block.len() * width(offsets.max().unwrap())).div_ceil(8)
+        });
+        let spared = stats.gcd.ilog2() as usize * vals.len() / 8;
+        (8 + stats.num_bytes() + blocks.sum::<usize>()).saturating_sub(spared)
+    }
+
+    fn put(vals: &[u64], stats: &Stats, out: &mut Vec<u8>) {
+        let &Stats { min, gcd, .. } = stats;
         let mut lines = Vec::new();
         let mut block = [0; BLOCK];
         for part in vals.chunks(BLOCK) {
@@ -234,9 +289,7 @@ impl List for Blockwise {
                 *step = step.wrapping_sub(line.eval(at));
                 greatest = greatest.max(*step);
             }
-            put_vint(line.slope, &mut lines);
-            put_vint(line.intercept, &mut lines);
-            lines.push(width(greatest) as u8);
+            line.put(width(greatest), &mut lines);
             pack(width(greatest), block.iter().copied(), out);
         }
         out.extend_from_slice(&lines);
@@ -275,6 +328,15 @@ impl List for Blockwise {
             start = end;
         }
     }
+}
+
+// Writes a list as Bitpacked, or under another codec where that takes fewer bytes.
+pub fn put_best<L: List>(vals: &[u64], out: &mut Vec<u8>) {
+    let stats = Stats::of(vals);
+    let is_other = L::estimate(vals, &stats) < Bitpacked::estimate(vals, &stats);
+    out.push(if is_other { L::CODE } else { Bitpacked::CODE });
+    stats.put(out);
+    if is_other { L::put(vals, &stats, out) } else { Bitpacked::put(vals, &stats, out) }
 }
 
 // The list of the bytes, if its least and its greatest value are those that are told.
