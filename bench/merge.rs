@@ -1,0 +1,241 @@
+// Merges of files in Rust, which write the same bytes: columns are decoded, put in order, and written.
+mod compact;
+mod files;
+mod numbers;
+mod shared;
+
+use files::*;
+use numbers::Numbers;
+use shared::{best, take_vint};
+use std::cmp::Reverse;
+use std::collections::BinaryHeap;
+use std::hint::black_box;
+use std::ops::Range;
+
+const NUM_FILES: usize = 8;
+
+// A file of documents.
+fn file_of(docs: &[Doc], texts: &[String]) -> Vec<u8> {
+    fn beside<T>(docs: &[Doc], vals: impl Fn(&Doc) -> Vec<T>) -> (Vec<u32>, Vec<T>) {
+        let all = docs.iter().enumerate().flat_map(|(at, doc)| vals(doc).into_iter().map(move |val| (at as u32, val)));
+        all.unzip()
+    }
+    let num_docs = docs.len() as u32;
+    let mut file = File::default();
+    let (rows, vals) = beside(docs, |doc| Vec::from_iter(doc.address));
+    file.put("address", IP_ADDR, |out| put_addresses(&rows, &vals, num_docs, out));
+    let (rows, vals) = beside(docs, |doc| vec![u64::from(doc.flag)]);
+    file.put("flag", BOOL, |out| put_numbers(&rows, &vals, num_docs, out));
+    let (rows, vals) = beside(docs, |doc| vec![doc.id]);
+    file.put("id", U64, |out| put_numbers(&rows, &vals, num_docs, out));
+    let sizes = |doc: &Doc| doc.sizes[..doc.count as usize].iter().map(|size| *size as u64 ^ SIGN_BIT).collect();
+    let (rows, vals) = beside(docs, sizes);
+    file.put("sizes", I64, |out| put_numbers(&rows, &vals, num_docs, out));
+    let (rows, vals) = beside(docs, |doc| Vec::from_iter(texts.get(doc.text)));
+    let mut terms: Vec<&[u8]> = vals.iter().map(|text| text.as_bytes()).collect();
+    terms.sort_unstable();
+    terms.dedup();
+    let ords: Vec<u64> = vals.iter().map(|text| terms.binary_search(&text.as_bytes()).unwrap() as u64).collect();
+    file.put("text", STR, |out| put_texts(&terms, &rows, &ords, num_docs, out));
+    file.finish(num_docs)
+}
+
+// The columns of a file, each under its key.
+struct Reader { num_docs: u32, columns: Vec<(&'static [u8], &'static [u8])> }
+
+impl Reader {
+    fn open(bytes: &'static [u8]) -> Reader {
+        let (parts, footer) = bytes.split_last_chunk::<20>().unwrap();
+        let keys_len = u64::from_le_bytes(footer[..8].try_into().unwrap()) as usize;
+        let num_docs = u32::from_le_bytes(footer[8..12].try_into().unwrap());
+        let (mut left, mut keys) = parts.split_at(parts.len() - keys_len);
+        let mut columns = Vec::new();
+        for _ in 0..take_vint(&mut keys) {
+            let key_len = take_vint(&mut keys) as usize;
+            let key = take(key_len, &mut keys);
+            let column_len = take_vint(&mut keys) as usize;
+            columns.push((key, take(column_len, &mut left)));
+        }
+        Reader { num_docs, columns }
+    }
+}
+
+fn take(len: usize, bytes: &mut &'static [u8]) -> &'static [u8] {
+    let (taken, rest) = bytes.split_at(len);
+    *bytes = rest;
+    taken
+}
+
+// Where the values of each row start, and the last end, unless each row has one; and the values.
+struct Part<T> { starts: Option<Vec<u32>>, vals: Vec<T> }
+
+fn list(bytes: &'static [u8]) -> Vec<u64> { Numbers::open(bytes).unwrap().to_vec() }
+
+fn starts(bytes: &'static [u8], num_docs: u32) -> Option<Vec<u32>> {
+    let (code, rest) = bytes.split_first().unwrap();
+    let (mut set, offsets) = match code {
+        0 => return None,
+        1 => (rest, None),
+        _ => {
+            let (parts, len) = rest.split_last_chunk().unwrap();
+            let (set, offsets) = parts.split_at(u64::from_le_bytes(*len) as usize);
+            (set, Some(list(offsets)))
+        }
+    };
+    take_vint(&mut set);
+    let rows = list(set);
+    let mut starts = Vec::with_capacity(num_docs as usize + 1);
+    for (at, row) in rows.iter().enumerate() {
+        let start = offsets.as_ref().map_or(at as u32, |offsets| offsets[at] as u32);
+        starts.resize(*row as usize + 1, start);
+    }
+    let end = offsets.map_or(rows.len() as u32, |offsets| offsets[rows.len()] as u32);
+    starts.resize(num_docs as usize + 1, end);
+    Some(starts)
+}
+
+impl<T: Copy> Part<T> {
+    fn open(bytes: &'static [u8], num_docs: u32, vals: impl Fn(&'static [u8]) -> Vec<T>) -> Part<T> {
+        let (parts, len) = bytes.split_last_chunk().unwrap();
+        let (index, rest) = parts.split_at(u64::from_le_bytes(*len) as usize);
+        Part { starts: starts(index, num_docs), vals: vals(rest) }
+    }
+
+    #[inline(always)]
+    fn places(&self, row: u32) -> Range<usize> {
+        match &self.starts {
+            None => row as usize..row as usize + 1,
+            Some(starts) => starts[row as usize] as usize..starts[row as usize + 1] as usize,
+        }
+    }
+}
+
+// Terms ascending, and ordinals.
+fn open_texts(bytes: &'static [u8], num_docs: u32) -> (Vec<&'static [u8]>, Part<u64>) {
+    let (parts, len) = bytes.split_last_chunk().unwrap();
+    let (dictionary, ords) = parts.split_at(u32::from_le_bytes(*len) as usize);
+    let number = |at| u32::from_le_bytes(*dictionary[at..].first_chunk().unwrap()) as usize;
+    let (count, mut start) = (number(0), 4 + 4 * number(0));
+    let terms = (0..count).map(|ord| {
+        let end = 4 + 4 * count + number(4 + 4 * ord);
+        let term = &dictionary[start..end];
+        start = end;
+        term
+    });
+    (terms.collect(), Part::open(ords, num_docs, list))
+}
+
+// The terms of all columns, and the place there of each column's terms.
+fn merge_terms(columns: &[Vec<&'static [u8]>]) -> (Vec<&'static [u8]>, Vec<Vec<u64>>) {
+    let mut places: Vec<Vec<u64>> = columns.iter().map(|terms| Vec::with_capacity(terms.len())).collect();
+    let first = columns.iter().enumerate().filter_map(|(at, terms)| Some(Reverse((*terms.first()?, at))));
+    let mut heap: BinaryHeap<_> = first.collect();
+    let mut all: Vec<&[u8]> = Vec::new();
+    while let Some(mut top) = heap.peek_mut() {
+        let (term, at) = top.0;
+        if all.last() != Some(&term) { all.push(term) }
+        places[at].push(all.len() as u64 - 1);
+        match columns[at].get(places[at].len()) {
+            Some(next) => *top = Reverse((*next, at)),
+            None => drop(std::collections::binary_heap::PeekMut::pop(top)),
+        }
+    }
+    (all, places)
+}
+
+// All rows, file after file, or those that are named, by file and row.
+enum Order { Stack, Shuffle(Vec<(u32, u32)>) }
+
+impl Order {
+    fn each(&self, readers: &[Reader], mut f: impl FnMut(usize, u32)) {
+        match self {
+            Order::Stack => for (at, reader) in readers.iter().enumerate() {
+                for row in 0..reader.num_docs { f(at, row) }
+            },
+            Order::Shuffle(rows) => for (at, row) in rows { f(*at as usize, *row) },
+        }
+    }
+}
+
+// The values of the rows, each beside its new row.
+fn join<T: Copy>(readers: &[Reader], parts: &[Part<T>], order: &Order) -> (Vec<u32>, Vec<T>) {
+    let count = parts.iter().map(|part| part.vals.len()).sum();
+    let (mut docs, mut vals) = (Vec::with_capacity(count), Vec::with_capacity(count));
+    let mut doc = 0;
+    order.each(readers, |at, row| {
+        for val in &parts[at].vals[parts[at].places(row)] {
+            docs.push(doc);
+            vals.push(*val);
+        }
+        doc += 1;
+    });
+    (docs, vals)
+}
+
+// Each file has the same columns, and each row is named once.
+#[inline(never)]
+fn merge(files: &[&'static [u8]], order: &Order) -> Vec<u8> {
+    let readers: Vec<Reader> = files.iter().map(|bytes| Reader::open(bytes)).collect();
+    let num_docs = readers.iter().map(|reader| reader.num_docs).sum();
+    let mut file = File::default();
+    for (place, (key, _)) in readers[0].columns.iter().enumerate() {
+        let (code, name) = (key[key.len() - 1], str::from_utf8(&key[..key.len() - 2]).unwrap());
+        let columns = readers.iter().map(|reader| (reader.columns[place].1, reader.num_docs));
+        if code == STR {
+            let opened = columns.map(|(bytes, num_docs)| open_texts(bytes, num_docs));
+            let (terms, mut parts): (Vec<_>, Vec<_>) = opened.unzip();
+            let (terms, places) = merge_terms(&terms);
+            for (part, places) in parts.iter_mut().zip(places) {
+                for ord in &mut part.vals { *ord = places[*ord as usize] }
+            }
+            let (docs, ords) = join(&readers, &parts, order);
+            file.put(name, code, |out| put_texts(&terms, &docs, &ords, num_docs, out));
+        } else if code == IP_ADDR {
+            let parts = columns.map(|(bytes, num_docs)| Part::open(bytes, num_docs, compact::read));
+            let (docs, vals) = join(&readers, &parts.collect::<Vec<_>>(), order);
+            file.put(name, code, |out| put_addresses(&docs, &vals, num_docs, out));
+        } else {
+            let parts = columns.map(|(bytes, num_docs)| Part::open(bytes, num_docs, list));
+            let (docs, vals) = join(&readers, &parts.collect::<Vec<_>>(), order);
+            file.put(name, code, |out| put_numbers(&docs, &vals, num_docs, out));
+        }
+    }
+    file.finish(num_docs)
+}
+
+// Each row i as row i / 8 of file i mod 8, or these rows at random.
+fn named(num_rows: usize, is_random: bool) -> Order {
+    let mut rows: Vec<(u32, u32)> = (0..num_rows).map(|row| ((row % NUM_FILES) as u32, (row / NUM_FILES) as u32)).collect();
+    if is_random {
+        for (at, draw) in (1..num_rows).zip(shared::draws(num_rows, 1)) { rows.swap(at, draw as usize % (at + 1)) }
+    }
+    Order::Shuffle(rows)
+}
+
+// Words: a path, how many rows, and 0 to read the files, 1 to 3 to merge them stacked, in turn or at random, 4 to
+// measure each, and 5 to write the files.
+fn main() {
+    let words: Vec<String> = std::env::args().skip(1).collect();
+    let [path, count, step] = &words[..] else { panic!("path, count and step") };
+    let (count, step): (usize, u32) = (count.parse().unwrap(), step.parse().unwrap());
+    let path_of = |at: usize| format!("{path}{at}");
+    if step == 5 {
+        let (docs, texts) = (docs(count), texts());
+        for (at, docs) in docs.chunks(count / NUM_FILES).enumerate() {
+            std::fs::write(path_of(at), file_of(docs, &texts)).unwrap();
+        }
+        return;
+    }
+    let files = (0..NUM_FILES).map(|at| &*std::fs::read(path_of(at)).unwrap().leak());
+    let files: Vec<&[u8]> = files.collect();
+    for (kind, name) in [(1, "stacked"), (2, "in_turn"), (3, "random")] {
+        if step != kind && step != 4 { continue; }
+        let order = if kind == 1 { Order::Stack } else { named(count, kind == 3) };
+        if step == kind {
+            println!("{}", merge(&files, &order).len());
+        } else {
+            let (nanos, bytes) = best(|| merge(black_box(&files), &order));
+            println!("{name} {nanos} {}", hash(&bytes));
+        }
+    }
+}
