@@ -1,5 +1,5 @@
 -- What a merge of open files comes to.
-use Rattle.std.proofs.Common.{◌≡◌, ◌≤◌, ◌^◌, ℕ, List, [], ◌∷◌, map, length, Option, Some, None, Ok, Err, IfSome, false, inl, inr, refl, sym, ap, ap₂, ◌∙◌, subst}
+use Rattle.std.proofs.Common.{◌≡◌, ◌≤◌, ◌^◌, ℕ, List, [], ◌∷◌, map, length, Option, Some, None, Ok, Err, IfSome, Bool, inl, inr, refl, sym, ap, ap₂, ◌∙◌, subst}
 use Rattle.std.specs.List.{AllByRecursion}
 use Rattle.std.proofs.lemmas.Bool.{le-leb}
 use Rattle.std.proofs.lemmas.Option.{same_Some}
@@ -69,10 +69,10 @@ same-order rs parts rows order read told is = is ∙ ap (order_over rows) (count
 pub file-refused : {B : Type 0} (IsOf : Table → B → Type 0) (rs : List SeenReader) (parts : List Part) (required : List Required) (rows : Option (List (ℕ × ℕ))) (order : Order) (e : ColumnarError) → AllByRecursion IsRead rs → told_parts rs ≡ Some parts → order ≡ order_over rows (map rows_in rs) → Makes {B = List ℕ} StandsFor (Err e) (merged parts required order) → Makes {B = B} IsOf (Err e) (merged parts required (order_over rows (row_counts parts)))
 file-refused IsOf rs parts required rows order e read told is h = record { ok = tt; refused = subst (λ o. MayRefuse (merged parts required o) e) (same-order rs parts rows order read told is) h.refused }
 
-pub all-made : (finds : List Find) (rs : List SeenReader) (parts : List Part) (required : List Required) (rows : Option (List (ℕ × ℕ))) (order : Order) (made : Made) → AllByRecursion IsRead rs → told_parts rs ≡ Some parts → order ≡ order_over rows (map rows_in rs) → Makes StandsFor (Ok made.file) (merged parts required order) → ((t : Table) → table_of made.file ≡ Some t → made.report.items ≡ report_of t finds false) → Makes (IsMade finds) (Ok made) (merged parts required (order_over rows (row_counts parts)))
-all-made finds rs parts required rows order made read told is h reported = by h.ok
+pub all-made : (short : Bool) (finds : List Find) (rs : List SeenReader) (parts : List Part) (required : List Required) (rows : Option (List (ℕ × ℕ))) (order : Order) (made : Made) → AllByRecursion IsRead rs → told_parts rs ≡ Some parts → order ≡ order_over rows (map rows_in rs) → Makes StandsFor (Ok made.file) (merged parts required order) → ((t : Table) → table_of made.file ≡ Some t → made.report.items ≡ report_of t finds short) → Makes (IsMade short finds) (Ok made) (merged parts required (order_over rows (row_counts parts)))
+all-made short finds rs parts required rows order made read told is h reported = by h.ok
   where
-    by : ((t : Table) × (merged parts required order ≡ Ok t) × StandsFor t made.file) → Makes (IsMade finds) (Ok made) (merged parts required (order_over rows (row_counts parts)))
+    by : ((t : Table) × (merged parts required order ≡ Ok t) × StandsFor t made.file) → Makes (IsMade short finds) (Ok made) (merged parts required (order_over rows (row_counts parts)))
     by (t, at, stands) = record {
       ok = (t, ap (merged parts required) (sym (same-order rs parts rows order read told is)) ∙ at, (stands, reported t stands.content));
       refused = tt;

@@ -1,5 +1,5 @@
 -- What is made, or refused, in place of what is expected.
-use Rattle.std.specs.Prelude.{◌≡◌, ◌⊎◌, false, List, Some, Result, Ok, IfOk, IfErr}
+use Rattle.std.specs.Prelude.{◌≡◌, ◌⊎◌, Bool, List, Some, Result, Ok, IfOk, IfErr}
 use Rattle.std.specs.List.{AllZip}
 use Rattle.col_common.specs.declared.error.ColumnarError.{ColumnarError}
 use Rattle.col_common.specs.declared.error.ColumnarError.TheVariants.{OutOfMemory, ReadFault}
@@ -38,6 +38,7 @@ IsFileOf t r = told_part r ≡ Some (part_of_table t)
 abbrev pub AreFilesOf : List Table → List SeenReader → Type 0
 AreFilesOf tables rs = AllZip IsFileOf tables rs
 
--- the file of a table, and its report with these lookups
-abbrev pub IsMade : List Find → Table → Made → Type 0
-IsMade finds t made = StandsFor t made.file × (made.report.items ≡ report_of t finds false)
+-- the file of a table, and its report with these lookups, short or not
+abbrev pub IsMade : Bool → List Find → Table → Made → Type 0
+IsMade short finds t made =
+    StandsFor t made.file × (made.report.items ≡ report_of t finds short)

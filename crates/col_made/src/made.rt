@@ -1,5 +1,5 @@
 //! The merged file of a script and its inputs, and the report on it.
-ghost use Rattle.std.specs.Prelude.{◌≡◌, map, List, false, Some, Err, IfOk, IfErr, IfSome, option_map};
+ghost use Rattle.std.specs.Prelude.{◌≡◌, map, List, Some, Err, IfOk, IfErr, IfSome, option_map};
 ghost use Rattle.std.specs.List.{AllByRecursion};
 ghost use Rattle.col_file.specs.Readers.{IsRead};
 ghost use Rattle.col_model.specs.File.{Part, StandsFor, table_of, for_each};
@@ -39,15 +39,16 @@ pub struct Made {
 }
 
 /// Merges inputs, and behind them the segments of a script, and reports on what the merged file
-/// says.
+/// says. A short report has no rows, and counts what lookups find.
 pub fn make<H: FileHandle>(
     alloc: Global,
     script: Script,
     inputs: &mut [H],
+    short: bool,
 ) -> Result<Made, ColumnarError>
     ensures made { (s : model.Script) → IsScript s script →
         IfSome (for_each H.content inputs.old) (λ files.
-        MakesIfRead (IsMade s.finds) result (script_table files s)) }
+        MakesIfRead (IsMade short s.finds) result (script_table files s)) }
     ensures known { (s : model.Script) → IsScript s script → IfErr result IsKnown }
     ensures read_fault { (s : model.Script) → IsScript s script → result ≡ Err ColumnarError.ReadFault
         → SomeRose (map H.faults inputs.old) (map H.faults inputs.new) }
@@ -63,7 +64,7 @@ pub fn make<H: FileHandle>(
     drop(segments);
     let mut readers = open_inputs(alloc, inputs)?;
     readers.append(&mut made)?;
-    merge_readers(alloc, &mut readers, &required, order, &finds)
+    merge_readers(alloc, &mut readers, &required, order, &finds, short)
 }
 
 // Merges files, and reports on what the merged file says.
@@ -73,17 +74,18 @@ fn merge_readers(
     required: &[(String, ColumnType)],
     rows: Option<Vec<RowAddr>>,
     finds: &[Find],
+    short: bool,
 ) -> Result<Made, ColumnarError>
     ensures { (parts : List Part) → told_parts readers.old ≡ Some parts →
         let order = order_over (option_map (λ v. map address_of v.items) rows) (row_counts parts) in
-        Makes (IsMade (map find_of finds.now)) result
+        Makes (IsMade short (map find_of finds.now)) result
         (merged parts (required_of required.now) order) }
 {
     files_are_read(readers);
     let counts = row_counts(alloc, readers)?;
     let order = merge_row_order(alloc, rows, &counts)?;
     let file = merged_file(alloc, readers, required, order)?;
-    let report = report_on(alloc, &file, finds)?;
+    let report = report_on(alloc, &file, finds, short)?;
     Ok(Made { file, report })
 }
 
@@ -115,15 +117,20 @@ fn merged_file(
 }
 
 // The report on a file.
-fn report_on(alloc: Global, file: &Bytes, finds: &[Find]) -> Result<Vec<u8>, AllocError>
+fn report_on(
+    alloc: Global,
+    file: &Bytes,
+    finds: &[Find],
+    short: bool,
+) -> Result<Vec<u8>, AllocError>
     ensures { (t : Table) → table_of file.now ≡ Some t →
-        IfOk result (λ report. report.items ≡ report_of t (map find_of finds.now) false) }
+        IfOk result (λ report. report.items ≡ report_of t (map find_of finds.now) short) }
 {
     let Ok(mut reader) = open_file(alloc, file.clone()?) else {
         return Err(AllocError);
     };
     let mut report = Vec::new(alloc);
-    match write_report(alloc, &mut reader, finds, false, &mut report) {
+    match write_report(alloc, &mut reader, finds, short, &mut report) {
         Ok(()) => Ok(report),
         // The columns of a file that was made are whole, so that memory alone is wanting.
         Err(_) => Err(AllocError),

@@ -1,13 +1,17 @@
 -- What a script that was read, and what was made of it, say of the answer.
-use Rattle.std.proofs.Common.{◌≡◌, ◌⊎◌, ℕ, Option, Some, None, Ok, Err, IfSome, List, map, Contains, refl}
+use Rattle.std.proofs.Common.{◌≡◌, ◌⊎◌, ℕ, Option, Some, None, Ok, Err, IfSome, List, [], ◌∷◌, Result, IfErr, map, true, Contains, refl, zero, suc, arith}
 use Rattle.col_common.specs.Outside.{Told, SeenSink}
+use Rattle.col_model.specs.File.{for_each}
+use Rattle.col_model.specs.GenScript.{gen_script}
+use Rattle.col_model.specs.Outcome.{Outcome, script_outcome}
 use Rattle.col_model.specs.Script as scripts
+use Rattle.col_model.specs.Script.{script_of}
 use Rattle.col_script.specs.Scripts.{IsScript, IsScriptOf}
 use Rattle.col_script.specs.declared.script.Script.{Script}
 use Rattle.col_made.specs.HandedBack.{SomeRose}
 use Rattle.col_made.specs.declared.made.Made.{Made}
 use Rattle.col_tool.specs.Answer.{refusal_status, refusals, IsAnswer, Leaves, Delivers}
-use Rattle.col_tool.specs.Expected.{script_answer}
+use Rattle.col_tool.specs.Expected.{generated_answer, script_answer}
 use Rattle.col_tool.specs.declared.refusal.Refusal.{Refusal}
 use Rattle.col_tool.proofs.Left.{leaves_delivered, leaves_refused}
 use Rattle.col_tool.proofs.RefusedLemmas.{refusals-not_done, refusals-unwritten}
@@ -32,3 +36,23 @@ delivered-leaves (Some fs) (Some bytes) output output' report report' made statu
 -- inputs that came back through a list that was lent, of which a count may have risen
 pub fault-lent : {H : Type 0} (faults : H → ℕ) (lent lent' old new : List H) (Read : Type 0) → new ≡ lent' → lent ≡ old → Read ⊎ SomeRose (map faults lent) (map faults lent') → Read ⊎ SomeRose (map faults old) (map faults new)
 fault-lent faults lent lent' old new Read same was h = rw (same, ← was) h
+
+-- what the script of a number comes to, without inputs
+pub without-inputs : {H : Type 0} (content : H → Told) (inputs : List H) (script : List ℕ) (n : ℕ) (result : Result Made Refusal) → inputs ≡ [] → script ≡ gen_script n → IfSome (for_each content inputs) (λ files. IsAnswer (script_outcome true files (script_of script)) result) → IsAnswer (generated_answer n) result
+without-inputs content inputs script n result none same h = rw (none, same) at h
+
+-- where there is no input, none was read
+pub unread : {H : Type 0} (faults : H → ℕ) (inputs inputs' : List H) (result : Result Made Refusal) → inputs ≡ [] → IfErr result (λ e. refusal_status e ≡ 4 → SomeRose (map faults inputs) (map faults inputs')) → IfErr result (λ e. refusal_status e ≡ 4 → ⊥)
+unread faults inputs inputs' (Ok made) none h = tt
+unread faults inputs inputs' (Err e) none h = λ four. let p = rw none at (h four) in absurd (omega (arith, p.1))
+
+-- nor was one by a delivery
+pub delivered-unread : (status : ℕ) → Contains (0 ∷ 3 ∷ 5 ∷ []) status → status ≡ 4 → ⊥
+delivered-unread status (zero, within, e) four = absurd (omega (arith, e, four))
+delivered-unread status (suc zero, within, e) four = absurd (omega (arith, e, four))
+delivered-unread status (suc (suc zero), within, e) four = absurd (omega (arith, e, four))
+delivered-unread status (suc (suc (suc k)), within, e) four = absurd (omega arith)
+
+-- what a refusal leaves of what is expected, whatever inputs and source tell
+pub refused-is : (output report : SeenSink) (e : Refusal) (o : Outcome) → Contains refusals (refusal_status e) → IsAnswer o (Err e) → Leaves output output report report (refusal_status e) o
+refused-is output report e o among h = leaves_refused output report e o h (refusals-not_done (refusal_status e) among) (refusals-unwritten (refusal_status e) among)

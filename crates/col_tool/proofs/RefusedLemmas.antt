@@ -76,13 +76,17 @@ IsAsked n = (n == 2) ≡ false
 answers-asked : (status : ℕ) → Contains answers status → IsAsked status
 answers-asked status among = All-contains IsAsked answers status (All-from_recursion IsAsked answers (refl, (refl, (refl, (refl, (refl, (refl, (refl, (refl, (refl, (refl, (refl, (refl, (refl, (refl, (refl, (refl, (refl, tt)))))))))))))))))) among
 
--- where the words ask for the script, the status isn't theirs
+-- where the words are known, the status isn't that of others
 pub asked-words : (status : ℕ) (asked : Bool) → Contains answers status → asked ≡ true → Exactly 2 status (asked ≡ false)
 asked-words status true among e = record {
   only = λ two. let asked = rw two at (answers-asked status among) in cc;
   always = λ unasked. cc;
 }
 asked-words status false among e = cc
+
+-- where the words are none that are known, it is
+pub unknown-words : (status : ℕ) (known : Bool) → known ≡ false → status ≡ 2 → Exactly 2 status (known ≡ false)
+unknown-words status known none two = record { only = λ same. none; always = λ unknown. inl two }
 
 -- neither a good end nor a failed write
 abbrev IsBefore : ℕ → Type 0

@@ -80,11 +80,12 @@ const REFUSED: [(&str, u8); 9] = [
 ];
 
 // The words of a run, the digits of its one input, the reads of it that fail, and the status.
-const INPUTS: [(&[&str], &str, &[u64], u8); 4] = [
+const INPUTS: [(&[&str], &str, &[u64], u8); 5] = [
     (&["merge", "out", "in"], TWO_VALUES_FILE, &[], 0),
     (&["merge", "out"], TWO_VALUES_FILE, &[], 2),
     (&["merge", "out", "in"], TWO_VALUES_FILE, &[0], 4),
     (&["merge", "out", "in"], "", &[], 6),
+    (&["gen", "out", "7"], TWO_VALUES_FILE, &[], 2),
 ];
 
 // A run on a script, where the calls with these numbers fail.

@@ -18,5 +18,5 @@ returns-in_err-file c = λ parts told.
 
 pub returns : goal.returns
 returns c = λ parts told.
-    all-made (map find_of c.args.finds.now) c.args.readers.now parts (required_of c.args.required.now) (option_map (λ v. map address_of v.items) c.args.rows) _ _ c.files_are_read.ensures told
+    all-made c.args.short (map find_of c.args.finds.now) c.args.readers.now parts (required_of c.args.required.now) (option_map (λ v. map address_of v.items) c.args.rows) _ _ c.files_are_read.ensures told
     (rw (c.deref.ensures.value, c.in_ok-counts.ensures) at c.in_ok-order.ensures) (c.in_ok-file.ensures parts told) c.in_ok-report.ensures

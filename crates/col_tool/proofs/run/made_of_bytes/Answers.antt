@@ -1,8 +1,8 @@
-use Rattle.std.proofs.Common.{Err, inr, refl, ap, arith}
+use Rattle.std.proofs.Common.{Err, refl, ap, arith}
 use Rattle.std.proofs.lemmas.Result.{err_from_is_err_and}
 use Rattle.col_tool.proofs.AnswerLemmas.{script-found}
 use Rattle.col_tool.proofs.RefusedLemmas.{fault-read, known-among}
-use Rattle.col_tool.proofs.run.made_of.Goals as goal
+use Rattle.col_tool.proofs.run.made_of_bytes.Goals as goal
 
 pub returns-in_default-clause-among : goal.returns-in_default-clause-among
 returns-in_default-clause-among g c = (13, omega arith, refl)
@@ -11,7 +11,7 @@ pub returns-in_err-make-clause-read_fault : goal.returns-in_err-make-clause-read
 returns-in_err-make-clause-read_fault g c =
     let p = err_from_is_err_and c.from_residual-in_err-make.result c.from_residual-in_err-make.ensures.1 in
     let s = script-found _ c.in-Some.parsed (rw c.in-Some.is at c.in_ok-parsed.ensures) in
-    rw (p.1, p.2) (λ four. inr (c.in_err-make.ensures.read_fault s.0 s.2 (ap Err (fault-read _ four))))
+    rw (p.1, p.2) (λ four. c.in_err-make.ensures.read_fault s.0 s.2 (ap Err (fault-read _ four)))
 
 pub returns-in_err-make-clause-among : goal.returns-in_err-make-clause-among
 returns-in_err-make-clause-among g c =
