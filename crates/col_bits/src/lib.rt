@@ -11,6 +11,3 @@ mod words;
 pub use bitpacker::{BitPacker, BitUnpacker, compute_num_bits};
 pub use extremes::minmax;
 pub use spare::is_packed;
-
-#[cfg(test)]
-mod tests;

@@ -23,6 +23,3 @@ pub use serialize::{
     serialize_column_mappable_to_u64, serialize_column_mappable_to_u128,
     serialize_generated_tie_breaker_column,
 };
-
-#[cfg(test)]
-mod tests;

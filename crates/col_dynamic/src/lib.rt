@@ -15,6 +15,3 @@ pub use col_types::{
     Coerce, ColumnSpaceUsage, ColumnType, HasAssociatedColumnType, NumericalType, NumericalValue,
 };
 pub use dynamic_column::DynamicColumn;
-
-#[cfg(test)]
-mod tests;

@@ -13,6 +13,3 @@ mod texts;
 pub use entry_column::EntryColumn;
 pub use named_column::NamedColumn;
 pub use table::serialize_table;
-
-#[cfg(test)]
-mod tests;

@@ -15,6 +15,3 @@ mod reading;
 pub use column_iter::ColumnIter;
 pub use dynamic_column_handle::DynamicColumnHandle;
 pub use reader::ColumnarReader;
-
-#[cfg(test)]
-mod tests;

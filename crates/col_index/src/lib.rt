@@ -34,6 +34,3 @@ pub use open::{open_column_index, open_multivalued_index, open_optional_index};
 pub use optional_index::OptionalIndex;
 pub use select_cursor::OptionalIndexSelectCursor;
 pub use set::{SelectCursor, Set};
-
-#[cfg(test)]
-mod tests;

@@ -27,6 +27,3 @@ pub use value_index::{
     PreallocatedIndexBuilders,
 };
 pub use writing_laws::indexes_are_read_back;
-
-#[cfg(test)]
-mod tests;

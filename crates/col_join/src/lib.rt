@@ -13,6 +13,3 @@ pub use addresses::join_addresses;
 pub use laws::{merged_content_is_joined, picked_content_is_joined};
 pub use numbers::join_numbers;
 pub use texts::join_texts;
-
-#[cfg(test)]
-mod tests;

@@ -19,6 +19,3 @@ pub use format_version::{VERSION_FOOTER_NUM_BYTES, footer, parse_footer};
 pub use key_table::{KeyedLength, parse_key_table, take_all};
 pub use laws::{categories_compare_as_their_places, keys_compare_by_name_then_code};
 pub use serializer::ColumnarSerializer;
-
-#[cfg(test)]
-mod tests;

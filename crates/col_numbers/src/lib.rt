@@ -19,10 +19,7 @@ pub use num_values::{
 };
 pub use num_view::NumView;
 pub use serialize::{
-    serialize_and_load_u64_based_column_values, serialize_and_load_u64_values,
+    collect_stats, serialize_and_load_u64_based_column_values, serialize_and_load_u64_values,
     serialize_estimated_values, serialize_u64_based_column_values,
 };
 pub use u64_values::U64Values;
-
-#[cfg(test)]
-mod tests;

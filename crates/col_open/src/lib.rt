@@ -11,6 +11,3 @@ pub use lenient::{LenientColumn, LenientValues};
 pub use open::open_column;
 pub use open_lenient::open_column_u64_lenient;
 pub use usage::space_usage_of;
-
-#[cfg(test)]
-mod tests;

@@ -9,6 +9,3 @@ mod stack;
 pub use merge_row_order::{MergeRowOrder, orders_are_picks};
 pub use shuffle::ShuffleMergeOrder;
 pub use stack::StackMergeOrder;
-
-#[cfg(test)]
-mod tests;

@@ -20,6 +20,3 @@ pub use plain_column_writer::PlainColumnWriter;
 pub use sort_order::is_past;
 pub use str_or_bytes_column_writer::StrOrBytesColumnWriter;
 pub use type_list::TypeList;
-
-#[cfg(test)]
-mod tests;

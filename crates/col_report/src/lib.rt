@@ -14,6 +14,3 @@ mod text;
 mod words;
 
 pub use report::write_report;
-
-#[cfg(test)]
-mod tests;

@@ -20,6 +20,3 @@ pub use numbers::serialize_number_column;
 pub use row_order::RowOrder;
 pub use texts::serialize_text_column;
 pub use ties::serialize_tie_column;
-
-#[cfg(test)]
-mod tests;

@@ -14,6 +14,3 @@ pub use line::{Call, Line, TermType, parse_line};
 pub use script::{Script, parse_script};
 pub use segment::Segment;
 pub use value::TypedValue;
-
-#[cfg(test)]
-mod tests;

@@ -13,6 +13,3 @@ mod told;
 pub use joined_slot::join_slot;
 pub use segment_values::{FromDynamic, segment_addresses, segment_numbers};
 pub use shared_type::slot_type;
-
-#[cfg(test)]
-mod tests;

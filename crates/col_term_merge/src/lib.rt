@@ -11,6 +11,3 @@ pub use matching_segments::MatchingSegments;
 pub use merge_dict_column::compute_merged_term_ord_mapping;
 pub use term_merger::TermMerger;
 pub use terms_with_segment_ord::TermsWithSegmentOrd;
-
-#[cfg(test)]
-mod tests;

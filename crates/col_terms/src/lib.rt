@@ -18,6 +18,3 @@ pub use laws::{
     unordered_ids_compare_as_their_numbers,
 };
 pub use streamer::Streamer;
-
-#[cfg(test)]
-mod tests;

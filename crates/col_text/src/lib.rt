@@ -7,6 +7,3 @@ mod open;
 
 pub use dictionary_encoded::{BytesColumn, StrColumn};
 pub use open::{open_column_bytes, open_column_str};
-
-#[cfg(test)]
-mod tests;

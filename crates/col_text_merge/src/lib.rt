@@ -7,6 +7,3 @@ mod noted_terms;
 mod take_terms;
 
 pub use merge_dict_column::{merge_bytes_or_str_column, ordinals_are_told};
-
-#[cfg(test)]
-mod tests;

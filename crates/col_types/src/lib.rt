@@ -23,6 +23,3 @@ pub use numerical_type::NumericalType;
 pub use numerical_value::NumericalValue;
 pub use space_usage::ColumnSpaceUsage;
 pub use stored::{StoredAsU64, StoredAsU128};
-
-#[cfg(test)]
-mod tests;

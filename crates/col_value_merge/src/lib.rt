@@ -11,6 +11,3 @@ mod segments;
 pub use laws::{merged_cells_are_picked, merged_values_are_rows};
 pub use merged_column_values::MergedColumnValues;
 pub use remapped_term_ordinals::RemappedTermOrdinalsValues;
-
-#[cfg(test)]
-mod tests;

@@ -28,6 +28,3 @@ pub use monotonic_mapping_u64::MonotonicallyMappableToU64;
 pub use monotonic_mapping_u128::MonotonicallyMappableToU128;
 pub use values_iter::ValuesIter;
 pub use vec_column::VecColumn;
-
-#[cfg(test)]
-mod tests;

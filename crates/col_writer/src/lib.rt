@@ -8,6 +8,3 @@ pub use col_record::{
     StrOrBytesColumnWriter,
 };
 pub use writer::ColumnarWriter;
-
-#[cfg(test)]
-mod tests;

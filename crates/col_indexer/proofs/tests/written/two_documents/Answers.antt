@@ -1,5 +1,0 @@
-use Rattle.std.proofs.Common.{refl, lit<}
-use Rattle.col_indexer.proofs.tests.written.two_documents.Goals as goal
-
-pub returns-clause-index : goal.returns-clause-index
-returns-clause-index c = record { offsets = record { rows = refl; starts = refl }; fits = lit< tt }

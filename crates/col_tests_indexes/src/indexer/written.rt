@@ -1,0 +1,116 @@
+//! Written indexes and their builders by examples.
+ghost use Rattle.std.specs.Prelude.{◌≡◌, false, OnOk};
+ghost use Rattle.col_indexer.specs.Spelling.{multivalued_index, IsIndex, is_past_limit};
+ghost use Rattle.col_indexer.specs.Written.{row_offsets_of};
+
+use crate::indexer::merged::{assert_index, assert_items};
+use col_indexer::{
+    IndexBuilder, MultivaluedIndexBuilder, PreallocatedIndexBuilders, RowIds,
+    SerializableColumnIndex, SerializableMultivalueIndex, SerializableOptionalIndex, StartOffsets,
+    serialize_column_index, serialize_multivalued_index, serialize_optional_index,
+};
+use col_common::{ColumnarError, RowId, VecSink};
+use col_index::{Cardinality, OptionalIndex};
+use std::alloc::Global;
+use std::test::Fail;
+
+// Two documents with three values and two.
+const DOCS: [RowId; 2] = [0, 1];
+
+const STARTS: [RowId; 3] = [0, 3, 5];
+
+const WRITTEN: [u8; 23] = [
+    0x02, 0x82, 0x00, 0x80, 0x81, 0x81, 0x82, 0x02, 0x00, 0x80, 0x81, 0x85, 0x83, 0x58, 0x01, 0x07,
+    0, 0, 0, 0, 0, 0, 0,
+];
+
+// The bytes of the documents, behind the cardinality's code.
+const NUM_ROW_BYTES: usize = 7;
+
+fn two_documents() -> SerializableMultivalueIndex<'static>
+    ensures index { IsIndex (multivalued_index (row_offsets_of result)) }
+    ensures limit { is_past_limit (multivalued_index (row_offsets_of result)) ≡ false }
+{
+    SerializableMultivalueIndex {
+        doc_ids_with_values: SerializableOptionalIndex {
+            non_null_row_ids: RowIds::Slice(&DOCS),
+            num_rows: 2,
+        },
+        start_offsets: StartOffsets::Slice(&STARTS),
+    }
+}
+
+fn empty_sink(alloc: Global) -> VecSink {
+    VecSink::new(Vec::new(alloc), Vec::new(alloc))
+}
+
+#[test]
+fn rows_with_many_values_are_written_with_their_offsets(rt: HostRuntime) -> Result<(), Fail> {
+    let alloc = rt.alloc();
+    let mut sink = empty_sink(alloc);
+    let index = SerializableColumnIndex::Multivalued(two_documents());
+    assert_eq!(rt; index.get_cardinality(), Cardinality::Multivalued);
+    assert!(rt; !index.is_past_limit());
+    let len = serialize_column_index(alloc, index, &mut sink)?;
+    assert_eq!(rt; len, 23);
+    assert_eq!(rt; sink.bytes(), WRITTEN.as_slice());
+    Ok(())
+}
+
+#[test]
+fn parts_of_an_index_are_written_as_in_the_whole(rt: HostRuntime) -> Result<(), Fail> {
+    let alloc = rt.alloc();
+    let mut sink = empty_sink(alloc);
+    serialize_multivalued_index(alloc, &two_documents(), &mut sink)?;
+    assert_eq!(rt; sink.bytes(), &WRITTEN[1..]);
+    let optional = OptionalIndex::for_test(alloc, 2, &DOCS)?;
+    let index = SerializableOptionalIndex::from(&optional);
+    let mut sink = empty_sink(alloc);
+    serialize_optional_index(alloc, &index.non_null_row_ids, index.num_rows, &mut sink)?;
+    assert_eq!(rt; sink.bytes(), &WRITTEN[1..=NUM_ROW_BYTES]);
+    Ok(())
+}
+
+#[test]
+#[tactic(auto, unfolding(col_indexer::specs::Builders::with_value))]
+fn recorded_values_are_counted_to_their_rows(rt: HostRuntime) -> Result<(), Fail> {
+    let mut builder = MultivaluedIndexBuilder::new(rt.alloc());
+    builder.record_row(1)?;
+    builder.record_value()?;
+    builder.record_value()?;
+    builder.record_row(2)?;
+    builder.record_value()?;
+    let index = SerializableColumnIndex::Multivalued(builder.finish(4));
+    assert_index(&rt, &index, 4, &[1, 2], &[0, 2, 3]);
+    let again = SerializableColumnIndex::Multivalued(builder.finish(4));
+    assert_index(&rt, &again, 4, &[1, 2], &[0, 2, 3]);
+    Ok(())
+}
+
+// Records a row with a value.
+fn record<B: IndexBuilder>(builder: &mut B, row: RowId) -> Result<(), ColumnarError>
+    requires row { B.TakesRow builder.old row }
+    requires value { (new : B) → B.AddsRow builder.old row new → B.TakesValue new }
+    ensures { OnOk result
+        ((mid : B) × B.AddsRow builder.old row mid × B.AddsValue mid builder.new) }
+{
+    builder.record_row(row)?;
+    builder.record_value()
+}
+
+#[test]
+#[tactic(auto, unfolding(col_indexer::specs::Builders::with_value))]
+fn builders_are_lent_empty(rt: HostRuntime) -> Result<(), Fail> {
+    let mut builders = PreallocatedIndexBuilders::new(rt.alloc());
+    record(builders.borrow_required_index_builder(), 0)?;
+    record(builders.borrow_optional_index_builder(), 5)?;
+    let rows = builders.borrow_optional_index_builder();
+    record(rows, 1)?;
+    assert_items(&rt, &rows.finish(2), &[1]);
+    record(builders.borrow_multivalued_index_builder(), 5)?;
+    let again = builders.borrow_multivalued_index_builder();
+    record(again, 1)?;
+    let index = SerializableColumnIndex::Multivalued(again.finish(2));
+    assert_index(&rt, &index, 2, &[1], &[0, 1]);
+    Ok(())
+}

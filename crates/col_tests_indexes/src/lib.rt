@@ -1,0 +1,7 @@
+//! Tests of indexes that are read, built, written and merged, by examples.
+#![tactic(auto)]
+
+#[cfg(test)]
+mod index;
+#[cfg(test)]
+mod indexer;

@@ -1,0 +1,13 @@
+//! Tests of keys, recorded values and the files that are written of them, by examples.
+#![tactic(auto)]
+
+#[cfg(test)]
+mod entry;
+#[cfg(test)]
+mod keys;
+#[cfg(test)]
+mod record;
+#[cfg(test)]
+mod rows;
+#[cfg(test)]
+mod writer;

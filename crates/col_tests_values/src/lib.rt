@@ -1,0 +1,11 @@
+//! Tests of lists of values, maps, types, dictionaries and addresses, by examples.
+#![tactic(auto)]
+
+#[cfg(test)]
+mod compact;
+#[cfg(test)]
+mod terms;
+#[cfg(test)]
+mod types;
+#[cfg(test)]
+mod values;
