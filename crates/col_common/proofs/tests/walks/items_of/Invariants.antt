@@ -1,5 +1,5 @@
 use Rattle.std.proofs.Common.{◌≡◌, ◌++◌, length}
-use Rattle.col_tests_base.proofs.common.walks.items_of.Given as goal
+use Rattle.col_common.proofs.tests.walks.items_of.Given as goal
 
 -- what is found and what is left are the list
 abbrev pub invariant-loop-item : goal.invariant-loop-item

@@ -1,6 +1,6 @@
 //! Objects in memory.
 
-use col_common::{
+use crate::{
     Buffer, ColumnarError, FileHandle, HandleError, MemHandle, MemSource, Sink, VecSink,
     cut_by_first, cut_rest, read_to_limit, serialize_bytes, split_by_second, u32_at,
 };

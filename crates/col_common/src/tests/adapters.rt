@@ -1,6 +1,6 @@
 //! The adapters over readers, writers and files of the system, and their counts of faults.
 
-use col_common::{
+use crate::{
     FileHandle, FileOnDisk, FileSink, HandleError, Sink, Source, StdSink, StdSource, read_to_limit,
 };
 use std::io::{Read, Write};

@@ -1,7 +1,7 @@
 //! Walks over lists, ranges and sets.
 ghost use Rattle.std.specs.Prelude.{◌≡◌, IfOk};
 
-use col_common::{BitSet, Iterable};
+use crate::{BitSet, Iterable};
 use std::alloc::{AllocError, Global};
 use std::test::Fail;
 

@@ -1,6 +1,6 @@
 //! Whole numbers, refusals, points in time, addresses and bits.
 
-use col_common::{
+use crate::{
     ByteCount, ColumnarError, DateTime, Ipv6Addr, JSON_END_OF_PATH, JSON_PATH_SEGMENT_SEP, Sink,
     VInt, VIntU128, VecSink, place_bits, pop_first_byte, select_bits,
 };
