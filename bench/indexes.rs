@@ -9,37 +9,109 @@ use std::hint::black_box;
 const BLOCK_LEN: usize = 1024;
 const NUM_SEGMENTS: usize = 8;
 
-struct Optional { num_rows: u32, rows: Numbers }
+// A bit for each row, set where it has a value, and how many are set before each word.
+struct Words { bits: Vec<u64>, before: Vec<u32> }
+
+impl Words {
+    fn of(num_rows: u32, rows: &Numbers) -> Option<Words> {
+        let mut bits = vec![0u64; num_rows.div_ceil(64) as usize];
+        rows.each_rising(num_rows, |row| bits[row as usize / 64] |= 1 << (row % 64))?;
+        let mut count = 0;
+        let before = bits.iter().map(|word| {
+            count += word.count_ones();
+            count - word.count_ones()
+        });
+        Some(Words { before: before.collect(), bits })
+    }
+
+    #[inline(always)]
+    unsafe fn rank(&self, row: u32) -> u32 {
+        let at = row as usize / 64;
+        let (word, before) = unsafe { (self.bits.get_unchecked(at), self.before.get_unchecked(at)) };
+        before + (word & ((1 << (row % 64)) - 1)).count_ones()
+    }
+
+    #[inline(always)]
+    unsafe fn holds(&self, row: u32) -> bool {
+        unsafe { self.bits.get_unchecked(row as usize / 64) >> (row % 64) & 1 == 1 }
+    }
+}
+
+// How many rows with a value stand before each part of 2 ^ shift rows, and before the end.
+struct Parts { shift: u32, before: Vec<u32> }
+
+impl Parts {
+    fn of(num_rows: u32, rows: &Numbers) -> Option<Parts> {
+        let shift = (32 - (num_rows / rows.count.max(1)).leading_zeros()).min(31);
+        let mut counts = vec![0u32; (num_rows >> shift) as usize + 2];
+        rows.each_rising(num_rows, |row| counts[(row >> shift) as usize] += 1)?;
+        let mut sum = 0;
+        for count in &mut counts {
+            sum += *count;
+            *count = sum - *count;
+        }
+        Some(Parts { shift, before: counts })
+    }
+
+    #[inline(always)]
+    unsafe fn rank(&self, rows: &Numbers, row: u32) -> u32 {
+        let part = (row >> self.shift) as usize;
+        let (low, high) = unsafe { (self.before.get_unchecked(part), self.before.get_unchecked(part + 1)) };
+        rows.narrow(*low, *high, u64::from(row))
+    }
+}
+
+enum Ranks { Words(Words), Parts(Parts) }
+
+struct Optional { num_rows: u32, rows: Numbers, ranks: Ranks }
 
 impl Optional {
     fn open(mut bytes: &'static [u8]) -> Option<Optional> {
         let num_rows = u32::try_from(take_vint(&mut bytes)).ok()?;
         let rows = Numbers::open(bytes)?;
-        let mut next = 0;
-        for at in 0..rows.count {
-            let row = rows.get(at);
-            if row < next || row >= u64::from(num_rows) { return None; }
-            next = row + 1;
-        }
-        Some(Optional { num_rows, rows })
+        let are_few = u64::from(num_rows) > 64 * u64::from(rows.count);
+        let ranks = if are_few { Ranks::Parts(Parts::of(num_rows, &rows)?) }
+            else { Ranks::Words(Words::of(num_rows, &rows)?) };
+        Some(Optional { num_rows, rows, ranks })
     }
 
     #[inline(always)]
     fn select(&self, rank: u32) -> u32 { self.rows.get(rank) as u32 }
 
-    fn rank(&self, row: u32) -> u32 { self.rows.rank(u64::from(row)) }
+    #[inline(always)]
+    fn rank(&self, row: u32) -> u32 {
+        if row >= self.num_rows { return self.rows.count; }
+        match &self.ranks {
+            Ranks::Words(words) => unsafe { words.rank(row) },
+            Ranks::Parts(parts) => unsafe { parts.rank(&self.rows, row) },
+        }
+    }
 
-    fn contains(&self, row: u32) -> bool {
-        let rank = self.rank(row);
-        rank < self.rows.count && self.select(rank) == row
+    #[inline(always)]
+    fn rank_if_exists(&self, row: u32) -> Option<u32> {
+        if row >= self.num_rows { return None; }
+        match &self.ranks {
+            Ranks::Words(words) => unsafe { words.holds(row).then(|| words.rank(row)) },
+            Ranks::Parts(parts) => {
+                let rank = unsafe { parts.rank(&self.rows, row) };
+                (rank < self.rows.count && self.select(rank) == row).then_some(rank)
+            }
+        }
     }
 
     // Sees those of the documents that have a value, with their ranks.
     #[inline(always)]
     fn each_rank(&self, docs: &[u32], mut f: impl FnMut(u32, u32)) {
+        if let Ranks::Words(_) = self.ranks {
+            for &doc in docs {
+                if let Some(rank) = self.rank_if_exists(doc) { f(doc, rank) }
+            }
+            return;
+        }
         let mut place = self.rows.place(0, 0);
         for &doc in docs {
-            place = place.seek(&self.rows, u64::from(doc));
+            place = place.near(&self.rows, u64::from(doc))
+                .unwrap_or_else(|| self.rows.place(self.rank(doc), u64::from(doc)));
             if place.next == u64::from(doc) { f(doc, place.at) }
         }
     }
@@ -72,11 +144,8 @@ impl Multivalued {
     fn start_at(&self, rank: u32) -> u32 { self.starts.get(rank) as u32 }
 
     fn num_values(&self, row: u32) -> u32 {
-        if row >= self.rows.num_rows { return 0; }
-        let rank = self.rows.rank(row);
-        let start = self.start_at(rank);
-        if rank >= self.rows.rows.count || self.rows.select(rank) != row { return 0; }
-        self.start_at(rank + 1) - start
+        let Some(rank) = self.rows.rank_if_exists(row) else { return 0 };
+        self.start_at(rank + 1) - self.start_at(rank)
     }
 
     #[inline(never)]
@@ -113,11 +182,11 @@ impl Index {
         }
     }
 
-    fn has_value(&self, row: u32) -> bool { self.set().contains(row) }
+    fn has_value(&self, row: u32) -> bool { self.set().rank_if_exists(row).is_some() }
 
     fn num_values(&self, row: u32) -> u32 {
         match self {
-            Index::Optional(index) => u32::from(index.contains(row)),
+            Index::Optional(index) => u32::from(index.rank_if_exists(row).is_some()),
             Index::Multivalued(index) => index.num_values(row),
         }
     }
@@ -290,6 +359,11 @@ fn sum_of_ranks(index: &Optional, rows: &[u32]) -> u64 {
 }
 
 #[inline(never)]
+fn sum_of_held(index: &Optional, rows: &[u32]) -> u64 {
+    rows.iter().fold(0, |sum, row| sum.wrapping_add(index.rank_if_exists(*row).map_or(0, |rank| u64::from(rank) + 1)))
+}
+
+#[inline(never)]
 fn sum_by_select(index: &Optional) -> u64 {
     (0..index.rows.count).fold(0, |sum, rank| sum.wrapping_add(u64::from(index.select(rank))))
 }
@@ -335,6 +409,7 @@ fn measure_optional(density: u64, xs: &[u64]) {
     let all: Vec<u32> = (0..count as u32).collect();
     let mut out = Pairs::default();
     say(density, "rank_random", count, best(|| sum_of_ranks(black_box(set), black_box(&random))));
+    say(density, "held_random", count, best(|| sum_of_held(black_box(set), black_box(&random))));
     let ask = |block: &[u32], out: &mut Pairs| black_box(set).push_ranks(block, out);
     say(density, "rank_in_order", count, best(|| sum_of_blocks(black_box(&all), &mut out, ask)));
     let with_value = set.rows.count as usize;
@@ -360,7 +435,7 @@ fn measure_merges(density: u64, xs: &[u64]) {
 fn main() {
     for word in std::env::args().skip(1) {
         let xs: Vec<u64> = draws(word.parse().unwrap(), 1).collect();
-        for density in [80, 20, 2] {
+        for density in [80, 20, 2, 1] {
             measure_optional(density, &xs);
             let index = measure_open(density, "multi_", index_bytes(&xs, density, true));
             measure_positions(density, "multi_", &index);

@@ -40,7 +40,7 @@ impl Numbers {
 
     // How many are below a target, by halves. Out of line, which keeps walks short.
     #[inline(never)]
-    fn narrow(&self, mut low: u32, mut high: u32, target: u64) -> u32 {
+    pub fn narrow(&self, mut low: u32, mut high: u32, target: u64) -> u32 {
         while low < high {
             let middle = low + (high - low) / 2;
             if self.get(middle) < target { low = middle + 1 } else { high = middle }
@@ -63,6 +63,19 @@ impl Numbers {
         low
     }
 
+    // Sees the rows, if they rise and stay below the count.
+    #[inline(always)]
+    pub fn each_rising(&self, num_rows: u32, mut f: impl FnMut(u32)) -> Option<()> {
+        let mut next = 0;
+        for at in 0..self.count {
+            let row = self.get(at);
+            if row < next || row >= u64::from(num_rows) { return None; }
+            f(row as u32);
+            next = row + 1;
+        }
+        Some(())
+    }
+
     pub fn place(&self, at: u32, target: u64) -> Place {
         Place { at, next: if at < self.count { self.get(at) } else { u64::MAX }, target }
     }
@@ -73,6 +86,15 @@ impl Numbers {
 pub struct Place { pub at: u32, pub next: u64, target: u64 }
 
 impl Place {
+    // The place of a target, where it is this one or the one behind it.
+    #[inline(always)]
+    pub fn near(self, numbers: &Numbers, target: u64) -> Option<Place> {
+        if target < self.target { return None; }
+        if target <= self.next { return Some(Place { target, ..self }); }
+        let behind = numbers.place(self.at + 1, self.next + 1);
+        (target <= behind.next).then_some(Place { target, ..behind })
+    }
+
     #[inline(always)]
     pub fn seek(self, numbers: &Numbers, target: u64) -> Place {
         if target < self.target { return numbers.place(numbers.rank(target), target); }

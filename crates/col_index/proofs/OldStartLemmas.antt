@@ -4,7 +4,7 @@ use Rattle.std.specs.List.{list_all, starts_with}
 use Rattle.std.proofs.lemmas.Bool.{and_parts, ltb-true}
 use Rattle.std.proofs.lemmas.List.{take_all}
 use Rattle.col_model.specs.Ascending.{is_never_falling, differences}
-use Rattle.col_model.specs.Index.{RowSet}
+use Rattle.col_model.specs.Index.{RowSet, RowOffsets}
 use Rattle.col_model.specs.Positions.{rows_with_value, starts_of}
 use Rattle.col_index.specs.Offsets.{AreOffsets, AreOldOffsets}
 use Rattle.col_model.proofs.ListLaws.{length-differences}
@@ -45,3 +45,7 @@ old-few starts old =
 -- the rows that were found are those of the counts
 pub old-set : (starts rows : List ℕ) → rows ≡ rows_with_value (differences starts) → ◌≡◌ {A = RowSet} (record { num_rows = length starts - 1; rows = rows }) (set_of_counts (differences starts))
 old-set starts rows e = λ i. record { num_rows = sym (length-counts_between starts) i; rows = e i }
+
+-- and so are the rows with the offsets
+pub old-whole : (offsets rows starts column : List ℕ) (set : RowSet) → rows ≡ rows_with_value (differences offsets) → starts ≡ starts_of (differences offsets) → set ≡ record { num_rows = length offsets - 1; rows = rows } → column ≡ starts → ◌≡◌ {A = RowOffsets} (record { set = set; starts = column }) (offsets_of_counts (differences offsets))
+old-whole offsets rows starts column set r s e f = λ i. record { set = (e ∙ old-set offsets rows r) i; starts = (f ∙ s) i }

@@ -8,13 +8,12 @@ use Rattle.std.proofs.lemmas.Nat.{ones_cat, ones_le_self, and_mask, mod-pow-add,
 use Rattle.std.proofs.lemmas.Nat.Bits.{bit_at-lt, bit_at-zero}
 use Rattle.std.proofs.lemmas.List.{get_or-set_same, get_or-set_other, get_or-replicate, get_or_read, get_or_default, take_more, length-set}
 use Rattle.std.proofs.lemmas.List.Folds.{list_any-append}
-use Rattle.std.proofs.lemmas.List.FromFn.{get_or-map-range_with_len}
 use Rattle.std.proofs.lemmas.Option.{get_or_from_slice_get, slice_get_within}
 use Rattle.std.specs.Prelude.{slice_get, Some}
 use Rattle.col_model.specs.Ascending.{is_rising}
 use Rattle.col_model.specs.Positions.{rank}
-use Rattle.col_common.specs.Flags.{flag_at, flags_of}
-use Rattle.col_common.proofs.FlagLemmas.{length-flags, flags_put}
+use Rattle.col_common.specs.Flags.{flags_of}
+use Rattle.col_common.proofs.FlagLemmas.{length-flags, flag-is, flags_put}
 use Rattle.col_index.specs.Sets.{holds}
 use Rattle.col_index.specs.Ranks.{HasFlags, AreRanks, ones_below}
 use Rattle.col_index.proofs.HeldLaws.{rank-next}
@@ -81,8 +80,8 @@ module _ (rows words : List ℕ) (e : is_rising rows ≡ true) (f : HasFlags row
       omega (arith, ap (rank rows) next, ap count_ones all, in_word w 64 h (omega arith))
 
 -- what the bits and the counts say is the rank
-pub ones_below-rank : (rows : List ℕ) (n : ℕ) (words before : List ℕ) (row : ℕ) → is_rising rows ≡ true → AreRanks rows n words before → row < 64 * length words → ones_below words before row ≡ rank rows row
-ones_below-rank rows n words before row e r h =
+pub ones_below-rank : (rows words before : List ℕ) (row : ℕ) → is_rising rows ≡ true → AreRanks rows words before → row < 64 * length words → ones_below words before row ≡ rank rows row
+ones_below-rank rows words before row e r h =
     let whole : 64 * (row / 64) + row % 64 ≡ row = omega arith in
     let count = r.counts.each (row / 64) (omega arith) in
     let within = in_word rows words e r.flags (row / 64) (row % 64) (omega arith) (omega arith) in
@@ -96,10 +95,6 @@ flags_clear words e k h =
     ap (λ ws. eqb (bit_at (get_or ws (k / 64) 0) (k % 64)) 1) e
     ∙ (ap (λ w. eqb (bit_at w (k % 64)) 1) (get_or-replicate (length words) (k / 64) 0 0 (omega arith))
     ∙ ap (λ b. eqb b 1) (bit_at-zero (k % 64)))
-
-flag_is : (words : List ℕ) (n k : ℕ) → k < n → get_or (flags_of words n) k false ≡ flag_at words k
-unfolding flags_of
-flag_is words n k h = get_or-map-range_with_len (flag_at words) 0 n k k false h (omega arith)
 
 or_true : (b : Bool) → (b || true) ≡ true
 or_true true = refl
@@ -127,14 +122,14 @@ flags_more rows words at row f read h k within =
     let long : length new ≡ length words = length-set words (row / 64) (bit_or old (1 * 2 ^ (row % 64) % 2 ^ 64)) in
     let inside : k < n = omega arith in
     let put : flags_of new n ≡ set (flags_of words n) row true = flags_put words n row row old (flags_of words n) refl refl h (omega arith) here in
-    sym (flag_is new n k inside) ∙ (ap (λ fs. get_or fs k false) put ∙ elim (cases_eq k row) [
+    sym (flag-is new n k inside) ∙ (ap (λ fs. get_or fs k false) put ∙ elim (cases_eq k row) [
       | inl same ↦
           ap (λ i. get_or (set (flags_of words n) row true) i false) same
           ∙ (get_or-set_same (flags_of words n) row true false (omega (arith, length-flags words n))
           ∙ sym (held_more rows at row k read ∙ (ap (λ b. holds (take at rows) k || b) (eq-eqb row k (sym same)) ∙ or_true (holds (take at rows) k))))
       | inr other ↦
           get_or-set_other (flags_of words n) row k true false other
-          ∙ (flag_is words n k inside ∙ (f k inside
+          ∙ (flag-is words n k inside ∙ (f k inside
           ∙ sym (held_more rows at row k read ∙ (ap (λ b. holds (take at rows) k || b) (ne_eqb row k (λ s. other (sym s))) ∙ or_false (holds (take at rows) k)))))
     ])
 

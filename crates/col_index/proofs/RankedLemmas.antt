@@ -1,17 +1,18 @@
 -- Ranks of rows by what an index keeps beside them.
-use Rattle.std.proofs.Common.{◌≡◌, ℕ, ◌^◌, ◌<◌, ◌≤◌, nat_lt, List, length, sym, ◌∙◌, arith}
-use Rattle.std.proofs.lemmas.Bool.{le-ltb}
+use Rattle.std.proofs.Common.{◌≡◌, ℕ, ◌*◌, ◌^◌, ◌<◌, ◌≤◌, nat_lt, true, length, arith}
+use Rattle.std.proofs.lemmas.Bool.{ltb-true}
 use Rattle.std.proofs.lemmas.Option.{slice_get-get_or}
 use Rattle.col_model.specs.Index.{RowSet}
 use Rattle.col_model.specs.Positions.{rank}
-use Rattle.col_index.specs.Ranks.{AreRanks, ones_below}
-use Rattle.col_index.specs.Sets.{AreRows, holds}
+use Rattle.col_index.specs.Ranks.{ones_below}
+use Rattle.col_index.specs.RankedRows.{AreRankedRows}
+use Rattle.col_index.specs.declared.ranks.Ranks.{Ranks}
+use Rattle.col_index.specs.Sets.{AreRows}
 use Rattle.col_index.proofs.RankLaws.{rows_rise, narrowed-rank, rank-le-length}
-use Rattle.col_index.proofs.RangeLemmas.{past-free}
 use Rattle.col_index.proofs.SetLemmas.{row_below}
 use Rattle.col_index.proofs.RankWordLemmas.{ones_below-rank}
 
--- a row past the count has all rows before it, and isn't one of them
+-- a row past the count has all rows before it
 pub rank_past : (s : RowSet) (row : ℕ) → AreRows s → s.num_rows ≤ row → length s.rows ≡ rank s.rows row
 rank_past s row a h = narrowed-rank s.rows row (length s.rows) (record {
   ordered = omega arith;
@@ -20,15 +21,10 @@ rank_past s row a h = narrowed-rank s.rows row (length s.rows) (record {
   above = λ i k l. absurd (omega arith);
 })
 
-pub free_past : (s : RowSet) (row : ℕ) → AreRows s → s.num_rows ≤ row → nat_lt row s.num_rows ≡ holds s.rows row
-free_past s row a h =
-    let all = rank_past s row a h in
-    le-ltb row s.num_rows h ∙ sym (past-free s.rows row (rows_rise s a) (omega arith))
+-- a row with a bit has the rank that the bits say
+module _ (s : RowSet) (r : Ranks) (row : ℕ) (ranked : AreRankedRows s r) (reached : nat_lt row (64 * length r.words.words.items) ≡ true) where
+  pub bits_rank : ones_below r.words.words.items r.words.before.items row ≡ rank s.rows row
+  bits_rank = ones_below-rank s.rows r.words.words.items r.words.before.items row (rows_rise s ranked.rows) ranked.kept.bits (ltb-true row (64 * length r.words.words.items) reached)
 
-module _ (s : RowSet) (words before : List ℕ) (row : ℕ) (a : AreRows s) (bits : AreRanks s.rows s.num_rows words before) (h : row < s.num_rows) where
-  -- the bits say the rank
-  pub bits_rank : ones_below words before row ≡ rank s.rows row
-  bits_rank = ones_below-rank s.rows s.num_rows words before row (rows_rise s a) bits (omega (arith, bits.room))
-
-  pub bits_fit : ones_below words before row < 2 ^ 32
-  bits_fit = omega (arith, bits_rank, rank-le-length s.rows row, bits.few)
+  pub bits_fit : ones_below r.words.words.items r.words.before.items row < 2 ^ 32
+  bits_fit = omega (arith, bits_rank, rank-le-length s.rows row, ranked.kept.bits.few)

@@ -9,16 +9,29 @@ use Rattle.col_index.specs.declared.search.Place.{Place}
 use Rattle.col_index.specs.Offsets.{AreOffsets}
 use Rattle.col_index.specs.Places.{IsPlace}
 use Rattle.col_index.proofs.InRowLemmas.{some-started, end-unstarted}
+use Rattle.col_index.proofs.KeptLemmas.{IsSelected, selected-read}
 use Rattle.col_index.proofs.RowsAtLemmas.{filter-none, after, select-same, select-next}
 
 -- no position
 pub rows_at-none : (counts : List ℕ) → rows_at counts [] ≡ []
 rows_at-none counts = filter-none (λ row. false) 0 (length counts) (λ row h. refl)
 
+-- the place of a turn is that of the offset behind a position
+pub record IsTurn (o : RowOffsets) (ps : List ℕ) (at : ℕ) (next : Place) : Type 0 where
+  pub place : IsPlace o.starts next
+  pub target : next.target ≡ get_or ps at 0 + 1
+
+-- it is that which was read
+pub turned : (o : RowOffsets) (ps xs : List ℕ) (kept at position : ℕ) (next : Place) → IsPlace o.starts next → next.target ≡ position + 1 → position ≡ get_or xs at 0 → IsSelected (offset_counts o) ps xs kept at → IsTurn o ps at next
+turned o ps xs kept at position next p t read s = record {
+  place = p;
+  target = t ∙ ap (λ n. n + 1) (read ∙ selected-read (offset_counts o) ps xs kept at s);
+}
+
 module _ (o : RowOffsets) (a : AreOffsets o) (ps : List ℕ) (at : ℕ) (e : is_rising ps ≡ true) (within : at < length ps) (below : AreBelow ps (sum (offset_counts o))) where
-  module _ (next : Place) (q : IsPlace o.starts next) (t : next.target ≡ get_or ps at 0 + 1) where
+  module _ (next : Place) (t : IsTurn o ps at next) where
     ranked : next.at ≡ rank o.starts (get_or ps at 0 + 1)
-    ranked = q.count ∙ ap (rank o.starts) t
+    ranked = t.place.count ∙ ap (rank o.starts) t.target
 
     -- a start counts
     pub turn-some : 1 ≤ next.at

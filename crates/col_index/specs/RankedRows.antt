@@ -1,14 +1,15 @@
 -- Rows with what an index keeps beside them to rank them.
+use Rattle.std.specs.Prelude.{◌<◌, ◌*◌, length}
 use Rattle.col_model.specs.Index.{RowSet}
 use Rattle.col_index.specs.Sets.{AreRows}
 use Rattle.col_index.specs.Ranks.{AreRanks, AreBuckets}
 use Rattle.col_index.specs.declared.ranks.Ranks.{Ranks}
-use Rattle.col_index.specs.declared.ranks.Ranks.TheVariants.{Words, Buckets}
 
--- the bits are those of the rows, or the ranks are those of their parts
-abbrev pub AreRanksOf : RowSet → Ranks → Type 0
-AreRanksOf s (Words r) = AreRanks s.rows s.num_rows r.words.items r.before.items
-AreRanksOf s (Buckets r) = AreBuckets s.rows s.num_rows r.shift r.before.items
+-- the bits are those of the rows, and where they don't reach the ranks are those of the parts
+pub record AreRanksOf (s : RowSet) (r : Ranks) : Type 0 where
+  pub bits : AreRanks s.rows r.words.words.items r.words.before.items
+  pub parts : 64 * length r.words.words.items < s.num_rows
+      → AreBuckets s.rows s.num_rows r.buckets.shift r.buckets.before.items
 
 -- they are the ranks of the same rows
 abbrev pub AreRanksAlike : Ranks → Ranks → Type 0

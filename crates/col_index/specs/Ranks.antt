@@ -1,5 +1,5 @@
 -- Rows as bits of words, with ranks.
-use Rattle.std.specs.Prelude.{◌≡◌, ◌≤◌, ◌<◌, ℕ, ◌+◌, ◌*◌, ◌/◌, ◌%◌, ◌^◌, List, length, slice_index, sum, take, count_by, count_ones, nat_eq}
+use Rattle.std.specs.Prelude.{◌≡◌, ◌<◌, ℕ, ◌+◌, ◌*◌, ◌/◌, ◌%◌, ◌^◌, List, length, slice_index, sum, take, count_by, count_ones, nat_eq}
 use Rattle.col_common.specs.Flags.{flag_at}
 use Rattle.col_model.specs.Positions.{rank}
 use Rattle.col_index.specs.Sets.{holds}
@@ -17,10 +17,9 @@ pub record IsTable (of : ℕ → ℕ) (n : ℕ) (xs : List ℕ) : Type 0 where
 abbrev pub AreCounts : List ℕ → ℕ → ℕ → List ℕ → Type 0
 AreCounts rows m n before = IsTable (λ part. rank rows (m * part)) n before
 
--- the bits of rows below n, and how many are set before each word
-pub record AreRanks (rows : List ℕ) (n : ℕ) (words before : List ℕ) : Type 0 where
+-- the bits of rows as far as the words go, and how many are set before each word
+pub record AreRanks (rows words before : List ℕ) : Type 0 where
   pub few : length rows < 2 ^ 32
-  pub room : n ≤ 64 * length words
   pub flags : HasFlags rows words
   pub counts : AreCounts rows 64 (length words) before
 

@@ -2,6 +2,7 @@
 //! shape with its counts.
 #![tactic(auto)]
 
+mod appending;
 mod cardinality;
 mod column_index;
 mod format_version;

@@ -1,5 +1,5 @@
 //! Rows that have any number of values, in version 2.
-ghost use Rattle.std.specs.Prelude.{◌≡◌, ◌≤◌, ◌<◌, ◌+◌, ◌-◌, ◌^◌, ◌==◌, not, true, length, take, sum, slice_index, OnOk};
+ghost use Rattle.std.specs.Prelude.{◌≡◌, ◌≤◌, ◌<◌, ◌+◌, ◌^◌, ◌==◌, not, true, length, take, sum, slice_index, OnOk};
 ghost use Rattle.std.specs.Prelude.{◌++◌, IfOk, IfErr};
 ghost use Rattle.col_common.specs.declared.error.ColumnarError.TheVariants as refusals;
 ghost use Rattle.col_model.specs.Ascending.{is_rising, differences};
@@ -7,9 +7,10 @@ ghost use Rattle.col_model.specs.Index.{offset_counts};
 ghost use Rattle.col_model.specs.Positions.{start_of, index_range, rows_with_value, next_row, starts_of, rows_at};
 ghost use Rattle.col_numbers.specs.Readers.{list_of};
 ghost use Rattle.col_values.specs.Values.{AreBelow};
-ghost use Rattle.col_index.specs.Offsets.{AreOldOffsets, row_positions, docs_of, positions_of, is_start_list, offsets_by, run};
+ghost use Rattle.col_index.specs.Offsets.{AreOldOffsets, row_positions, docs_of, positions_of, is_start_list, offsets_by};
 ghost use Rattle.col_index.specs.Appending.{PushesBoth};
 
+use crate::appending::push_run;
 use crate::non_null_docs::NonNullDocs;
 use crate::optional_index::{OptionalIndex, load_numbers};
 use crate::search::Place;
@@ -194,14 +195,35 @@ impl MultiValueIndexV2 {
             (docs_of (row_positions (offset_counts self.now) docs.now))
             (positions_of (row_positions (offset_counts self.now) docs.now)) }
     {
+        if self.optional_index.is_walked() {
+            self.push_positions_by(true, docs, docs_out, rows_out)
+        } else {
+            self.push_positions_by(false, docs, docs_out, rows_out)
+        }
+    }
+
+    // The same, by a walk or by ranks.
+    #[inline(always)]
+    fn push_positions_by(
+        &self,
+        is_walked: bool,
+        docs: &[DocId],
+        docs_out: &mut Vec<DocId>,
+        rows_out: &mut Vec<RowId>,
+    ) -> Result<(), ColumnarError>
+        ensures { PushesBoth docs_out.old.items docs_out.new.items
+            rows_out.old.items rows_out.new.items result
+            (docs_of (row_positions (offset_counts self.now) docs.now))
+            (positions_of (row_positions (offset_counts self.now) docs.now)) }
+    {
         let mut place = self.optional_index.first_place();
         for doc in docs {
             let doc = *doc;
-            let Some(rank) = self.optional_index.rank_near(&mut place, doc) else {
+            let Some(rank) = self.optional_index.rank_near(is_walked, &mut place, doc) else {
                 continue;
             };
             let positions = self.range_at(rank);
-            push_run(doc, positions.start, positions.end, docs_out, rows_out)?;
+            push_run(docs_out, rows_out, doc, positions.start, positions.end)?;
         }
         Ok(())
     }
@@ -235,25 +257,6 @@ impl MultiValueIndexV2 {
         }
         kept
     }
-}
-
-// Appends a document once for each position of a range, and these, as far as memory reaches.
-fn push_run(
-    doc: DocId,
-    start: RowId,
-    end: RowId,
-    docs_out: &mut Vec<DocId>,
-    rows_out: &mut Vec<RowId>,
-) -> Result<(), ColumnarError>
-    ensures { PushesBoth docs_out.old.items docs_out.new.items
-        rows_out.old.items rows_out.new.items result
-        (docs_of (run doc start (end - start))) (positions_of (run doc start (end - start))) }
-{
-    for position in start..end {
-        docs_out.push(doc)?;
-        rows_out.push(position)?;
-    }
-    Ok(())
 }
 
 // Whether numbers are start offsets of so many rows.

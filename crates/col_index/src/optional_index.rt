@@ -12,6 +12,7 @@ ghost use Rattle.col_index.specs.RankedRows.{AreRankedRows};
 ghost use Rattle.col_index.specs.Sets.{AreRows, holds, held, held_ranks, set_by};
 ghost use Rattle.col_numbers.specs.Readers.{list_of};
 
+use crate::appending::push_pair;
 use crate::non_null_docs::NonNullDocs;
 use crate::ranks::Ranks;
 use crate::search::Place;
@@ -183,30 +184,19 @@ impl Set<RowId> for OptionalIndex {
 
     ghost IsRank = { λ s k. k < length s.rows };
 
-    #[inline]
+    #[inline(always)]
     fn contains(&self, row_id: RowId) -> bool {
         self.holds_at(self.rank(row_id), row_id)
     }
 
-    #[inline]
+    #[inline(always)]
     fn rank(&self, row_id: RowId) -> RowId {
-        if row_id >= self.num_rows {
-            return self.num_non_nulls();
-        }
-        match &self.ranks {
-            Ranks::Words(words) => words.rank(row_id),
-            Ranks::Buckets(buckets) => buckets.rank(self.num_rows, &self.rows, row_id),
-        }
+        self.ranks.rank(self.num_rows, &self.rows, row_id)
     }
 
-    #[inline]
+    #[inline(always)]
     fn rank_if_exists(&self, row_id: RowId) -> Option<RowId> {
-        let rank = self.rank(row_id);
-        if self.holds_at(rank, row_id) {
-            Some(rank)
-        } else {
-            None
-        }
+        self.ranks.rank_if_exists(self.num_rows, &self.rows, row_id)
     }
 
     #[inline(always)]
@@ -234,24 +224,12 @@ impl OptionalIndex {
     ghost use Rattle.col_index.specs.Places.{IsPlace};
 
     /// Whether the row with a rank has a value.
-    #[inline]
+    #[inline(always)]
     pub(crate) fn holds_at(&self, at: RowId, row_id: RowId) -> bool
         requires { at ≡ rank self.now.rows row_id }
         ensures { result ≡ holds self.now.rows row_id }
     {
-        match &self.ranks {
-            Ranks::Words(words) => row_id < self.num_rows && words.holds(row_id),
-            Ranks::Buckets(_) => self.is_listed_at(at, row_id),
-        }
-    }
-
-    // The same by the list of rows.
-    fn is_listed_at(&self, at: RowId, row_id: RowId) -> bool
-        requires { at ≡ rank self.now.rows row_id }
-        ensures { result ≡ holds self.now.rows row_id }
-    {
-        self.rows_rise();
-        at < self.num_non_nulls() && self.select(at) == row_id
+        self.ranks.holds(self.num_rows, &self.rows, at, row_id)
     }
 
     /// The positions of a row's values.
@@ -318,16 +296,29 @@ impl OptionalIndex {
         }
     }
 
-    /// The rank of a row that has a value; in few steps where it isn't far behind a place.
+    /// Whether documents that are asked one behind another are walked, and not ranked each by
+    /// itself.
+    pub(crate) fn is_walked(&self) -> bool {
+        !self.ranks.has_bits()
+    }
+
+    /// The rank of a row that has a value; by a walk, in few steps where the row isn't far behind
+    /// the place.
     #[inline(always)]
-    pub(crate) fn rank_near(&self, place: &mut Place, doc_id: DocId) -> Option<RowId>
+    pub(crate) fn rank_near(
+        &self,
+        is_walked: bool,
+        place: &mut Place,
+        doc_id: DocId,
+    ) -> Option<RowId>
         requires { IsPlace self.now.rows place.old }
         ensures place { IsPlace self.now.rows place.new }
         ensures rank { result ≡ only_if (holds self.now.rows doc_id) (rank self.now.rows doc_id) }
     {
-        match &self.ranks {
-            Ranks::Words(_) => self.rank_if_exists(doc_id),
-            Ranks::Buckets(_) => self.walked_rank(place, doc_id),
+        if is_walked {
+            self.walked_rank(place, doc_id)
+        } else {
+            self.rank_if_exists(doc_id)
         }
     }
 
@@ -342,32 +333,36 @@ impl OptionalIndex {
             rows_out.old.items rows_out.new.items result
             (held self.now.rows docs.now) (held_ranks self.now.rows docs.now) }
     {
+        if self.is_walked() {
+            self.push_ranks_by(true, docs, docs_out, rows_out)
+        } else {
+            self.push_ranks_by(false, docs, docs_out, rows_out)
+        }
+    }
+
+    // The same, by a walk or by ranks.
+    #[inline(always)]
+    fn push_ranks_by(
+        &self,
+        is_walked: bool,
+        docs: &[DocId],
+        docs_out: &mut Vec<DocId>,
+        rows_out: &mut Vec<RowId>,
+    ) -> Result<(), ColumnarError>
+        ensures { PushesBoth docs_out.old.items docs_out.new.items
+            rows_out.old.items rows_out.new.items result
+            (held self.now.rows docs.now) (held_ranks self.now.rows docs.now) }
+    {
         let mut place = self.first_place();
         for doc in docs {
             let doc = *doc;
-            let Some(rank) = self.rank_near(&mut place, doc) else {
+            let Some(rank) = self.rank_near(is_walked, &mut place, doc) else {
                 continue;
             };
             push_pair(docs_out, rows_out, doc, rank)?;
         }
         Ok(())
     }
-}
-
-/// Appends a document and the position of one of its values, as far as memory reaches.
-#[inline]
-pub(crate) fn push_pair(
-    docs_out: &mut Vec<DocId>,
-    rows_out: &mut Vec<RowId>,
-    doc: DocId,
-    row: RowId,
-) -> Result<(), ColumnarError>
-    ensures { PushesBoth docs_out.old.items docs_out.new.items
-        rows_out.old.items rows_out.new.items result (doc ∷ []) (row ∷ []) }
-{
-    docs_out.push(doc)?;
-    rows_out.push(row)?;
-    Ok(())
 }
 
 /// Numbers as a list that is read in place.

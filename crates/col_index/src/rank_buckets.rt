@@ -24,6 +24,14 @@ pub struct RankBuckets {
 }
 
 impl RankBuckets {
+    /// No parts.
+    pub fn empty(alloc: Global) -> RankBuckets {
+        RankBuckets {
+            shift: 0,
+            before: Vec::new(alloc),
+        }
+    }
+
     /// The parts of rows, if these rise and stay below the count.
     pub fn from_rows(
         alloc: Global,
@@ -57,7 +65,6 @@ impl RankBuckets {
     }
 
     /// How many rows before a row have a value, by the list of those that have one.
-    #[inline]
     pub fn rank(&self, num_rows: RowId, rows: &U64Values, row: RowId) -> RowId
         requires rising { is_rising (list_of rows.now) ≡ true }
         requires buckets { AreBuckets (list_of rows.now) num_rows

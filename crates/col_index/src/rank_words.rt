@@ -1,5 +1,5 @@
 //! Rows as bits with ranks.
-ghost use Rattle.std.specs.Prelude.{◌≡◌, ◌≤◌, ◌<◌, ◌*◌, ◌/◌, ◌^◌, true, length, replicate};
+ghost use Rattle.std.specs.Prelude.{◌≡◌, ◌≤◌, ◌<◌, ◌*◌, ◌/◌, ◌^◌, true, nat_lt, [], length, replicate};
 ghost use Rattle.std.specs.Prelude.{IfOk, IfErr};
 ghost use Rattle.col_common.specs.declared.error.ColumnarError.TheVariants as refusals;
 ghost use Rattle.col_common.specs.Decoding.{Decodes};
@@ -27,6 +27,17 @@ pub struct RankWords {
 }
 
 impl RankWords {
+    /// No bits.
+    pub fn empty(alloc: Global) -> RankWords
+        ensures words { result.words.items ≡ [] }
+        ensures before { result.before.items ≡ [] }
+    {
+        RankWords {
+            words: Vec::new(alloc),
+            before: Vec::new(alloc),
+        }
+    }
+
     /// The bits of rows, if these rise and stay below the count.
     pub fn from_rows(
         alloc: Global,
@@ -36,7 +47,8 @@ impl RankWords {
         ensures rows { Decodes (λ ranks. record { num_rows = num_rows; rows = list_of rows.now })
             result (set_by num_rows (list_of rows.now)) }
         ensures ranks { IfOk result (λ ranks.
-            AreRanks (list_of rows.now) num_rows ranks.words.items ranks.before.items) }
+            AreRanks (list_of rows.now) ranks.words.items ranks.before.items) }
+        ensures room { IfOk result (λ ranks. num_rows ≤ 64 * length ranks.words.items) }
     {
         let mut words = vec![in alloc; 0; num_rows.div_ceil(WORD_BITS) as usize]?;
         if !set_rows(num_rows, rows, &mut words) {
@@ -58,8 +70,16 @@ impl RankWords {
         })
     }
 
+    /// Whether there is a bit for a row.
+    #[inline(always)]
+    pub fn reaches(&self, row: RowId) -> bool
+        ensures { result ≡ nat_lt row (64 * length self.now.words.items) }
+    {
+        ((row / WORD_BITS) as usize) < self.words.len()
+    }
+
     /// How many rows before a row have a value.
-    #[inline]
+    #[inline(always)]
     pub fn rank(&self, row: RowId) -> RowId
         requires long { length self.now.before.items ≡ length self.now.words.items }
         requires row { row < 64 * length self.now.words.items }
@@ -72,7 +92,7 @@ impl RankWords {
     }
 
     /// Whether a row has a value.
-    #[inline]
+    #[inline(always)]
     pub fn holds(&self, row: RowId) -> bool
         requires { row < 64 * length self.now.words.items }
         ensures { result ≡ flag_at self.now.words.items row }

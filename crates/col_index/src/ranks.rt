@@ -1,9 +1,12 @@
 //! What an index keeps beside its rows to rank them.
-ghost use Rattle.std.specs.Prelude.{◌≡◌, IfOk, IfErr};
+ghost use Rattle.std.specs.Prelude.{◌≡◌, ◌≤◌, ◌*◌, true, length, IfOk, IfErr};
 ghost use Rattle.col_common.specs.declared.error.ColumnarError.TheVariants as refusals;
 ghost use Rattle.col_common.specs.Decoding.{Decodes};
+ghost use Rattle.col_common.specs.Reading.{only_if};
+ghost use Rattle.col_model.specs.Ascending.{is_rising};
+ghost use Rattle.col_model.specs.Positions.{rank};
 ghost use Rattle.col_numbers.specs.Readers.{list_of};
-ghost use Rattle.col_index.specs.Sets.{set_by};
+ghost use Rattle.col_index.specs.Sets.{holds, set_by};
 
 use crate::rank_buckets::RankBuckets;
 use crate::rank_words::RankWords;
@@ -15,15 +18,16 @@ use std::alloc::Global;
 /// How many rows there are for each row with a value where these still get bits.
 const MAX_ROWS_APART: u64 = 64;
 
-/// What an index keeps beside its rows: bits, or, where few rows have a value, ranks for parts.
+/// What an index keeps beside its rows: bits, or, where few rows have a value, no bits and ranks
+/// for parts.
 #[derive(Drop)]
-pub enum Ranks {
-    Words(RankWords),
-    Buckets(RankBuckets),
+pub struct Ranks {
+    pub words: RankWords,
+    pub buckets: RankBuckets,
 }
 
 impl Ranks {
-    ghost use Rattle.col_index.specs.RankedRows.{AreRanksAlike, AreRanksOf};
+    ghost use Rattle.col_index.specs.RankedRows.{AreRanksAlike, AreRanksOf, AreRankedRows};
 
     /// The ranks of rows, if these rise and stay below the count.
     pub fn from_rows(
@@ -37,9 +41,13 @@ impl Ranks {
             AreRanksOf (record { num_rows = num_rows; rows = list_of rows.now }) ranks) }
     {
         if u64::from(num_rows) <= MAX_ROWS_APART * u64::from(rows.num_vals()) {
-            return Ok(Ranks::Words(RankWords::from_rows(alloc, num_rows, rows)?));
+            let words = RankWords::from_rows(alloc, num_rows, rows)?;
+            let buckets = RankBuckets::empty(alloc);
+            return Ok(Ranks { words, buckets });
         }
-        Ok(Ranks::Buckets(RankBuckets::from_rows(alloc, num_rows, rows)?))
+        let words = RankWords::empty(alloc);
+        let buckets = RankBuckets::from_rows(alloc, num_rows, rows)?;
+        Ok(Ranks { words, buckets })
     }
 
     /// The same once more.
@@ -47,9 +55,85 @@ impl Ranks {
         ensures ok { IfOk result (λ ranks. AreRanksAlike self.now ranks) }
         ensures err { IfErr result (λ e. e ≡ refusals.OutOfMemory) }
     {
-        match self {
-            Ranks::Words(words) => Ok(Ranks::Words(words.try_clone(alloc)?)),
-            Ranks::Buckets(buckets) => Ok(Ranks::Buckets(buckets.try_clone(alloc)?)),
-        }
+        Ok(Ranks {
+            words: self.words.try_clone(alloc)?,
+            buckets: self.buckets.try_clone(alloc)?,
+        })
     }
+
+    /// Whether rows have bits.
+    pub fn has_bits(&self) -> bool {
+        self.words.reaches(0)
+    }
+
+    /// How many rows before a row have a value.
+    #[inline(always)]
+    pub fn rank(&self, num_rows: RowId, rows: &U64Values, row: RowId) -> RowId
+        requires { AreRankedRows (record { num_rows = num_rows; rows = list_of rows.now })
+            self.now }
+        ensures { result ≡ rank (list_of rows.now) row }
+    {
+        if self.words.reaches(row) {
+            return self.words.rank(row);
+        }
+        self.rank_by_parts(num_rows, rows, row)
+    }
+
+    // The same for a row without a bit.
+    #[inline(never)]
+    fn rank_by_parts(&self, num_rows: RowId, rows: &U64Values, row: RowId) -> RowId
+        requires ranked { AreRankedRows (record { num_rows = num_rows; rows = list_of rows.now })
+            self.now }
+        requires row { 64 * length self.now.words.words.items ≤ row }
+        ensures { result ≡ rank (list_of rows.now) row }
+    {
+        if row >= num_rows {
+            return rows.num_vals();
+        }
+        self.buckets.rank(num_rows, rows, row)
+    }
+
+    /// The rank of a row that has a value.
+    #[inline(always)]
+    pub fn rank_if_exists(&self, num_rows: RowId, rows: &U64Values, row: RowId) -> Option<RowId>
+        requires { AreRankedRows (record { num_rows = num_rows; rows = list_of rows.now })
+            self.now }
+        ensures { result ≡ only_if (holds (list_of rows.now) row) (rank (list_of rows.now) row) }
+    {
+        if self.words.reaches(row) {
+            if self.words.holds(row) {
+                return Some(self.words.rank(row));
+            }
+            return None;
+        }
+        let rank = self.rank_by_parts(num_rows, rows, row);
+        if is_listed_at(rows, rank, row) {
+            return Some(rank);
+        }
+        None
+    }
+
+    /// Whether the row with a rank has a value.
+    #[inline(always)]
+    pub fn holds(&self, num_rows: RowId, rows: &U64Values, at: RowId, row: RowId) -> bool
+        requires ranked { AreRankedRows (record { num_rows = num_rows; rows = list_of rows.now })
+            self.now }
+        requires at { at ≡ rank (list_of rows.now) row }
+        ensures { result ≡ holds (list_of rows.now) row }
+    {
+        if self.words.reaches(row) {
+            return self.words.holds(row);
+        }
+        is_listed_at(rows, at, row)
+    }
+}
+
+// Whether a row is the one with its rank in a list.
+#[inline(never)]
+fn is_listed_at(rows: &U64Values, at: u32, row: RowId) -> bool
+    requires rising { is_rising (list_of rows.now) ≡ true }
+    requires at { at ≡ rank (list_of rows.now) row }
+    ensures { result ≡ holds (list_of rows.now) row }
+{
+    at < rows.num_vals() && rows.get_val(at) == u64::from(row)
 }

@@ -6,7 +6,7 @@ use Rattle.std.proofs.lemmas.Option.{same_Some, none-some}
 use Rattle.std.proofs.Math.Nat.{mul-le-mul_left}
 use Rattle.col_bits.proofs.PackedLemmas.{length-digits}
 use Rattle.col_common.specs.VInt.{group_bytes, vint_bytes}
-use Rattle.col_model.specs.Packed.{width, is_width, packed_bytes, number_of, digits}
+use Rattle.col_model.specs.Packed.{width, is_width, packed_bytes, number_of}
 use Rattle.col_model.specs.Stats.{Stats, stats_of, steps_of, stats_bytes}
 use Rattle.col_model.specs.U64List.{LinearParams}
 use Rattle.col_model.specs.Codecs.{chosen_codec, chosen_before, is_not_below, estimate, bitpacked_estimate, linear_estimate, bitpacked_body, linear_body, linear_line, params_bytes, packed_len, packed_offsets, line_len, stats_len, steps_above, offsets_from, codec_bytes, block_size}

@@ -7,7 +7,7 @@ use Rattle.std.proofs.lemmas.List.{drop_more, get_or-map, length-map}
 use Rattle.std.proofs.lemmas.List.Sums.{sum_by_more, sum_by-take-le}
 use Rattle.col_common.specs.declared.iterable.Walk.{Walk}
 use Rattle.col_common.specs.declared.row.RowAddr.{RowAddr}
-use Rattle.col_model.specs.Index.{Shape, empty_shape}
+use Rattle.col_model.specs.Index.{empty_shape}
 use Rattle.col_model.specs.Order.{has_row}
 use Rattle.col_model.specs.Positions.{picked_counts, count_in, starts_of}
 use Rattle.col_order.specs.Orders.{Shuffle, address_of}
@@ -15,7 +15,7 @@ use Rattle.col_order.proofs.MarkedLemmas.{row_there}
 use Rattle.col_indexer.specs.Counted.{rows_behind, ends_behind}
 use Rattle.col_index.specs.Indexes.{shape_of}
 use Rattle.col_indexer.specs.Merged.{FitSegments}
-use Rattle.col_indexer.specs.Shuffles.{Picked, picked_of, shuffled_counts}
+use Rattle.col_indexer.specs.Shuffles.{Picked, shuffled_counts}
 use Rattle.col_index.specs.declared.column_index.ColumnIndex.{ColumnIndex}
 use Rattle.col_indexer.proofs.CountedLemmas.{rows_behind-none, rows_behind-some, ends_behind-none, ends_behind-some, starts_of-ends}
 use Rattle.col_indexer.proofs.SegmentLemmas.{length-fit}
@@ -58,6 +58,10 @@ count-there indexes addrs p k n d are h e =
     ∙ ap count (get_or-map address_of addrs k d (address_of addr) h)
     ∙ ap (λ shapes. count_in (slice_index_or shapes addr.segment_ord (empty_shape 0)) addr.row_id) (sym are.shapes)
     ∙ sym e
+
+-- and there is one
+pub pick-there : (indexes : List ColumnIndex) (addrs : List RowAddr) (p : Picked) (k n : ℕ) (d : RowAddr) → AreOf indexes addrs p → k < length addrs → n ≡ count_in (slice_index_or (map shape_of indexes) (get_or addrs k d).segment_ord (empty_shape 0)) (get_or addrs k d).row_id → (k < length (shuffled_counts p)) × (get_or (shuffled_counts p) k 0 ≡ n)
+pick-there indexes addrs p k n d are h e = (omega (arith, length-walked indexes addrs p are), count-there indexes addrs p k n d are h e)
 
 -- what a test tells of a count of 0
 pub count-none : (n : ℕ) → false ≡ not (n == 0) → n ≡ 0

@@ -175,6 +175,9 @@ fn num_values(column_index: &ColumnIndex, row: RowId) -> RowId
         ColumnIndex::Empty { .. } => 0,
         ColumnIndex::Full => 1,
         ColumnIndex::Optional(_) | ColumnIndex::Multivalued(_) => {
+            if !column_index.has_value(row) {
+                return 0;
+            }
             let positions = column_index.value_row_ids(row);
             positions.end - positions.start
         }

@@ -1,11 +1,11 @@
 //! Indexes of bytes that were worked out by hand from the format's page.
 
+use bytes::Bytes;
+use col_common::ColumnarError;
 use col_index::{
     Cardinality, ColumnIndex, Version, open_column_index, open_multivalued_index,
     open_optional_index,
 };
-use bytes::Bytes;
-use col_common::ColumnarError;
 use col_values::ColumnValues;
 use std::test::Fail;
 

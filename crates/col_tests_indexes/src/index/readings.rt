@@ -1,7 +1,9 @@
 //! What indexes answer of their rows.
 
-use col_index::{ColumnIndex, MultiValueIndex, OptionalIndex, SelectCursor, Set, indexes_have_counts};
-use col_common::{ColumnarError, DocId, Iterable, RowId};
+use col_common::{DocId, Iterable, RowId};
+use col_index::{
+    ColumnIndex, MultiValueIndex, OptionalIndex, SelectCursor, Set, indexes_have_counts,
+};
 use std::alloc::Global;
 use std::process::Abort;
 use std::test::Fail;
@@ -17,6 +19,8 @@ struct Answers<'a> {
     ranges: &'a [(DocId, DocId, RowId, RowId)],
     // Whether a row has a value.
     values: &'a [(DocId, bool)],
+    // What `Debug` prints.
+    text: &'a str,
 }
 
 fn assert_answers(
@@ -24,7 +28,7 @@ fn assert_answers(
     alloc: Global,
     index: &ColumnIndex,
     answers: Answers<'_>,
-) -> Result<(), ColumnarError> {
+) -> Result<(), Fail> {
     assert_ranges(rt, index, answers.ranges);
     for (row, has) in answers.values {
         assert_eq!(rt; index.has_value(*row), *has, "row {row}");
@@ -34,7 +38,7 @@ fn assert_answers(
     index.docids_to_rowids(answers.docs, &mut docs, &mut positions)?;
     assert_eq!(rt; docs.as_slice(), answers.with_values);
     assert_eq!(rt; positions.as_slice(), answers.positions);
-    Ok(())
+    assert_text(rt, alloc, index, answers.text)
 }
 
 fn assert_ranges(rt: &impl Abort, index: &ColumnIndex, ranges: &[(DocId, DocId, RowId, RowId)]) {
@@ -65,11 +69,10 @@ fn rows_with_one_value_each_are_its_position(rt: HostRuntime) -> Result<(), Fail
         positions: &[4, 2],
         ranges: &[(3, 6, 3, 6), (6, 3, 6, 6)],
         values: &[(4, true)],
+        text: "Full",
     };
     indexes_have_counts();
-    assert_answers(&rt, rt.alloc(), &index, answers)?;
-    assert_text(&rt, rt.alloc(), &index, "Full")?;
-    Ok(())
+    assert_answers(&rt, rt.alloc(), &index, answers)
 }
 
 #[test]
@@ -81,16 +84,10 @@ fn rows_with_many_values_have_runs_of_positions(rt: HostRuntime) -> Result<(), F
         positions: &[0, 1, 2, 3],
         ranges: &[(3, 6, 2, 2), (6, 7, 2, 4), (6, 3, 2, 2)],
         values: &[(0, true), (1, false), (6, true), (7, false)],
+        text: "Multivalued(MultiValuedIndex { num_rows: 3, .. })",
     };
     let index = ColumnIndex::from(index);
-    assert_answers(&rt, rt.alloc(), &index, answers)?;
-    assert_text(
-        &rt,
-        rt.alloc(),
-        &index,
-        "Multivalued(MultiValuedIndex { num_rows: 3, .. })",
-    )?;
-    Ok(())
+    assert_answers(&rt, rt.alloc(), &index, answers)
 }
 
 #[test]
@@ -113,16 +110,10 @@ fn rows_with_one_value_at_most_have_their_rank(rt: HostRuntime) -> Result<(), Fa
         positions: &[1, 0],
         ranges: &[(1, 7, 1, 2), (0, 6, 0, 1)],
         values: &[(0, true), (5, false), (6, true), (7, false)],
+        text: "Optional(OptionalIndex { num_docs: 7, num_non_null_docs: 2, .. })",
     };
     let index = ColumnIndex::from(index);
-    assert_answers(&rt, rt.alloc(), &index, answers)?;
-    assert_text(
-        &rt,
-        rt.alloc(),
-        &index,
-        "Optional(OptionalIndex { num_docs: 7, num_non_null_docs: 2, .. })",
-    )?;
-    Ok(())
+    assert_answers(&rt, rt.alloc(), &index, answers)
 }
 
 fn assert_ranks(rt: &impl Abort, index: &OptionalIndex, rows: &[(RowId, RowId, Option<RowId>)]) {

@@ -2,9 +2,9 @@
 ghost use Rattle.std.specs.Prelude.{◌≡◌, map, IfOk};
 ghost use Rattle.col_order.specs.Orders.{address_of};
 
-use col_indexer::{SerializableColumnIndex, merge_column_index, merge_column_index_shuffled};
 use col_common::{ColumnarError, Iterable, RowAddr, RowId};
 use col_index::{Cardinality, ColumnIndex, MultiValueIndex, OptionalIndex};
+use col_indexer::{SerializableColumnIndex, merge_column_index, merge_column_index_shuffled};
 use col_order::{MergeRowOrder, ShuffleMergeOrder, StackMergeOrder};
 use std::alloc::Global;
 use std::process::Abort;

@@ -4,13 +4,13 @@ ghost use Rattle.col_indexer.specs.Spelling.{multivalued_index, IsIndex, is_past
 ghost use Rattle.col_indexer.specs.Written.{row_offsets_of};
 
 use crate::indexer::merged::{assert_index, assert_items};
+use col_common::{ColumnarError, RowId, VecSink};
+use col_index::{Cardinality, OptionalIndex};
 use col_indexer::{
     IndexBuilder, MultivaluedIndexBuilder, PreallocatedIndexBuilders, RowIds,
     SerializableColumnIndex, SerializableMultivalueIndex, SerializableOptionalIndex, StartOffsets,
     serialize_column_index, serialize_multivalued_index, serialize_optional_index,
 };
-use col_common::{ColumnarError, RowId, VecSink};
-use col_index::{Cardinality, OptionalIndex};
 use std::alloc::Global;
 use std::test::Fail;
 

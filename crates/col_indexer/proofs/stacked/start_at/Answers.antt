@@ -1,5 +1,5 @@
 use Rattle.std.proofs.Common.{◌≡◌, ℕ, suc, ◌+◌, List, length, slice_get, ap, sym, ◌∙◌, arith}
-use Rattle.std.specs.List.{range_with_len, sum}
+use Rattle.std.specs.List.{range_with_len}
 use Rattle.col_model.specs.Positions.{starts_of}
 use Rattle.col_indexer.specs.Counted.{counts_in}
 use Rattle.col_index.specs.Indexes.{shape_of}

@@ -1,12 +1,12 @@
 use Rattle.std.proofs.Common.{◌≡◌, ◌<◌, ◌^◌, ◌++◌, length, sym, ap, ◌∙◌, subst}
 use Rattle.col_model.specs.Ascending.{differences}
-use Rattle.col_model.specs.Index.{RowOffsets, offset_counts}
+use Rattle.col_model.specs.Index.{offset_counts}
 use Rattle.col_model.specs.Positions.{rows_with_value, starts_of}
 use Rattle.col_numbers.specs.Readers.{list_of}
 use Rattle.col_index.specs.Offsets.{AreOffsets}
 use Rattle.col_index.specs.Sets.{AreRows}
-use Rattle.col_index.proofs.IndexedLaws.{set_of_counts, offsets_of_counts, counts-are_rows, counts-are_offset_counts}
-use Rattle.col_index.proofs.OldStartLemmas.{old-are_offsets, old-few, old-set}
+use Rattle.col_index.proofs.IndexedLaws.{counts-are_rows, counts-are_offset_counts}
+use Rattle.col_index.proofs.OldStartLemmas.{old-are_offsets, old-few, old-set, old-whole}
 use Rattle.col_index.proofs.multivalued_index_v2.MultiValueIndexV2.for_test.Goals as goal
 
 pub for_test-requires : goal.for_test-requires
@@ -28,9 +28,7 @@ invariant_of-result c =
     let cs = differences offsets in
     let rows : c.deref.result.now ≡ rows_with_value cs = c.deref.ensures.value ∙ c.in_ok-push_runs.ensures.rows ∙ ap (λ xs. xs ++ rows_with_value cs) c.new-rows.ensures.items in
     let starts : c.deref-2.result.now ≡ starts_of cs = c.deref-2.ensures.value ∙ c.in_ok-push_runs.ensures.starts ∙ ap (λ xs. xs ++ starts_of cs) c.new-starts.ensures.items in
-    let set : c.in_ok-optional_index.optional_index ≡ set_of_counts cs = c.in_ok-optional_index.ensures.ok ∙ old-set offsets c.deref.result.now rows in
-    let column : list_of c.in_ok-start_index_column.start_index_column ≡ starts_of cs = c.in_ok-start_index_column.ensures.ok ∙ starts in
-    let whole : ◌≡◌ {A = RowOffsets} (record { set = c.in_ok-optional_index.optional_index; starts = list_of c.in_ok-start_index_column.start_index_column }) (offsets_of_counts cs) = λ i. record { set = set i; starts = column i } in
+    let whole = old-whole offsets c.deref.result.now c.deref-2.result.now (list_of c.in_ok-start_index_column.start_index_column) c.in_ok-optional_index.optional_index rows starts c.in_ok-optional_index.ensures.ok c.in_ok-start_index_column.ensures.ok in
     subst AreOffsets (sym whole) (old-are_offsets offsets c.requires)
 
 pub returns-clause-ok : goal.returns-clause-ok
@@ -39,7 +37,5 @@ returns-clause-ok c =
     let cs = differences offsets in
     let rows : c.deref.result.now ≡ rows_with_value cs = c.deref.ensures.value ∙ c.in_ok-push_runs.ensures.rows ∙ ap (λ xs. xs ++ rows_with_value cs) c.new-rows.ensures.items in
     let starts : c.deref-2.result.now ≡ starts_of cs = c.deref-2.ensures.value ∙ c.in_ok-push_runs.ensures.starts ∙ ap (λ xs. xs ++ starts_of cs) c.new-starts.ensures.items in
-    let set : c.in_ok-optional_index.optional_index ≡ set_of_counts cs = c.in_ok-optional_index.ensures.ok ∙ old-set offsets c.deref.result.now rows in
-    let column : list_of c.in_ok-start_index_column.start_index_column ≡ starts_of cs = c.in_ok-start_index_column.ensures.ok ∙ starts in
-    let whole : ◌≡◌ {A = RowOffsets} (record { set = c.in_ok-optional_index.optional_index; starts = list_of c.in_ok-start_index_column.start_index_column }) (offsets_of_counts cs) = λ i. record { set = set i; starts = column i } in
+    let whole = old-whole offsets c.deref.result.now c.deref-2.result.now (list_of c.in_ok-start_index_column.start_index_column) c.in_ok-optional_index.optional_index rows starts c.in_ok-optional_index.ensures.ok c.in_ok-start_index_column.ensures.ok in
     ap offset_counts whole ∙ counts-are_offset_counts cs

@@ -16,9 +16,14 @@ returns-clause-ranks c =
     let own : is_row_list n rows ≡ true = sym c.set_rows.ensures.rows ∙ c.if-not-set_rows.false in
     let few = few_rows n rows own in
     let long = ap length (c.deref.ensures.value ∙ same) in
-    subst (λ ws. AreRanks rows n ws before) (sym same) (record {
+    subst (λ ws. AreRanks rows ws before) (sym same) (record {
       few = omega (arith, few, c.ranges.num_rows.fits);
-      room = omega (arith, c.set_rows.auto.words, c.deref_mut.ensures.len, c.in_ok-words.ensures.len, c.div_ceil.ensures);
       flags = c.set_rows.ensures.flags c.if-not-set_rows.false;
       counts = subst (λ k. AreCounts rows 64 k before) long c.in_ok-before.ensures.ok;
     })
+
+pub returns-clause-room : goal.returns-clause-room
+returns-clause-room c =
+    let words = c.set_rows.new.words in
+    let same = take_at words (drop (length words) c.in_ok-words.words.items) c.in_ok-words.words.len (c.set_rows.auto.words ∙ c.deref_mut.ensures.len) in
+    omega (arith, ap length same, c.set_rows.auto.words, c.deref_mut.ensures.len, c.in_ok-words.ensures.len, c.div_ceil.ensures)

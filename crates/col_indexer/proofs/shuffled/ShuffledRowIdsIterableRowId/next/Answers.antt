@@ -2,7 +2,7 @@ use Rattle.std.proofs.Common.{◌≡◌, ◌≢◌, get_or, refl, sym, ap, ◌�
 use Rattle.std.specs.List.{list_all}
 use Rattle.col_model.specs.Order.{has_row}
 use Rattle.col_indexer.specs.Shuffles.{shuffled_counts}
-use Rattle.col_indexer.proofs.ShuffleLemmas.{are_of, segment-there, length-shuffled, length-walked, count-there, count-none, count-some, picks-none, picks-some, picks-end}
+use Rattle.col_indexer.proofs.ShuffleLemmas.{are_of, segment-there, length-shuffled, length-walked, pick-there, count-none, count-some, picks-none, picks-some, picks-end}
 use Rattle.col_indexer.proofs.shuffled.ShuffledRowIdsIterableRowId.next.Goals as goal
 
 pub has_value_at-requires : goal.has_value_at-requires
@@ -19,11 +19,9 @@ returns-then-has_value_at-clause-value c =
     let indexes = c.self.inside.column_indexes.now in
     let addrs = c.iter_new_to_old_row_addrs-addrs.result.now in
     let k = c.loop-at.at.place in
-    let are = are_of indexes addrs c.self.inside.order.now p c.self.view_is c.iter_new_to_old_row_addrs-addrs.ensures in
-    let there = count-there indexes addrs p k _ (record { segment_ord = 0; row_id = 0 }) are c.loop-at-test.true refl in
-    let some : get_or (shuffled_counts p) k 0 ≢ 0 = λ e. count-some _ (sym c.if-has_value_at.true ∙ c.has_value_at.ensures) (sym there ∙ e) in
-    let long = length-walked indexes addrs p are in
-    sym c.loop-at.invariant.left ∙ picks-some (shuffled_counts p) k (omega arith) some
+    let there = pick-there indexes addrs p k _ (record { segment_ord = 0; row_id = 0 }) (are_of indexes addrs c.self.inside.order.now p c.self.view_is c.iter_new_to_old_row_addrs-addrs.ensures) c.loop-at-test.true refl in
+    let some : get_or (shuffled_counts p) k 0 ≢ 0 = λ e. count-some _ (sym c.if-has_value_at.true ∙ c.has_value_at.ensures) (sym there.1 ∙ e) in
+    sym c.loop-at.invariant.left ∙ picks-some (shuffled_counts p) k there.0 some
 
 pub loop-at-preserved : goal.loop-at-preserved
 loop-at-preserved c =
@@ -31,14 +29,11 @@ loop-at-preserved c =
     let indexes = c.self.inside.column_indexes.now in
     let addrs = c.iter_new_to_old_row_addrs-addrs.result.now in
     let k = c.loop-at.at.place in
-    let are = are_of indexes addrs c.self.inside.order.now p c.self.view_is c.iter_new_to_old_row_addrs-addrs.ensures in
-    let there = count-there indexes addrs p k _ (record { segment_ord = 0; row_id = 0 }) are c.loop-at-test.true refl in
-    let none : get_or (shuffled_counts p) k 0 ≡ 0 = there ∙ count-none _ (sym c.if-has_value_at.false ∙ c.has_value_at.ensures) in
-    let long = length-walked indexes addrs p are in
-    let picks = length-shuffled p in
+    let there = pick-there indexes addrs p k _ (record { segment_ord = 0; row_id = 0 }) (are_of indexes addrs c.self.inside.order.now p c.self.view_is c.iter_new_to_old_row_addrs-addrs.ensures) c.loop-at-test.true refl in
+    let none : get_or (shuffled_counts p) k 0 ≡ 0 = there.1 ∙ count-none _ (sym c.if-has_value_at.false ∙ c.has_value_at.ensures) in
     record {
-      stands = omega arith;
-      left = sym (picks-none (shuffled_counts p) k (omega arith) none) ∙ c.loop-at.invariant.left;
+      stands = omega (arith, length-shuffled p, there.0);
+      left = sym (picks-none (shuffled_counts p) k there.0 none) ∙ c.loop-at.invariant.left;
     }
 
 pub returns-clause-value : goal.returns-clause-value

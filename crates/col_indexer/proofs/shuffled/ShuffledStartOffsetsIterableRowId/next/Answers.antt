@@ -3,7 +3,7 @@ use Rattle.std.specs.List.{list_all, sum}
 use Rattle.col_model.specs.Order.{has_row}
 use Rattle.col_indexer.specs.Counted.{ends_behind}
 use Rattle.col_indexer.specs.Shuffles.{StandsAtSum, shuffled_counts}
-use Rattle.col_indexer.proofs.ShuffleLemmas.{are_of, segment-there, length-shuffled, length-walked, count-there, first-given, sums-none, sums-some, sums-end, sum-step}
+use Rattle.col_indexer.proofs.ShuffleLemmas.{are_of, segment-there, length-shuffled, length-walked, pick-there, first-given, sums-none, sums-some, sums-end, sum-step}
 use Rattle.col_indexer.proofs.shuffled.ShuffledStartOffsetsIterableRowId.next.Goals as goal
 
 pub values_at-num_values-requires : goal.values_at-num_values-requires
@@ -20,10 +20,8 @@ there c =
     let p = c.args.self.now in
     let indexes = c.self.inside.column_indexes.now in
     let addrs = c.iter_new_to_old_row_addrs-addrs.result.now in
-    let are = are_of indexes addrs c.self.inside.order.now p c.self.view_is c.iter_new_to_old_row_addrs-addrs.ensures in
-    let long = length-walked indexes addrs p are in
-    let same = count-there indexes addrs p c.loop-at.at.place _ (record { segment_ord = 0; row_id = 0 }) are c.loop-at-test.true refl in
-    (omega arith, same ∙ sym c.values_at-num_values.ensures ∙ sym c.from.ensures)
+    let pick = pick-there indexes addrs p c.loop-at.at.place _ (record { segment_ord = 0; row_id = 0 }) (are_of indexes addrs c.self.inside.order.now p c.self.view_is c.iter_new_to_old_row_addrs-addrs.ensures) c.loop-at-test.true refl in
+    (pick.0, pick.1 ∙ sym c.values_at-num_values.ensures ∙ sym c.from.ensures)
 
 pub overflow_cast-result : goal.overflow_cast-result
 overflow_cast-result c =
@@ -68,21 +66,18 @@ loop-at-preserved c =
     let k = c.loop-at.at.place in
     let inner = c.loop-at.at.inner in
     let before = c.loop-at.at.sum in
-    let are = are_of indexes addrs c.self.inside.order.now p c.self.view_is c.iter_new_to_old_row_addrs-addrs.ensures in
-    let long = length-walked indexes addrs p are in
     let picks = length-shuffled p in
-    let within : k < length (shuffled_counts p) = omega arith in
-    let same = count-there indexes addrs p k _ (record { segment_ord = 0; row_id = 0 }) are c.loop-at-test.true refl in
-    let none : get_or (shuffled_counts p) k 0 ≡ 0 = same ∙ sym c.values_at-num_values.ensures ∙ c.if-num_values-ne0.false in
-    let step = sum-step (shuffled_counts p) k before 0 within none c.loop-at.invariant.stands.before in
+    let pick = pick-there indexes addrs p k _ (record { segment_ord = 0; row_id = 0 }) (are_of indexes addrs c.self.inside.order.now p c.self.view_is c.iter_new_to_old_row_addrs-addrs.ensures) c.loop-at-test.true refl in
+    let none : get_or (shuffled_counts p) k 0 ≡ 0 = pick.1 ∙ sym c.values_at-num_values.ensures ∙ c.if-num_values-ne0.false in
+    let step = sum-step (shuffled_counts p) k before 0 pick.0 none c.loop-at.invariant.stands.before in
     let stands : StandsAtSum p (record { segment = c.loop-at.at.segment; place = k + 1; inner = inner; sum = before }) =
-    record { pick = omega arith; before = omega (arith, step.0); first = c.loop-at.invariant.stands.first } in
+    record { pick = omega (arith, pick.0); before = omega (arith, step.0); first = c.loop-at.invariant.stands.first } in
     record {
       stands = stands;
       first = c.loop-at.invariant.first;
       left =
           first-given inner (ends_behind before (drop (k + 1) (shuffled_counts p))) c.loop-at.invariant.first
-          ∙ sym (sums-none (shuffled_counts p) k before within none)
+          ∙ sym (sums-none (shuffled_counts p) k before pick.0 none)
           ∙ sym (first-given inner (ends_behind before (drop k (shuffled_counts p))) c.loop-at.invariant.first)
           ∙ c.loop-at.invariant.left;
     }

@@ -1,6 +1,6 @@
 use Rattle.std.proofs.Common.{◌≡◌, ◌++◌, ◌-◌, ◌≤◌}
 use Rattle.col_index.specs.Offsets.{run, docs_of, positions_of}
-use Rattle.col_index.proofs.multivalued_index_v2.push_run.Given as goal
+use Rattle.col_index.proofs.appending.push_run.Given as goal
 
 abbrev pub invariant-loop-position : goal.invariant-loop-position
 invariant-loop-position l = record {

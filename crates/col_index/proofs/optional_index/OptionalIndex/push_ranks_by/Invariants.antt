@@ -1,7 +1,7 @@
 use Rattle.std.proofs.Common.{◌≡◌, ◌++◌, take}
 use Rattle.col_index.specs.Sets.{held, held_ranks}
 use Rattle.col_index.specs.Places.{IsPlace}
-use Rattle.col_index.proofs.optional_index.OptionalIndex.push_ranks.Given as goal
+use Rattle.col_index.proofs.optional_index.OptionalIndex.push_ranks_by.Given as goal
 
 abbrev pub invariant-loop-doc : goal.invariant-loop-doc
 invariant-loop-doc l =

@@ -2,7 +2,7 @@ use Rattle.std.proofs.Common.{◌≡◌, ◌++◌, take}
 use Rattle.col_model.specs.Index.{offset_counts}
 use Rattle.col_index.specs.Offsets.{row_positions, docs_of, positions_of}
 use Rattle.col_index.specs.Places.{IsPlace}
-use Rattle.col_index.proofs.multivalued_index_v2.MultiValueIndexV2.push_positions.Given as goal
+use Rattle.col_index.proofs.multivalued_index_v2.MultiValueIndexV2.push_positions_by.Given as goal
 
 abbrev pub invariant-loop-doc : goal.invariant-loop-doc
 invariant-loop-doc l = record {

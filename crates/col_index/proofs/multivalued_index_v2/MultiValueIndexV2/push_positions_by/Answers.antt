@@ -8,7 +8,7 @@ use Rattle.col_index.specs.Sets.{holds}
 use Rattle.col_index.proofs.PushLemmas.{pushes-refused, visited, visited-free, visited-none}
 use Rattle.col_index.proofs.SetLemmas.{begins_later, only_if-some, only_if-none}
 use Rattle.col_index.proofs.ValueLemmas.{values-free, values-held, held-inside}
-use Rattle.col_index.proofs.multivalued_index_v2.MultiValueIndexV2.push_positions.Goals as goal
+use Rattle.col_index.proofs.multivalued_index_v2.MultiValueIndexV2.push_positions_by.Goals as goal
 
 pub loop-doc-init : goal.loop-doc-init
 loop-doc-init c = record {

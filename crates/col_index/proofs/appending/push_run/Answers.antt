@@ -1,7 +1,7 @@
 use Rattle.std.proofs.Common.{◌≡◌, ◌-◌, ◌≤◌, ◌++◌, ap, ◌∙◌, arith}
 use Rattle.col_index.specs.Offsets.{run, docs_of, positions_of}
 use Rattle.col_index.proofs.PushLemmas.{begins-same, begins-more, pushes-stopped, docs-more, positions-more}
-use Rattle.col_index.proofs.multivalued_index_v2.push_run.Goals as goal
+use Rattle.col_index.proofs.appending.push_run.Goals as goal
 
 pub returns-in_err-push-2 : goal.returns-in_err-push-2
 returns-in_err-push-2 c =

@@ -1,0 +1,42 @@
+//! Documents that are appended to one list, and positions to another.
+ghost use Rattle.std.specs.Prelude.{◌-◌, [], ◌∷◌};
+ghost use Rattle.col_index.specs.Appending.{PushesBoth};
+ghost use Rattle.col_index.specs.Offsets.{docs_of, positions_of, run};
+
+use col_common::{ColumnarError, DocId, RowId};
+
+/// Appends a document and the position of one of its values, as far as memory reaches.
+#[inline]
+pub(crate) fn push_pair(
+    docs_out: &mut Vec<DocId>,
+    rows_out: &mut Vec<RowId>,
+    doc: DocId,
+    row: RowId,
+) -> Result<(), ColumnarError>
+    ensures { PushesBoth docs_out.old.items docs_out.new.items
+        rows_out.old.items rows_out.new.items result (doc ∷ []) (row ∷ []) }
+{
+    docs_out.push(doc)?;
+    rows_out.push(row)?;
+    Ok(())
+}
+
+/// Appends a document once for each position of a range, and these, as far as memory reaches.
+#[inline]
+pub(crate) fn push_run(
+    docs_out: &mut Vec<DocId>,
+    rows_out: &mut Vec<RowId>,
+    doc: DocId,
+    start: RowId,
+    end: RowId,
+) -> Result<(), ColumnarError>
+    ensures { PushesBoth docs_out.old.items docs_out.new.items
+        rows_out.old.items rows_out.new.items result
+        (docs_of (run doc start (end - start))) (positions_of (run doc start (end - start))) }
+{
+    for position in start..end {
+        docs_out.push(doc)?;
+        rows_out.push(position)?;
+    }
+    Ok(())
+}
