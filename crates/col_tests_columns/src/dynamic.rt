@@ -1,7 +1,7 @@
 //! Columns of any type, by examples.
 
-use col_dynamic::{Column, DynamicColumn, NumColumn, NumericalType};
 use col_common::{ColumnarError, DocId};
+use col_dynamic::{Column, DynamicColumn, NumColumn, NumericalType};
 use col_index::ColumnIndex;
 use col_numbers::{ALL_U64_CODEC_TYPES, serialize_and_load_u64_based_column_values};
 use std::alloc::Global;

@@ -1,10 +1,10 @@
 //! Columns that are opened by their type, of bytes that were worked out by hand from the format's
 //! page.
-use col_open::{LenientColumn, open_column, open_column_u64_lenient, space_usage_of};
 use bytes::Bytes;
 use col_common::{ColumnarError, RowId};
 use col_dynamic::{ColumnSpaceUsage, ColumnType, DynamicColumn};
 use col_index::{Cardinality, Version};
+use col_open::{LenientColumn, open_column, open_column_u64_lenient, space_usage_of};
 use std::alloc::Global;
 use std::test::Fail;
 

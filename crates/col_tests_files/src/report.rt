@@ -1,9 +1,9 @@
 //! Reports, by examples: a file whose bytes and reports were worked out by hand.
-use col_report::write_report;
 use bytes::Bytes;
 use col_common::{ColumnarError, DateTime, Ipv6Addr, MemHandle};
 use col_file::ColumnarReader;
 use col_find::{Ends, Find};
+use col_report::write_report;
 use std::alloc::{AllocError, Global};
 use std::test::Fail;
 

@@ -1,7 +1,7 @@
 //! Row orders by examples.
 
-use col_order::{MergeRowOrder, ShuffleMergeOrder, StackMergeOrder, orders_are_picks};
 use col_common::{ColumnarError, RowAddr, RowId};
+use col_order::{MergeRowOrder, ShuffleMergeOrder, StackMergeOrder, orders_are_picks};
 use std::alloc::Global;
 use std::process::Abort;
 use std::test::Fail;

@@ -5,13 +5,13 @@ ghost use Rattle.col_order.specs.RowOrders.{order_of};
 ghost use Rattle.col_value_merge.specs.Merges.{IsMerge};
 ghost use Rattle.col_join.specs.Joins.{number_merge, address_merge};
 
-use col_join::{
-    join_addresses, join_numbers, join_texts, merged_content_is_joined, picked_content_is_joined,
-};
 use bytes::Bytes;
 use col_column::{IpColumn, IpValues, open_column_u128};
 use col_common::{Buffer, ColumnarError, RowAddr};
 use col_index::{ColumnIndex, MultiValueIndex, Version};
+use col_join::{
+    join_addresses, join_numbers, join_texts, merged_content_is_joined, picked_content_is_joined,
+};
 use col_numbers::{NumValues, load_u64_based_column_values};
 use col_order::{MergeRowOrder, ShuffleMergeOrder, StackMergeOrder};
 use col_text::{BytesColumn, open_column_bytes};

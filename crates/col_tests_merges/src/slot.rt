@@ -4,7 +4,6 @@ ghost use Rattle.col_order.specs.Orders.{counts_of};
 ghost use Rattle.col_order.specs.RowOrders.{order_of};
 ghost use Rattle.col_slot.specs.Segments.{HaveRows};
 
-use col_slot::{join_slot, segment_addresses, segment_numbers, slot_type};
 use bytes::Bytes;
 use col_common::{Buffer, ColumnarError, RowAddr, RowId};
 use col_dynamic::{
@@ -14,6 +13,7 @@ use col_dynamic::{
 use col_index::{ColumnIndex, Version};
 use col_numbers::{ALL_U64_CODEC_TYPES, NumValues, serialize_and_load_u64_based_column_values};
 use col_order::{MergeRowOrder, ShuffleMergeOrder, StackMergeOrder};
+use col_slot::{join_slot, segment_addresses, segment_numbers, slot_type};
 use col_values::ColumnValues;
 use std::alloc::Global;
 use std::process::Abort;

@@ -1,12 +1,12 @@
 //! Merged terms by examples. The bytes of dictionaries are spelled by the format's page.
 ghost use Rattle.std.specs.Prelude.{◌<◌, ◌^◌, length, IfOk};
 
-use col_term_merge::{TermMerger, TermsWithSegmentOrd, compute_merged_term_ord_mapping};
 use bytes::Bytes;
 use col_column::serialize_column_mappable_to_u64;
 use col_common::{ColumnarError, VecSink, serialize_bytes};
 use col_index::Version;
 use col_indexer::SerializableColumnIndex;
+use col_term_merge::{TermMerger, TermsWithSegmentOrd, compute_merged_term_ord_mapping};
 use col_terms::{Dictionary, Streamer};
 use col_text::{BytesColumn, open_column_bytes};
 use std::alloc::Global;

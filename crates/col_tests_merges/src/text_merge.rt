@@ -9,13 +9,13 @@ ghost use Rattle.col_indexer.specs.Merged.{IsMerged};
 ghost use Rattle.col_indexer.specs.Spelling.{full_index};
 ghost use Rattle.col_column.specs.Columns.{docs_in};
 
-use col_text_merge::merge_bytes_or_str_column;
 use bytes::Bytes;
 use col_common::{ColumnarError, RowAddr, RowId, VecSink};
 use col_index::{ColumnIndex, Version};
 use col_indexer::SerializableColumnIndex;
 use col_order::{MergeRowOrder, ShuffleMergeOrder, StackMergeOrder};
 use col_text::{BytesColumn, open_column_bytes};
+use col_text_merge::merge_bytes_or_str_column;
 use col_values::ColumnValues;
 use std::alloc::Global;
 use std::process::Abort;

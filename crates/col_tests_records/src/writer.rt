@@ -2,9 +2,9 @@
 
 mod files;
 
-use col_writer::ColumnarWriter;
 use col_common::{ColumnarError, DateTime, DocId, Ipv6Addr};
 use col_types::{ColumnType, NumericalValue};
+use col_writer::ColumnarWriter;
 use std::alloc::Global;
 use std::process::Abort;
 use std::test::Fail;

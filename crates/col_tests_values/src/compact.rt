@@ -1,9 +1,9 @@
 //! Worked rows.
+use col_common::Buffer;
 use col_compact::{
     BlankRange, CompactHit, CompactSpace, CompactSpaceCompressor, get_compact_space,
     serialize_column_values_u128,
 };
-use col_common::Buffer;
 use std::alloc::Global;
 use std::collections::BTreeSet;
 use std::process::Abort;

@@ -1,9 +1,9 @@
 //! Dictionaries by examples. The bytes of hello, happy and tax are those that the format's page
 //! works out.
 
-use col_terms::{Dictionary, DictionaryBuilder, OrderedId, Streamer, TermOrdHit, UnorderedId};
 use bytes::Bytes;
 use col_common::{ColumnarError, VecSink};
+use col_terms::{Dictionary, DictionaryBuilder, OrderedId, Streamer, TermOrdHit, UnorderedId};
 use std::process::Abort;
 use std::test::Fail;
 

@@ -1,10 +1,10 @@
 //! Types and single values by examples.
 
+use col_common::{ByteCount, DateTime, Ipv6Addr};
 use col_types::{
     Coerce, ColumnSpaceUsage, ColumnType, HasAssociatedColumnType, NumericalType, NumericalValue,
     StoredAsU64, StoredAsU128,
 };
-use col_common::{ByteCount, DateTime, Ipv6Addr};
 use std::process::Abort;
 use std::test::Fail;
 

@@ -1,6 +1,6 @@
 //! Columns of bytes that were worked out by hand from the format's page.
-use col_column::{Column, open_column_u64, open_column_u128, open_column_u128_as_compact_u64};
 use bytes::Bytes;
+use col_column::{Column, open_column_u64, open_column_u128, open_column_u128_as_compact_u64};
 use col_common::{ColumnarError, Ipv6Addr, RowId};
 use col_index::Version;
 use col_types::StoredAsU64;

@@ -1,12 +1,12 @@
 //! Columns of terms: their bytes, lookups and terms.
 
-use col_text::{BytesColumn, StrColumn, open_column_bytes, open_column_str};
 use bytes::Bytes;
 use col_column::serialize_column_mappable_to_u64;
 use col_common::{ColumnarError, VecSink, serialize_bytes};
 use col_index::Version;
 use col_indexer::SerializableColumnIndex;
 use col_terms::DictionaryBuilder;
+use col_text::{BytesColumn, StrColumn, open_column_bytes, open_column_str};
 use std::alloc::Global;
 use std::process::Abort;
 use std::test::Fail;

@@ -1,8 +1,8 @@
 //! Files of bytes that were worked out by hand from the format's page.
-use col_file::{ColumnarReader, DynamicColumnHandle};
 use bytes::Bytes;
 use col_common::{ColumnarError, FileHandle, MemHandle, RowId};
 use col_dynamic::ColumnType;
+use col_file::{ColumnarReader, DynamicColumnHandle};
 use std::alloc::Global;
 use std::test::Fail;
 

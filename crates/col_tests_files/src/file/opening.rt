@@ -1,8 +1,8 @@
 //! Columns that are opened by their handles.
 use crate::file::files::{TEN_AND_TWENTY, THREE_WITHOUT, opened};
-use col_file::{ColumnarReader, DynamicColumnHandle};
 use col_common::{ColumnarError, MemHandle};
 use col_dynamic::{Column, ColumnSpaceUsage, NumColumn};
+use col_file::{ColumnarReader, DynamicColumnHandle};
 use col_open::LenientColumn;
 use col_values::ColumnValues;
 use std::alloc::Global;

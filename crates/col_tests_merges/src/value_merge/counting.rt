@@ -3,11 +3,11 @@ ghost use Rattle.std.specs.Prelude.{◌≡◌, [], ◌∷◌};
 ghost use Rattle.col_order.specs.Orders.{counts_of};
 ghost use Rattle.col_order.specs.RowOrders.{order_of};
 
-use col_value_merge::MergedColumnValues;
 use crate::value_merge::values::addresses;
 use col_common::Iterable;
 use col_index::ColumnIndex;
 use col_order::{MergeRowOrder, ShuffleMergeOrder, StackMergeOrder};
+use col_value_merge::MergedColumnValues;
 use col_values::{ColumnValues, VecColumn};
 use std::alloc::Global;
 use std::cell::Cell;

@@ -2,13 +2,13 @@
 ghost use Rattle.col_numbers.specs.NumValues.{num_values_of};
 ghost use Rattle.col_value_merge.specs.Merges.{IsColumn};
 
-use col_value_merge::RemappedTermOrdinalsValues;
 use crate::value_merge::values::assert_items;
 use bytes::Bytes;
 use col_common::RowId;
 use col_index::{ColumnIndex, Version};
 use col_order::{MergeRowOrder, StackMergeOrder};
 use col_text::{BytesColumn, open_column_bytes};
+use col_value_merge::RemappedTermOrdinalsValues;
 use col_values::ColumnValues;
 use std::alloc::Global;
 use std::process::Abort;

@@ -6,10 +6,10 @@ ghost use Rattle.col_order.specs.Orders.{address_of, counts_of};
 ghost use Rattle.col_order.specs.RowOrders.{order_of};
 ghost use Rattle.col_value_merge.specs.Merges.{IsMerge, columns_by, merge_of};
 
-use col_value_merge::MergedColumnValues;
 use col_common::{ColumnarError, Iterable, RowAddr, RowId};
 use col_index::{ColumnIndex, MultiValueIndex, OptionalIndex};
 use col_order::{MergeRowOrder, ShuffleMergeOrder, StackMergeOrder};
+use col_value_merge::MergedColumnValues;
 use col_values::{ColumnValues, VecColumn};
 use std::alloc::Global;
 use std::process::Abort;

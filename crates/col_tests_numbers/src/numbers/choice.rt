@@ -1,12 +1,12 @@
 //! The codec that is chosen, and lists of several types that are written and read back.
 
+use bytes::Bytes;
+use col_common::{ColumnarError, VecSink};
 use col_numbers::{
     ALL_U64_CODEC_TYPES, CodecType, NumValues, codecs_compare_as_their_codes,
     load_u64_based_column_values, serialize_and_load_u64_based_column_values,
     serialize_u64_based_column_values,
 };
-use bytes::Bytes;
-use col_common::{ColumnarError, VecSink};
 use col_values::ColumnValues;
 use std::alloc::Global;
 use std::process::Abort;

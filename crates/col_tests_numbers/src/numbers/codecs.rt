@@ -1,12 +1,12 @@
 //! Lists under each codec, written and read, by bytes that are worked out by hand.
 
 use super::lists::{random_looking, stepped};
+use bytes::Bytes;
+use col_common::{ColumnarError, VecSink};
 use col_numbers::{
     ALL_U64_CODEC_TYPES, CodecType, U64Values, load_u64_values, serialize_and_load_u64_values,
     serialize_estimated_values,
 };
-use bytes::Bytes;
-use col_common::{ColumnarError, VecSink};
 use col_values::ColumnValues;
 use std::alloc::Global;
 use std::process::Abort;

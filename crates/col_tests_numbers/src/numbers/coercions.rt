@@ -1,10 +1,10 @@
 //! Values of one numerical type seen as the other, by examples.
 
+use col_common::ColumnarError;
 use col_numbers::{
     ALL_U64_CODEC_TYPES, MapI64ToU64, MapToOtherHalf, MapU64ToI64, NumValues, coerce_to_i64,
     coerce_to_u64, serialize_and_load_u64_based_column_values,
 };
-use col_common::ColumnarError;
 use col_values::{
     ColumnValues, StrictlyMonotonicFn, StrictlyMonotonicMappingToInternal, monotonic_map_column,
 };

@@ -1,8 +1,8 @@
 //! Statistics whose parts and bytes are worked out by hand.
 
-use col_numbers::collect_stats;
 use col_codecs::{ColumnStats, compute_gcd};
 use col_common::VecSink;
+use col_numbers::collect_stats;
 use std::test::Fail;
 
 #[test]

@@ -1,7 +1,7 @@
 //! Files of what was recorded, whose bytes were worked out by hand from the format's page.
 
-use col_entry::{EntryColumn, NamedColumn, serialize_table};
 use col_common::{ColumnarError, Ipv6Addr, RowId, VecSink};
+use col_entry::{EntryColumn, NamedColumn, serialize_table};
 use col_record::{NumericalColumnWriter, PlainColumnWriter, StrOrBytesColumnWriter};
 use col_types::NumericalValue;
 use std::alloc::Global;

@@ -1,7 +1,7 @@
 //! Footers, key tables and categories.
-use col_keys::{ColumnTypeCategory, footer, parse_footer, parse_key_table, read_footer, take_all};
 use col_common::ColumnarError;
 use col_index::Version;
+use col_keys::{ColumnTypeCategory, footer, parse_footer, parse_key_table, read_footer, take_all};
 use col_types::ColumnType;
 use std::process::Abort;
 use std::test::Fail;

@@ -2,8 +2,8 @@
 ghost use Rattle.col_keys.specs.Put.{Puts};
 ghost use Rattle.col_keys.specs.KeyTables.{key_at};
 
-use col_keys::ColumnarSerializer;
 use col_common::{ColumnarError, Sink, VecSink, serialize_bytes};
+use col_keys::ColumnarSerializer;
 use col_types::ColumnType;
 use std::process::Abort;
 use std::test::Fail;

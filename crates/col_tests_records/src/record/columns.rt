@@ -1,8 +1,8 @@
 //! Values, types and cardinalities of single columns.
 
-use col_record::{ColumnOperation, ColumnWriter, CompatibleNumericalTypes, NumericalColumnWriter};
 use col_common::ColumnarError;
 use col_index::Cardinality;
+use col_record::{ColumnOperation, ColumnWriter, CompatibleNumericalTypes, NumericalColumnWriter};
 use col_types::{NumericalType, NumericalValue};
 use std::alloc::Global;
 use std::process::Abort;

@@ -1,7 +1,7 @@
 //! Documents in the order of their first values.
 
-use col_record::NumericalColumnWriter;
 use col_common::ColumnarError;
+use col_record::NumericalColumnWriter;
 use col_types::NumericalValue;
 use std::alloc::Global;
 use std::test::Fail;

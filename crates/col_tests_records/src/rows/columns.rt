@@ -1,11 +1,11 @@
 //! Columns by their bytes, which were worked out by hand from the format's page.
 ghost use Rattle.std.specs.Prelude.{◌≡◌, [], ◌∷◌, length, IfOk};
 
+use col_common::{ColumnarError, VecSink};
 use col_rows::{
     DocList, RowOrder, is_dictionary_too_long, is_past_ties, need_too_many_codes,
     serialize_address_column, serialize_number_column, serialize_text_column, serialize_tie_column,
 };
-use col_common::{ColumnarError, VecSink};
 use col_terms::DictionaryBuilder;
 use std::alloc::{AllocError, Global};
 use std::process::Abort;

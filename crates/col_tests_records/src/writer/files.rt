@@ -1,8 +1,8 @@
 //! Files of what was recorded, whose bytes were worked out by hand from the format's page.
 
-use col_writer::ColumnarWriter;
 use col_common::{ColumnarError, DocId, RowId, VecSink};
 use col_types::{ColumnType, NumericalValue};
+use col_writer::ColumnarWriter;
 use std::alloc::Global;
 use std::process::Abort;
 use std::test::Fail;

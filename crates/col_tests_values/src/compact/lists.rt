@@ -1,10 +1,10 @@
 //! Lists of addresses that are read.
+use bytes::Bytes;
+use col_common::{ColumnarError, RowId};
 use col_compact::{
     CompactHit, CompactSpace, CompactSpaceDecompressor, CompactSpaceU64Accessor, IPCodecParams,
     U128FastFieldCodecType, U128Header, open_u128_as_compact_u64, open_u128_mapped,
 };
-use bytes::Bytes;
-use col_common::{ColumnarError, RowId};
 use col_values::ColumnValues;
 use std::alloc::Global;
 use std::process::Abort;

@@ -1,8 +1,8 @@
 //! A list that counts how it is asked.
 ghost use Rattle.std.specs.Prelude.{◌≡◌};
 
-use col_values::{ColumnValues, VecColumn};
 use col_common::{ColumnarError, RowId};
+use col_values::{ColumnValues, VecColumn};
 use std::cell::Cell;
 use std::ops::Range;
 

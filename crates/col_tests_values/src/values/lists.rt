@@ -2,8 +2,8 @@
 
 use crate::values::counting::Counting;
 use crate::values::doubling::Doubling;
-use col_values::{ColumnValues, EmptyColumnValues, VecColumn, count_items, monotonic_map_column};
 use col_common::Iterable;
+use col_values::{ColumnValues, EmptyColumnValues, VecColumn, count_items, monotonic_map_column};
 use std::cell::Cell;
 use std::test::Fail;
 

@@ -1,6 +1,7 @@
 //! Numbers of values and maps, by examples.
 
 use crate::values::doubling::Doubling;
+use col_common::{DateTime, Ipv6Addr};
 use col_values::{
     MonotonicallyMappableToU64, MonotonicallyMappableToU128, StrictlyMonotonicFn,
     StrictlyMonotonicMappingInverter, StrictlyMonotonicMappingToInternal, images_are_told,
@@ -8,7 +9,6 @@ use col_values::{
     numbers_of_64_bits_increase, numbers_of_128_bits_are_images, numbers_of_128_bits_are_read_back,
     numbers_of_128_bits_increase,
 };
-use col_common::{DateTime, Ipv6Addr};
 
 #[test]
 fn values_are_told_as_numbers_in_their_order(rt: HostRuntime) {
