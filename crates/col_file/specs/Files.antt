@@ -4,19 +4,25 @@ use Rattle.col_common.specs.Causes.{Rose}
 use Rattle.col_common.specs.declared.error.ColumnarError.{ColumnarError}
 use Rattle.col_common.specs.declared.error.ColumnarError.TheVariants.{OutOfMemory, ReadFault, InvalidData}
 
--- what contracts see of a file: its bytes, where it tells them, their number, and how often it has
--- failed and has been read
+-- what contracts see of a file: its bytes, where it tells them, their number, how often it has
+-- failed and has been read, and its mark
 pub record SeenFile : Type 0 where
   pub told : Option (List ℕ)
   pub size : ℕ
   pub faults : ℕ
   pub reads : ℕ
+  pub mark : ℕ
 
 -- a file by what a trait tells of it
-abbrev pub seen_by : {F : Type 0} → (F → Option (List ℕ)) → (F → ℕ) → (F → ℕ) → (F → ℕ) → F →
-    SeenFile
-seen_by content size faults reads f =
-    record { told = content f; size = size f; faults = faults f; reads = reads f }
+abbrev pub seen_by : {F : Type 0} → (F → Option (List ℕ)) → (F → ℕ) → (F → ℕ) → (F → ℕ) →
+    (F → ℕ) → F → SeenFile
+seen_by content size faults reads mark f = record {
+  told = content f;
+  size = size f;
+  faults = faults f;
+  reads = reads f;
+  mark = mark f;
+}
 
 -- A file was read at most so often, and stays as it was but for its counts.
 pub record ReadsFile (times : ℕ) (old new : SeenFile) : Type 0 where
@@ -24,6 +30,7 @@ pub record ReadsFile (times : ℕ) (old new : SeenFile) : Type 0 where
   pub size : new.size ≡ old.size
   pub later : old.faults ≤ new.faults
   pub reads : new.reads ≤ old.reads + times
+  pub mark : new.mark ≡ old.mark
 
 -- what was made is of the value that is expected
 abbrev pub IsExpected : {T V : Type 0} → (V → T → Type 0) → T → Option V → Type 0

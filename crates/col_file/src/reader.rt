@@ -35,12 +35,12 @@ impl<F: FileHandle> Model for ColumnarReader<F> {
     ghost Value = { SeenReader };
 
     ghost view = { λ r. record {
-      file = seen_by F.content F.size F.faults F.reads r.file;
+      file = seen_by F.content F.size F.faults F.reads F.mark r.file;
       keys = r.keys;
     } };
 
     ghost invariant = { λ r. IsRead (record {
-      file = seen_by F.content F.size F.faults F.reads r.file;
+      file = seen_by F.content F.size F.faults F.reads F.mark r.file;
       keys = r.keys;
     }) };
 }
@@ -49,8 +49,8 @@ impl<F: FileHandle> ColumnarReader<F> {
     /// Opens a file, in at most two reads of it. It answers InvalidData exactly where the file
     /// doesn't end as the format says; a refusal hands the file back.
     pub fn open(alloc: Global, file: F) -> Result<ColumnarReader<F>, (F, ColumnarError)>
-        ensures { Opens (seen_by F.content F.size F.faults F.reads)
-            (seen_by F.content F.size F.faults F.reads file) result }
+        ensures { Opens (seen_by F.content F.size F.faults F.reads F.mark)
+            (seen_by F.content F.size F.faults F.reads F.mark file) result }
     {
         let mut file = file;
         match read_keys(alloc, &mut file) {
@@ -61,7 +61,7 @@ impl<F: FileHandle> ColumnarReader<F> {
 
     /// The file.
     pub fn into_file(self) -> F
-        ensures { seen_by F.content F.size F.faults F.reads result ≡ self.file }
+        ensures { seen_by F.content F.size F.faults F.reads F.mark result ≡ self.file }
     {
         let ColumnarReader { file, keys } = self;
         drop(keys);

@@ -21,11 +21,11 @@ pub(crate) fn read_keys<F: FileHandle>(
     file: &mut F,
 ) -> Result<ColumnarKeys, ColumnarError>
     ensures answer { Answers (λ expected k. k ≡ expected)
-        (seen_by F.content F.size F.faults F.reads file.old)
-        (seen_by F.content F.size F.faults F.reads file.new) result keys }
+        (seen_by F.content F.size F.faults F.reads F.mark file.old)
+        (seen_by F.content F.size F.faults F.reads F.mark file.new) result keys }
     ensures within { IfOk result (λ k. AllByRecursion (IsWithin (F.size file.old)) k.entries) }
-    ensures file { ReadsFile 2 (seen_by F.content F.size F.faults F.reads file.old)
-        (seen_by F.content F.size F.faults F.reads file.new) }
+    ensures file { ReadsFile 2 (seen_by F.content F.size F.faults F.reads F.mark file.old)
+        (seen_by F.content F.size F.faults F.reads F.mark file.new) }
 {
     let len = file.len();
     if len < FOOTER_NUM_BYTES {
@@ -56,8 +56,8 @@ pub(crate) fn read_part<F: FileHandle>(
     ensures bytes { IfOk result (λ part.
         IfSome (F.content file.old) (λ bytes. part ≡ slice_range bytes start «end»)) }
     ensures cause { HasReadCause (F.faults file.old) (F.faults file.new) result }
-    ensures file { ReadsFile 1 (seen_by F.content F.size F.faults F.reads file.old)
-        (seen_by F.content F.size F.faults F.reads file.new) }
+    ensures file { ReadsFile 1 (seen_by F.content F.size F.faults F.reads F.mark file.old)
+        (seen_by F.content F.size F.faults F.reads F.mark file.new) }
 {
     match file.read(alloc, start, end) {
         Ok(part) => Ok(part),

@@ -26,7 +26,7 @@ a_file bytes k some = rw some refl
 
 -- what a file in memory tells
 abbrev pub seen_handle : Scheduled → SeenFile
-seen_handle m = record { told = Some m.bytes; size = length m.bytes; faults = m.calls.failed; reads = m.calls.made }
+seen_handle m = record { told = Some m.bytes; size = length m.bytes; faults = m.calls.failed; reads = m.calls.made; mark = 0 }
 
 -- bytes in memory that are opened
 pub opened : (bytes : List ℕ) (old : SeenFile) (r : SeenReader) → IfSome old.told (λ b. keys b ≡ Some r.keys) → r.file.told ≡ old.told → old.told ≡ Some bytes → (r.file.told ≡ Some bytes) × (is_no_file bytes ≡ false)

@@ -13,10 +13,10 @@ use Rattle.col_merge.specs.Readings.{Stays, AllStay, SomeRose}
 use Rattle.col_slots.specs.Slots.{keys_read, counts_read}
 
 pub stays-itself : (r : SeenReader) → Stays r r
-stays-itself r = record { told = refl; size = refl; later = omega arith; keys = refl }
+stays-itself r = record { told = refl; size = refl; later = omega arith; keys = refl; mark = refl }
 
 pub stays-then : (a b c : SeenReader) → Stays a b → Stays b c → Stays a c
-stays-then a b c h k = record { told = k.told ∙ h.told; size = k.size ∙ h.size; later = omega (arith, h.later, k.later); keys = k.keys ∙ h.keys }
+stays-then a b c h k = record { told = k.told ∙ h.told; size = k.size ∙ h.size; later = omega (arith, h.later, k.later); keys = k.keys ∙ h.keys; mark = k.mark ∙ h.mark }
 
 pub all_stay-none : (rs : List SeenReader) → AllStay rs rs
 all_stay-none [] = tt

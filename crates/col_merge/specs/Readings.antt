@@ -10,6 +10,7 @@ pub record Stays (old new : SeenReader) : Type 0 where
   pub size : new.file.size ≡ old.file.size
   pub later : old.file.faults ≤ new.file.faults
   pub keys : new.keys ≡ old.keys
+  pub mark : new.file.mark ≡ old.file.mark
 
 -- the same of all readers
 abbrev pub AllStay : List SeenReader → List SeenReader → Type 0

@@ -31,7 +31,7 @@ returns-then-rest_len-footer-clause-answer g c =
 pub returns-clause-answer : goal.returns-clause-answer
 returns-clause-answer g c =
     let content = g.F.FileHandle.content in
-    let seen = seen_by content g.F.FileHandle.size g.F.FileHandle.faults g.F.FileHandle.reads in
+    let seen = seen_by content g.F.FileHandle.size g.F.FileHandle.faults g.F.FileHandle.reads g.F.FileHandle.mark in
     let file = c.args.file.now in
     let len = c.len-len.result in
     let footer = c.in_ok-footer.footer in
