@@ -14,4 +14,4 @@ mod reading;
 
 pub use column_iter::ColumnIter;
 pub use dynamic_column_handle::DynamicColumnHandle;
-pub use reader::ColumnarReader;
+pub use reader::{ColumnarReader, files_are_read};

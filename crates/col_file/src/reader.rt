@@ -1,5 +1,6 @@
 //! Open files.
 ghost use Rattle.std.specs.Prelude.{◌≡◌, false, length, map, option_and_then, slice_get, string_bytes, Err, IfOk, IfErr};
+ghost use Rattle.std.specs.List.{AllByRecursion};
 ghost use Rattle.col_index.specs.Versions.{version_number};
 ghost use Rattle.col_file.specs.Columns.{bytes_at};
 ghost use Rattle.col_file.specs.Files.{seen_by, Answers};
@@ -179,5 +180,14 @@ impl<F: FileHandle> fmt::Debug for ColumnarReader<F> {
             .field("num_rows", &self.num_docs())
             .field("num_cols", &self.num_columns())
             .finish()
+    }
+}
+
+/// Each file ends as its reader says.
+pub fn files_are_read<F: FileHandle>(columnar_readers: &[ColumnarReader<F>])
+    ensures { AllByRecursion IsRead columnar_readers.now }
+{
+    for reader in columnar_readers {
+        reader.tell();
     }
 }

@@ -48,7 +48,3 @@ made-all R view f xs i v have whole = record {
   ok = (have.values, ap (each_ok f) (sym (take_all i xs whole)) ∙ have.are, have.all);
   refused = tt;
 }
-
--- want of memory is free
-pub makes-memory : {A B : Type 0} (IsOf : A → B → Type 0) (expected : Result A Refusal) (e : ColumnarError) → e ≡ OutOfMemory → Makes IsOf (Err e) expected
-makes-memory IsOf expected e memory = record { ok = tt; refused = inl memory }

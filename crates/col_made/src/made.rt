@@ -1,7 +1,5 @@
 //! The merged file of a script and its inputs, and the report on it.
 ghost use Rattle.std.specs.Prelude.{◌≡◌, map, List, Some, Err, IfOk, IfErr, IfSome, option_map};
-ghost use Rattle.std.specs.List.{AllByRecursion};
-ghost use Rattle.col_file.specs.Readers.{IsRead};
 ghost use Rattle.col_model.specs.File.{Part, StandsFor, table_of, for_each};
 ghost use Rattle.col_model.specs.Merge.{merged, row_counts};
 ghost use Rattle.col_model.specs.Outcome.{order_over, script_table};
@@ -23,6 +21,7 @@ use crate::order::merge_row_order;
 use crate::segments::segment_files;
 use bytes::Bytes;
 use col_common::{Buffer, ColumnarError, FileHandle, RowAddr};
+use col_file::files_are_read;
 use col_find::Find;
 use col_merge::merge_columnar;
 use col_order::MergeRowOrder;
@@ -87,15 +86,6 @@ fn merge_readers(
     let file = merged_file(alloc, readers, required, order)?;
     let report = report_on(alloc, &file, finds, short)?;
     Ok(Made { file, report })
-}
-
-// Each file ends as its reader says.
-fn files_are_read(readers: &[Reader])
-    ensures { AllByRecursion IsRead readers.now }
-{
-    for reader in readers {
-        reader.tell();
-    }
 }
 
 // The merged file.

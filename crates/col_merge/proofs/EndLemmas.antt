@@ -19,7 +19,7 @@ use Rattle.col_model.specs.Sound.{key_of_column}
 use Rattle.col_model.specs.Spelling.{file_bytes}
 use Rattle.col_model.specs.Table.{Column, Table}
 use Rattle.col_model.specs.Version.{current_version}
-use Rattle.col_model.proofs.DistinctLaws.{rises, rises-distinct}
+use Rattle.col_model.proofs.DistinctLaws.{rises}
 use Rattle.col_model.proofs.OrderedColumns.{entries, EachIs, each-is, sorted-each}
 use Rattle.col_model.proofs.SlotLaws.{column_slot, slots_total}
 use Rattle.col_keys.specs.Put.{AreKeys, HasColumns, part_put}
@@ -27,14 +27,14 @@ use Rattle.col_order.specs.Orders.{picks_of}
 use Rattle.col_file.specs.Readers.{SeenReader, IsRead}
 use Rattle.col_merge.specs.Merges.{AddsSlots, AddsTable}
 use Rattle.col_merge.specs.Parts.{told_parts}
-use Rattle.col_merge.specs.Readings.{AllStay}
 use Rattle.col_slots.specs.Slots.{keys_read, counts_read, slots_by_keys}
 use Rattle.col_merge.specs.Turns.{RefusesMerge, ArePutAs}
 use Rattle.col_merge.proofs.JoinedLemmas.{joined-slot}
 use Rattle.col_merge.proofs.KeyLemmas.{bare, keys-of_slots}
 use Rattle.col_merge.proofs.MergedLemmas.{merged-slots, merged-table}
 use Rattle.col_merge.proofs.PartLemmas.{ArePartsOf, AreNames, parts-told, counts-told, slots-told, slots-named}
-use Rattle.col_merge.proofs.ReadingLemmas.{all_stay-none}
+use Rattle.col_merge.proofs.ReadingLemmas.{all_read-none}
+use Rattle.col_merge.proofs.SlotReadLemmas.{slots-rise}
 use Rattle.col_merge.proofs.TurnLemmas.{goes-itself, merge-refused}
 
 -- ---- the table
@@ -153,11 +153,8 @@ module _ (rs : List SeenReader) (required : List Required) (order : Order) (n : 
     parts-named : AreNames slots
     parts-named = subst AreNames (sym is.slots_are) (slots-named rs parts required parts-are is.names)
 
-    slots-rise : T (rises slot_cmp slots)
-    slots-rise = subst (λ ss. T (rises slot_cmp ss)) (sym is.slots_are) (rises-slots (keys_read rs))
-      where
-        rises-slots : (ks : List FileKeys) → T (rises slot_cmp (slots_by_keys ks required))
-        rises-slots ks = rises-distinct slot_cmp slots_total _
+    parts-rise : T (rises slot_cmp slots)
+    parts-rise = subst (λ ss. T (rises slot_cmp ss)) (sym is.slots_are) (slots-rise (keys_read rs) required)
 
     -- the file of the columns that were put
     file-added : (start end : SeenSink) (ps : List (Key × List ℕ)) (r : Result (List (Option Column)) Refusal) → each_ok (joined parts) slots ≡ r → ArePutAs n ps r → Appends start end (file_bytes n ps) → (AreKeys (map (λ p. p.0) ps) → HasColumns (file_bytes n ps) n ps) → AddsTable start end (merged parts required order)
@@ -166,7 +163,7 @@ module _ (rs : List SeenReader) (required : List Required) (order : Order) (n : 
       is = parts-merged os e;
       file = file_bytes n ps;
       added = added;
-      stands = stands-for (file_bytes n ps) n ps (filter_map (λ o. o) os) (has (are_keys-put (joined parts) (joined-slot order (picks_of order) parts required) n ps slots os parts-named slots-rise e put)) put;
+      stands = stands-for (file_bytes n ps) n ps (filter_map (λ o. o) os) (has (are_keys-put (joined parts) (joined-slot order (picks_of order) parts required) n ps slots os parts-named parts-rise e put)) put;
     }
     file-added start end ps (Err refusal) e put added has = absurd put
 
@@ -180,7 +177,7 @@ module _ (rs : List SeenReader) (required : List Required) (order : Order) (n : 
 
   -- the first slot that isn't merged
   pub table-refused : (news : List SeenReader) (start end : SeenSink) (e : ColumnarError) → RefusesMerge rs news start end e (λ parts. each_ok (joined parts) slots) → RefusesMerge rs news start end e (λ parts. merged parts required order)
-  table-refused news start end e h = merge-refused rs rs news start start end (all_stay-none rs) (goes-itself start) (λ parts. each_ok (joined parts) slots) (λ parts. merged parts required order) (λ refusal. told-each rs (λ parts t. parts-refused parts t refusal)) e h
+  table-refused news start end e h = merge-refused (λ k. 0) rs rs news start start end (all_read-none (λ k. 0) rs) (goes-itself start) (λ parts. each_ok (joined parts) slots) (λ parts. merged parts required order) (λ refusal. told-each rs (λ parts t. parts-refused parts t refusal)) e h
 
 -- the end of a file wasn't written
 pub end-refused : {A : Type 0} (olds news : List SeenReader) (start end : SeenSink) (e : ColumnarError) (bytes : List ℕ) (expected : List Part → Result A Refusal) → Serializes start end (Err e) bytes → RefusesMerge olds news start end e expected

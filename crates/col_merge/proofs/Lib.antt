@@ -1,9 +1,11 @@
 mod KeyLemmas
+mod StackLemmas
 mod JoinedLemmas
 mod EachLemmas
 mod NameLemmas
 pub mod PartLemmas
 mod ReadingLemmas
+mod SlotReadLemmas
 mod TurnLemmas
 mod MergedLemmas
 mod EndLemmas

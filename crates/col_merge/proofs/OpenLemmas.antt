@@ -1,6 +1,7 @@
 -- Columns that are opened by the handle that a reader has under a slot.
-use Rattle.std.proofs.Common.{◌≡◌, ℕ, ◌==◌, ◌&&◌, Bool, true, false, cond, List, [], ◌∷◌, ◌++◌, map, filter, find, Option, Some, None, IfSome, option_map, option_and_then, is_some, is_none, bytes_eq, Result, Ok, Err, refl, sym, ap, ap₂, ◌∙◌, subst, nat_eq}
-use Rattle.std.specs.List.{AllByRecursion}
+use Rattle.std.proofs.Common.{◌≡◌, ℕ, ◌==◌, ◌&&◌, ◌||◌, Bool, true, false, cond, List, [], ◌∷◌, ◌++◌, map, filter, find, Option, Some, None, IfSome, option_map, option_and_then, is_some, is_none, bytes_eq, Result, Ok, Err, refl, sym, ap, ap₂, ◌∙◌, subst, nat_eq}
+use Rattle.std.specs.List.{AllByRecursion, list_any}
+use Rattle.std.specs.Prelude.{if◌then◌else◌}
 use Rattle.std.specs.Cmp.{unsigned_ties}
 use Rattle.std.specs.Cmp.Lexicographic.{slice_cmp}
 use Rattle.std.specs.Ordering.{nat_cmp, is_eq, ordering_then}
@@ -23,12 +24,14 @@ use Rattle.col_dynamic.specs.declared.dynamic_column.DynamicColumn.{DynamicColum
 use Rattle.col_file.specs.Columns.{content_at, IsColumn, IsTyped}
 use Rattle.col_file.specs.Files.{IsExpected, Answers, RefusesFile, SeenFile}
 use Rattle.col_file.specs.Handles.{Handle, handle_of, is_entry, entries_named}
-use Rattle.col_file.specs.Readers.{SeenReader, IsRead}
+use Rattle.col_file.specs.Readers.{SeenReader, IsRead, Reads}
 use Rattle.col_file.proofs.PartLemmas.{own-handles, content-of_entry}
 use Rattle.col_slot.specs.JoinedSlots.{part_seen}
 use Rattle.col_merge.specs.Opened.{is_in, IsOpenedAs, is_bad, RefusesColumn}
 use Rattle.col_merge.specs.Parts.{told_part}
+use Rattle.col_merge.specs.Readings.{Stays, slot_reads}
 use Rattle.col_slots.specs.Slots.{entry_slot}
+use Rattle.col_merge.proofs.ReadingLemmas.{stays-read}
 
 -- ---- the handle of a slot
 
@@ -61,6 +64,15 @@ found-has P test (y ∷ xs) x e all = by (test y) refl e (λ e. found-has P test
     by : (b : Bool) → test y ≡ b → cond b (Some y) (find test xs) ≡ Some x → (find test xs ≡ Some x → P x × (test x ≡ true)) → P x × (test x ≡ true)
     by true t e later = let same = same-some y x e in (subst P same all.0, subst (λ z. test z ≡ true) same t)
     by false t e later = later e
+
+-- so some item passes it
+any-found : {A : Type 0} (test : A → Bool) (xs : List A) (x : A) → find test xs ≡ Some x → list_any test xs ≡ true
+any-found test [] x e = absurd (some≢none x (sym e))
+any-found test (y ∷ xs) x e = by (test y) e (any-found test xs x)
+  where
+    by : (b : Bool) → cond b (Some y) (find test xs) ≡ Some x → (find test xs ≡ Some x → list_any test xs ≡ true) → (b || list_any test xs) ≡ true
+    by true e later = refl
+    by false e later = later e
 
 -- ---- the part's column
 
@@ -155,3 +167,10 @@ module _ (s : Slot) (r : SeenReader) (read : IsRead r) where
     handle-refused new x refused =
         let of = handle-of h (find (λ e. same_slot (entry_slot e) s) r.keys.entries) q in
         opened-refused s r read of.e of.found new x (subst (λ h. RefusesFile r.file new.file x (content_at r.keys h)) (sym of.is) refused)
+
+    -- the read of a column that the reader has is counted
+    pub handle-read : (new : SeenReader) → Reads 1 r new → Stays (slot_reads s r.keys) r new
+    handle-read new reads =
+        let of = handle-of h (find (λ e. same_slot (entry_slot e) s) r.keys.entries) q in
+        let any = any-found (λ e. same_slot (entry_slot e) s) r.keys.entries of.e of.found in
+        subst (λ times. Stays times r new) (sym (ap (λ (b : Bool). if b then 1 else 0) any)) (stays-read 1 r new reads)

@@ -28,12 +28,12 @@ use Rattle.col_slot.specs.JoinedSlots.{part_seen, AreOpened, HasSlotCause, IsJoi
 use Rattle.col_slot.specs.Segments.{HaveRows}
 use Rattle.col_merge.specs.Opened.{IsOpenedAs, AllOpenedAs, is_bad, RefusesColumn, RefusesColumns}
 use Rattle.col_merge.specs.Parts.{told_part, told_parts}
-use Rattle.col_merge.specs.Readings.{Stays, AllStay, SomeRose}
+use Rattle.col_merge.specs.Readings.{SomeReaderRose}
 use Rattle.col_slots.specs.Slots.{counts_read}
 use Rattle.col_merge.specs.Turns.{refusal_of, RefusesParts, RefusesMerge}
 use Rattle.col_slots.proofs.CountLemmas.{length-counts}
 use Rattle.col_merge.proofs.PartLemmas.{some-part}
-use Rattle.col_merge.proofs.ReadingLemmas.{WasAt, was-at, rose-set, parts-stay}
+use Rattle.col_merge.proofs.ReadingLemmas.{rose-set}
 
 -- one more pair
 zip-more : {A B : Type 0} (R : A → B → Type 0) (xs : List A) (i j : ℕ) (x : A) (ys : List B) (y : B) → j ≡ suc i → slice_get xs i ≡ Some x → AllZip R (take i xs) ys → R x y → AllZip R (take j xs) (ys ++ y ∷ [])
@@ -49,34 +49,20 @@ zip-length R [] (y ∷ ys) all = absurd all
 zip-length R (x ∷ xs) [] all = absurd all
 zip-length R (x ∷ xs) (y ∷ ys) all = ap suc (zip-length R xs ys all.1)
 
-opened-before : (s : Slot) (old now : SeenReader) (o : Option DynamicColumn) → Stays old now → IsOpenedAs s now o → IsOpenedAs s old o
-opened-before s old now o stays h = record {
-  column = subst (λ p. IfSome p (λ p. column_in s p ≡ option_map (part_seen s.name) o)) (ap (λ t. t >>= parts_of) stays.told) h.column;
-  rows = rows o h.rows;
-}
-  where
-    rows : (o : Option DynamicColumn) → IfSome o (λ c. row_count (dynamic_shape c) (value_count c) ≡ now.keys.row_count) → IfSome o (λ c. row_count (dynamic_shape c) (value_count c) ≡ old.keys.row_count)
-    rows None h = tt
-    rows (Some c) h = h ∙ ap (λ k. k.row_count) stays.keys
-
 -- one more column
-pub opened-more : (s : Slot) (olds mids : List SeenReader) (at : ℕ) (now : SeenReader) (columns : List (Option DynamicColumn)) (o : Option DynamicColumn) → AllStay olds mids → slice_get mids at ≡ Some now → AllOpenedAs s (take at olds) columns → IsOpenedAs s now o → AllOpenedAs s (take (at + 1) olds) (columns ++ o ∷ [])
-opened-more s olds mids at now columns o stay is all h =
-    let w = was-at olds mids at now stay is in
-    zip-more (IsOpenedAs s) olds at (at + 1) w.old columns o (add-one at) w.was all (opened-before s w.old now o w.stays h)
+pub opened-more : (s : Slot) (olds : List SeenReader) (at : ℕ) (now : SeenReader) (columns : List (Option DynamicColumn)) (o : Option DynamicColumn) → slice_get olds at ≡ Some now → AllOpenedAs s (take at olds) columns → IsOpenedAs s now o → AllOpenedAs s (take (at + 1) olds) (columns ++ o ∷ [])
+opened-more s olds at now columns o was all h = zip-more (IsOpenedAs s) olds at (at + 1) now columns o (add-one at) was all h
 
 -- the column of a reader that wasn't opened
-pub opened-stops : (s : Slot) (olds mids : List SeenReader) (at : ℕ) (now new : SeenReader) (e : ColumnarError) → AllStay olds mids → slice_get mids at ≡ Some now → RefusesColumn s now new e → RefusesColumns s olds (set mids at new) e
-opened-stops s olds mids at now new OutOfMemory stay is h = tt
-opened-stops s olds mids at now new ReadFault stay is h = rose-set olds mids at now new stay is h
-opened-stops s olds mids at now new InvalidData stay is h = by (told_parts olds) refl
+pub opened-stops : (s : Slot) (olds mids : List SeenReader) (at : ℕ) (now new : SeenReader) (e : ColumnarError) → slice_get olds at ≡ Some now → slice_get mids at ≡ Some now → RefusesColumn s now new e → RefusesColumns s olds (set mids at new) e
+opened-stops s olds mids at now new OutOfMemory was is h = tt
+opened-stops s olds mids at now new ReadFault was is h = rose-set olds mids at now new was is h
+opened-stops s olds mids at now new InvalidData was is h = by (told_parts olds) refl
   where
     by : (o : Option (List Part)) → told_parts olds ≡ o → IfSome o (λ parts. has_bad_column s parts ≡ true)
     by None e = tt
-    by (Some parts) e =
-        let w = was-at olds mids at now stay is in
-        some-part olds parts (is_bad s) at w.old e w.was (subst (λ p. IfSome p (λ p. is_bad s p ≡ true)) (ap (λ t. t >>= parts_of) w.stays.told) h)
-opened-stops s olds mids at now new e stay is h = absurd h
+    by (Some parts) e = some-part olds parts (is_bad s) at now e was h
+opened-stops s olds mids at now new e was is h = absurd h
 
 -- ---- all columns of a slot
 
@@ -192,9 +178,3 @@ slot-refused old new e expected h (inr (inl w)) = absurd (omega (arith, h.write_
 slot-refused old new e expected h (inr (inr (inl c))) = inr (cannot_coerce, ap refusal_of c.0, c.1)
 slot-refused old new e expected h (inr (inr (inr (inl c)))) = inr (numerical_conflict, ap refusal_of c.0, c.1)
 slot-refused old new e expected h (inr (inr (inr (inr c)))) = inr (too_large, ap refusal_of c.0, c.1)
-
--- what a buffer holds is the column's bytes, where it was empty
-pub bytes-joined : (name : List ℕ) (n : ℕ) (t : types.ColumnType) (old new : List ℕ) (expected : Result (Option Column) Refusal) → old ≡ [] → AddsJoined name n (in_memory old) (in_memory new) t expected → IsJoined name n t new expected
-bytes-joined name n t old new expected e h =
-    let is : new ≡ h.bytes = same-some new h.bytes (h.added ∙ ap (λ old. Some (old ++ h.bytes)) e) in
-    subst (λ bytes. IsJoined name n t bytes expected) (sym is) h.joined

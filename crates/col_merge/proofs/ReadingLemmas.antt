@@ -1,51 +1,66 @@
 -- What reading leaves of readers, one after another.
-use Rattle.std.proofs.Common.{◌≡◌, ℕ, zero, suc, ◌+◌, ◌-◌, ◌≤◌, ◌<◌, ◌^◌, min, List, [], ◌∷◌, map, length, Option, Some, None, slice_get, refl, sym, ap, ap₂, ◌∙◌, subst, arith}
+use Rattle.std.proofs.Common.{◌≡◌, ℕ, zero, suc, ◌+◌, ◌-◌, ◌≤◌, ◌<◌, ◌^◌, min, List, [], ◌∷◌, map, length, drop, Option, Some, None, slice_get, refl, sym, ap, ap₂, ◌∙◌, subst, arith, add-one}
 use Rattle.std.specs.List.{AllZip}
 use Rattle.std.proofs.Math.ListN.{set}
 use Rattle.col_common.specs.Causes.{Rose, counted}
 use Rattle.col_model.specs.File.{Part, for_each}
+use Rattle.col_model.specs.Keys.{FileKeys}
 use Rattle.col_model.proofs.SharedTypes.{some≢none, same-some}
 use Rattle.col_common.specs.Reading.{◌>>=◌}
-use Rattle.col_file.specs.Readers.{SeenReader}
+use Rattle.col_file.specs.Readers.{SeenReader, Reads}
 use Rattle.col_model.specs.File.{parts_of}
 use Rattle.col_merge.specs.Parts.{told_part, told_parts}
-use Rattle.col_merge.specs.Readings.{Stays, AllStay, SomeRose}
+use Rattle.col_merge.specs.Readings.{Stays, AllRead, SomeReaderRose}
 use Rattle.col_slots.specs.Slots.{keys_read, counts_read}
 
-pub stays-itself : (r : SeenReader) → Stays r r
-stays-itself r = record { told = refl; size = refl; later = omega arith; keys = refl; mark = refl }
+pub stays-itself : (times : ℕ) (r : SeenReader) → Stays times r r
+stays-itself times r = record { told = refl; size = refl; later = omega arith; reads = omega arith; keys = refl; mark = refl }
 
-pub stays-then : (a b c : SeenReader) → Stays a b → Stays b c → Stays a c
-stays-then a b c h k = record { told = k.told ∙ h.told; size = k.size ∙ h.size; later = omega (arith, h.later, k.later); keys = k.keys ∙ h.keys; mark = k.mark ∙ h.mark }
+pub stays-then : (m n : ℕ) (a b c : SeenReader) → Stays m a b → Stays n b c → Stays (m + n) a c
+stays-then m n a b c h k = record { told = k.told ∙ h.told; size = k.size ∙ h.size; later = omega (arith, h.later, k.later); reads = omega (arith, h.reads, k.reads); keys = k.keys ∙ h.keys; mark = k.mark ∙ h.mark }
 
-pub all_stay-none : (rs : List SeenReader) → AllStay rs rs
-all_stay-none [] = tt
-all_stay-none (r ∷ rs) = (stays-itself r, all_stay-none rs)
+pub stays-most : (m n : ℕ) (a b : SeenReader) → m ≤ n → Stays m a b → Stays n a b
+stays-most m n a b le h = record { told = h.told; size = h.size; later = h.later; reads = omega (arith, h.reads, le); keys = h.keys; mark = h.mark }
 
-pub all_stay-then : (rs ss us : List SeenReader) → AllStay rs ss → AllStay ss us → AllStay rs us
-all_stay-then [] [] [] h k = tt
-all_stay-then [] [] (u ∷ us) h k = absurd k
-all_stay-then [] (s ∷ ss) us h k = absurd h
-all_stay-then (r ∷ rs) [] us h k = absurd h
-all_stay-then (r ∷ rs) (s ∷ ss) [] h k = absurd k
-all_stay-then (r ∷ rs) (s ∷ ss) (u ∷ us) h k = (stays-then r s u h.0 k.0, all_stay-then rs ss us h.1 k.1)
+-- a reader that was read
+pub stays-read : (times : ℕ) (a b : SeenReader) → Reads times a b → Stays times a b
+stays-read times a b h = record { told = h.file.told; size = h.file.size; later = h.file.later; reads = h.file.reads; keys = h.keys; mark = h.file.mark }
+
+pub all_read-none : (times : FileKeys → ℕ) (rs : List SeenReader) → AllRead times rs rs
+all_read-none times [] = tt
+all_read-none times (r ∷ rs) = (stays-itself (times r.keys) r, all_read-none times rs)
+
+pub all_read-then : (m n : FileKeys → ℕ) (rs ss us : List SeenReader) → AllRead m rs ss → AllRead n ss us → AllRead (λ k. m k + n k) rs us
+all_read-then m n [] [] [] h k = tt
+all_read-then m n [] [] (u ∷ us) h k = absurd k
+all_read-then m n [] (s ∷ ss) us h k = absurd h
+all_read-then m n (r ∷ rs) [] us h k = absurd h
+all_read-then m n (r ∷ rs) (s ∷ ss) [] h k = absurd k
+all_read-then m n (r ∷ rs) (s ∷ ss) (u ∷ us) h k = (stays-then (m r.keys) (n r.keys) r s u h.0 (subst (λ keys. Stays (n keys) s u) h.0.keys k.0), all_read-then m n rs ss us h.1 k.1)
+
+pub all_read-most : (m n : FileKeys → ℕ) (rs ss : List SeenReader) → ((k : FileKeys) → m k ≤ n k) → AllRead m rs ss → AllRead n rs ss
+all_read-most m n [] [] le h = tt
+all_read-most m n [] (s ∷ ss) le h = absurd h
+all_read-most m n (r ∷ rs) [] le h = absurd h
+all_read-most m n (r ∷ rs) (s ∷ ss) le h = (stays-most (m r.keys) (n r.keys) r s (le r.keys) h.0, all_read-most m n rs ss le h.1)
 
 -- ---- what they tell stays
 
-part-stays : (r s : SeenReader) → Stays r s → told_part s ≡ told_part r
-part-stays r s h = ap (λ o. o >>= parts_of) h.told
+part-stays : (times : ℕ) (r s : SeenReader) → Stays times r s → told_part s ≡ told_part r
+part-stays times r s h = ap (λ o. o >>= parts_of) h.told
 
-pub parts-stay : (rs ss : List SeenReader) → AllStay rs ss → told_parts ss ≡ told_parts rs
-parts-stay [] [] h = refl
-parts-stay [] (s ∷ ss) h = absurd h
-parts-stay (r ∷ rs) [] h = absurd h
-parts-stay (r ∷ rs) (s ∷ ss) h = ap₂ (λ o p. o >>= λ y. p >>= λ ys. Some (y ∷ ys)) (part-stays r s h.0) (parts-stay rs ss h.1)
+module _ (times : FileKeys → ℕ) where
+  pub parts-stay : (rs ss : List SeenReader) → AllRead times rs ss → told_parts ss ≡ told_parts rs
+  parts-stay [] [] h = refl
+  parts-stay [] (s ∷ ss) h = absurd h
+  parts-stay (r ∷ rs) [] h = absurd h
+  parts-stay (r ∷ rs) (s ∷ ss) h = ap₂ (λ o p. o >>= λ y. p >>= λ ys. Some (y ∷ ys)) (part-stays (times r.keys) r s h.0) (parts-stay rs ss h.1)
 
-pub counts-stay : (rs ss : List SeenReader) → AllStay rs ss → counts_read ss ≡ counts_read rs
-counts-stay [] [] h = refl
-counts-stay [] (s ∷ ss) h = absurd h
-counts-stay (r ∷ rs) [] h = absurd h
-counts-stay (r ∷ rs) (s ∷ ss) h = ap₂ (λ n ns. n ∷ ns) (ap (λ k. k.row_count) h.0.keys) (counts-stay rs ss h.1)
+  pub counts-stay : (rs ss : List SeenReader) → AllRead times rs ss → counts_read ss ≡ counts_read rs
+  counts-stay [] [] h = refl
+  counts-stay [] (s ∷ ss) h = absurd h
+  counts-stay (r ∷ rs) [] h = absurd h
+  counts-stay (r ∷ rs) (s ∷ ss) h = ap₂ (λ n ns. n ∷ ns) (ap (λ k. k.row_count) h.0.keys) (counts-stay rs ss h.1)
 
 -- ---- faults
 
@@ -54,36 +69,64 @@ pub rose-later : (a b c : ℕ) → a ≤ b → Rose b c → Rose a c
 rose-later a b c h k = omega (arith, h, k)
 
 -- the reader at a place, as it was
-pub record WasAt (rs : List SeenReader) (at : ℕ) (now : SeenReader) : Type 0 where
-  pub old : SeenReader
-  pub was : slice_get rs at ≡ Some old
-  pub stays : Stays old now
+record WasAt (rs : List SeenReader) (at : ℕ) (now : SeenReader) : Type 0 where
+  old : SeenReader
+  was : slice_get rs at ≡ Some old
+  later : old.file.faults ≤ now.file.faults
 
-pub was-at : (rs ss : List SeenReader) (at : ℕ) (s : SeenReader) → AllStay rs ss → slice_get ss at ≡ Some s → WasAt rs at s
-was-at rs [] at s h e = absurd (some≢none s (sym e))
-was-at [] (x ∷ ss) at s h e = absurd h
-was-at (r ∷ rs) (x ∷ ss) zero s h e = record { old = r; was = refl; stays = subst (Stays r) (same-some x s e) h.0 }
-was-at (r ∷ rs) (x ∷ ss) (suc at) s h e = let w = was-at rs ss at s h.1 e in record { old = w.old; was = w.was; stays = w.stays }
+was-at : (times : FileKeys → ℕ) (rs ss : List SeenReader) (at : ℕ) (s : SeenReader) → AllRead times rs ss → slice_get ss at ≡ Some s → WasAt rs at s
+was-at times rs [] at s h e = absurd (some≢none s (sym e))
+was-at times [] (x ∷ ss) at s h e = absurd h
+was-at times (r ∷ rs) (x ∷ ss) zero s h e = record { old = r; was = refl; later = subst (λ (x : SeenReader). r.file.faults ≤ x.file.faults) (same-some x s e) h.0.later }
+was-at times (r ∷ rs) (x ∷ ss) (suc at) s h e = let w = was-at times rs ss at s h.1 e in record { old = w.old; was = w.was; later = w.later }
 
-pub rose-before : (rs ss us : List SeenReader) → AllStay rs ss → SomeRose ss us → SomeRose rs us
-rose-before rs ss us h k =
-    let w = was-at rs ss k.at k.old h k.was in
-    record { at = k.at; old = w.old; new = k.new; was = w.was; is = k.is; rose = rose-later w.old.file.faults k.old.file.faults k.new.file.faults w.stays.later k.rose }
+pub rose-before : (times : FileKeys → ℕ) (rs ss us : List SeenReader) → AllRead times rs ss → SomeReaderRose ss us → SomeReaderRose rs us
+rose-before times rs ss us h k =
+    let w = was-at times rs ss k.at k.old h k.was in
+    record { at = k.at; old = w.old; new = k.new; was = w.was; is = k.is; rose = rose-later w.old.file.faults k.old.file.faults k.new.file.faults w.later k.rose }
 
 -- ---- one reader in its place
+
+-- from a place on, no reader was read so far
+abbrev pub AreLeft : ℕ → List SeenReader → List SeenReader → Type 0
+AreLeft at rs ss = drop at ss ≡ drop at rs
+
+-- the reader of the place is as it was
+pub left-at : (rs ss : List SeenReader) (at : ℕ) (s : SeenReader) → AreLeft at rs ss → slice_get ss at ≡ Some s → slice_get rs at ≡ Some s
+left-at rs ss at s h e = sym (from-drop rs at) ∙ ap (λ xs. slice_get xs 0) (sym h) ∙ from-drop ss at ∙ e
+  where
+    from-drop : (xs : List SeenReader) (at : ℕ) → slice_get (drop at xs) 0 ≡ slice_get xs at
+    from-drop [] zero = refl
+    from-drop [] (suc at) = refl
+    from-drop (x ∷ xs) zero = refl
+    from-drop (x ∷ xs) (suc at) = from-drop xs at
+
+pub left-set : (rs ss : List SeenReader) (at : ℕ) (s : SeenReader) → AreLeft at rs ss → AreLeft (at + 1) rs (set ss at s)
+left-set rs ss at s h = subst (λ n. AreLeft n rs (set ss at s)) (sym (add-one at)) (behind ss at s ∙ next ss at ∙ ap (drop 1) h ∙ sym (next rs at))
+  where
+    behind : (xs : List SeenReader) (at : ℕ) (s : SeenReader) → drop (suc at) (set xs at s) ≡ drop (suc at) xs
+    behind [] zero s = refl
+    behind [] (suc at) s = refl
+    behind (x ∷ xs) zero s = refl
+    behind (x ∷ xs) (suc at) s = behind xs at s
+
+    next : (xs : List SeenReader) (at : ℕ) → drop (suc at) xs ≡ drop 1 (drop at xs)
+    next [] zero = refl
+    next [] (suc at) = refl
+    next (x ∷ xs) zero = refl
+    next (x ∷ xs) (suc at) = next xs at
 
 get-set : (rs : List SeenReader) (at : ℕ) (r s : SeenReader) → slice_get rs at ≡ Some r → slice_get (set rs at s) at ≡ Some s
 get-set [] at r s e = absurd (some≢none r (sym e))
 get-set (x ∷ rs) zero r s e = refl
 get-set (x ∷ rs) (suc at) r s e = get-set rs at r s e
 
-pub all_stay-set : (rs ss : List SeenReader) (at : ℕ) (r s : SeenReader) → AllStay rs ss → slice_get ss at ≡ Some r → Stays r s → AllStay rs (set ss at s)
-all_stay-set rs [] at r s h e k = absurd (some≢none r (sym e))
-all_stay-set [] (y ∷ ss) at r s h e k = absurd h
-all_stay-set (x ∷ rs) (y ∷ ss) zero r s h e k = (stays-then x y s h.0 (subst (λ y. Stays y s) (sym (same-some y r e)) k), h.1)
-all_stay-set (x ∷ rs) (y ∷ ss) (suc at) r s h e k = (h.0, all_stay-set rs ss at r s h.1 e k)
+-- a reader that wasn't read before was read
+pub all_read-set : (times : FileKeys → ℕ) (rs ss : List SeenReader) (at : ℕ) (r s : SeenReader) → AllRead times rs ss → slice_get rs at ≡ Some r → Stays (times r.keys) r s → AllRead times rs (set ss at s)
+all_read-set times [] ss at r s h e k = absurd (some≢none r (sym e))
+all_read-set times (x ∷ rs) [] at r s h e k = absurd h
+all_read-set times (x ∷ rs) (y ∷ ss) zero r s h e k = (subst (λ (x : SeenReader). Stays (times x.keys) x s) (sym (same-some x r e)) k, h.1)
+all_read-set times (x ∷ rs) (y ∷ ss) (suc at) r s h e k = (h.0, all_read-set times rs ss at r s h.1 e k)
 
-pub rose-set : (rs ss : List SeenReader) (at : ℕ) (r s : SeenReader) → AllStay rs ss → slice_get ss at ≡ Some r → Rose r.file.faults s.file.faults → SomeRose rs (set ss at s)
-rose-set rs ss at r s h e k =
-    let w = was-at rs ss at r h e in
-    record { at = at; old = w.old; new = s; was = w.was; is = get-set ss at r s e; rose = rose-later w.old.file.faults r.file.faults s.file.faults w.stays.later k }
+pub rose-set : (rs ss : List SeenReader) (at : ℕ) (r s : SeenReader) → slice_get rs at ≡ Some r → slice_get ss at ≡ Some r → Rose r.file.faults s.file.faults → SomeReaderRose rs (set ss at s)
+rose-set rs ss at r s e f k = record { at = at; old = r; new = s; was = e; is = get-set ss at r s f; rose = k }

@@ -7,14 +7,14 @@ use Rattle.col_common.specs.declared.error.ColumnarError.{ColumnarError}
 use Rattle.col_common.specs.declared.error.ColumnarError.TheVariants.{OutOfMemory, ReadFault, WriteFault, InvalidData, BadOrder, BadName, RequiredConflict, CannotCoerce, NumericalConflict, TooLarge, NoCodec, ForcedType, DocOrder, DocOutOfRange, TieBreakerStart, NotUtf8}
 use Rattle.col_model.specs.Category.{Slot}
 use Rattle.col_model.specs.File.{Part, part_of_column}
-use Rattle.col_model.specs.Keys.{Key}
+use Rattle.col_model.specs.Keys.{Key, FileKeys}
 use Rattle.col_model.specs.Refusal.{Refusal, ◌>>=◌, each_ok}
 use Rattle.col_model.specs.Table.{Column}
 use Rattle.col_keys.specs.Put.{Columns, no_columns, Puts, HavePut, part_put}
 use Rattle.col_keys.proofs.PutLemmas.{have-none, have-more}
 use Rattle.col_file.specs.Readers.{SeenReader}
 use Rattle.col_merge.specs.Parts.{told_parts}
-use Rattle.col_merge.specs.Readings.{AllStay, SomeRose}
+use Rattle.col_merge.specs.Readings.{AllRead, SomeReaderRose}
 use Rattle.col_merge.specs.Turns.{refusal_of, RefusesParts, RefusesMerge, GoesOn, PutsOne, IsPutAs, MergedOne, MergesOne, ArePutAs, MergedSoFar, MergesSlots}
 use Rattle.col_merge.proofs.EachLemmas.{each-more, each-stops}
 use Rattle.col_merge.proofs.ReadingLemmas.{rose-before, parts-stay, rose-later}
@@ -49,18 +49,18 @@ goes-then a b c h k = record { grown = (h.grown.0 ++ k.grown.0, k.grown.1 ∙ ap
 -- ---- refusals
 
 -- the answer stands for a refusal, and no fault of the outside
-module _ {A B : Type 0} (olds mids news : List SeenReader) (start a b : SeenSink) (stay : AllStay olds mids) (went : GoesOn start a) (expected : List Part → Result A Refusal) (whole : List Part → Result B Refusal) (stops : (refusal : Refusal) → IfSome (told_parts olds) (λ parts. expected parts ≡ Err refusal → whole parts ≡ Err refusal)) where
+module _ {A B : Type 0} (times : FileKeys → ℕ) (olds mids news : List SeenReader) (start a b : SeenSink) (stay : AllRead times olds mids) (went : GoesOn start a) (expected : List Part → Result A Refusal) (whole : List Part → Result B Refusal) (stops : (refusal : Refusal) → IfSome (told_parts olds) (λ parts. expected parts ≡ Err refusal → whole parts ≡ Err refusal)) where
   parts-refused : (e : ColumnarError) → RefusesParts mids e expected → RefusesParts olds e whole
   parts-refused e h = record {
     refusal = h.refusal;
     is = h.is;
-    told = told-both (told_parts olds) (subst (λ o. IfSome o (λ parts. expected parts ≡ Err h.refusal)) (parts-stay olds mids stay) h.told) (stops h.refusal) (λ parts p q. q p);
+    told = told-both (told_parts olds) (subst (λ o. IfSome o (λ parts. expected parts ≡ Err h.refusal)) (parts-stay times olds mids stay) h.told) (stops h.refusal) (λ parts p q. q p);
   }
 
   -- a refusal of a step is one of the whole
   pub merge-refused : (e : ColumnarError) → RefusesMerge mids news a b e expected → RefusesMerge olds news start b e whole
   merge-refused OutOfMemory h = tt
-  merge-refused ReadFault h = rose-before olds mids news stay h
+  merge-refused ReadFault h = rose-before times olds mids news stay h
   merge-refused WriteFault h = rose-later start.faults a.faults b.faults went.later h
   merge-refused InvalidData h = parts-refused InvalidData h
   merge-refused BadOrder h = parts-refused BadOrder h
@@ -110,16 +110,16 @@ slots-none rs start n expected = record { ps = []; put = have-none start; told =
     all None = tt
     all (Some parts) = refl
 
-module _ (olds mids : List SeenReader) (start a b : SeenSink) (old new : Columns) (n : ℕ) (expected : List Part → Slot → Result (Option Column) Refusal) (slots : List Slot) (slot : Slot) (was : MergedSoFar olds start a old n expected slots) (stay : AllStay olds mids) where
+module _ (times : FileKeys → ℕ) (olds mids : List SeenReader) (start a b : SeenSink) (old new : Columns) (n : ℕ) (expected : List Part → Slot → Result (Option Column) Refusal) (slots : List Slot) (slot : Slot) (was : MergedSoFar olds start a old n expected slots) (stay : AllRead times olds mids) where
   pub slots-more : MergedOne mids old new a b n (λ parts. expected parts slot) → MergedSoFar olds start b new n expected (slots ++ slot ∷ [])
   slots-more h = record {
     ps = with_one was.ps h.one;
     put = one-have start a b old new was.ps h.one was.put h.put;
-    told = told-both (told_parts olds) was.told (subst (λ o. IfSome o (λ parts. IsPutAs n h.one (expected parts slot))) (parts-stay olds mids stay) h.told) (λ parts p q. put-more n (expected parts) slots slot was.ps h.one (each_ok (expected parts) slots) refl p q);
+    told = told-both (told_parts olds) was.told (subst (λ o. IfSome o (λ parts. IsPutAs n h.one (expected parts slot))) (parts-stay times olds mids stay) h.told) (λ parts p q. put-more n (expected parts) slots slot was.ps h.one (each_ok (expected parts) slots) refl p q);
   }
 
   pub slots-refused : (news : List SeenReader) (left : List Slot) (e : ColumnarError) → RefusesMerge mids news a b e (λ parts. expected parts slot) → RefusesMerge olds news start b e (λ parts. each_ok (expected parts) (slots ++ slot ∷ left))
-  slots-refused news left e h = merge-refused olds mids news start a b stay (record { grown = was.put.written.grown; later = was.put.written.later }) (λ parts. expected parts slot) (λ parts. each_ok (expected parts) (slots ++ slot ∷ left)) (λ refusal. told-then (told_parts olds) was.told (λ parts p q. put-stops n (expected parts) slots slot was.ps left refusal (each_ok (expected parts) slots) refl p q)) e h
+  slots-refused news left e h = merge-refused times olds mids news start a b stay (record { grown = was.put.written.grown; later = was.put.written.later }) (λ parts. expected parts slot) (λ parts. each_ok (expected parts) (slots ++ slot ∷ left)) (λ refusal. told-then (told_parts olds) was.told (λ parts p q. put-stops n (expected parts) slots slot was.ps left refusal (each_ok (expected parts) slots) refl p q)) e h
 
 -- ---- a turn of the loop
 
@@ -139,11 +139,11 @@ all-taken [] (suc i) h = refl
 all-taken (x ∷ xs) zero h = absurd (omega arith)
 all-taken (x ∷ xs) (suc i) h = ap (λ ys. x ∷ ys) (all-taken xs i (omega (arith, h)))
 
-module _ (olds mids : List SeenReader) (start a b : SeenSink) (old new : Columns) (n : ℕ) (expected : List Part → Slot → Result (Option Column) Refusal) (all : List Slot) (i : ℕ) (slot : Slot) (within : i < length all) (is : slot ≡ get_or all i slot) (was : MergedSoFar olds start a old n expected (take i all)) (stay : AllStay olds mids) where
+module _ (times : FileKeys → ℕ) (olds mids : List SeenReader) (start a b : SeenSink) (old new : Columns) (n : ℕ) (expected : List Part → Slot → Result (Option Column) Refusal) (all : List Slot) (i : ℕ) (slot : Slot) (within : i < length all) (is : slot ≡ get_or all i slot) (was : MergedSoFar olds start a old n expected (take i all)) (stay : AllRead times olds mids) where
   -- the slot of a turn was merged
   pub turn-more : MergedOne mids old new a b n (λ parts. expected parts slot) → MergedSoFar olds start b new n expected (take (i + 1) all)
-  turn-more h = subst (λ ss. MergedSoFar olds start b new n expected ss) (sym (taken all i (i + 1) slot (add-one i) within is)) (slots-more olds mids start a b old new n expected (take i all) slot was stay h)
+  turn-more h = subst (λ ss. MergedSoFar olds start b new n expected ss) (sym (taken all i (i + 1) slot (add-one i) within is)) (slots-more times olds mids start a b old new n expected (take i all) slot was stay h)
 
   -- the slot of a turn was refused
   pub turn-refused : (news : List SeenReader) (e : ColumnarError) → RefusesMerge mids news a b e (λ parts. expected parts slot) → RefusesMerge olds news start b e (λ parts. each_ok (expected parts) all)
-  turn-refused news e h = subst (λ ss. RefusesMerge olds news start b e (λ parts. each_ok (expected parts) ss)) (parted all i slot within is) (slots-refused olds mids start a b old new n expected (take i all) slot was stay news (drop (suc i) all) e h)
+  turn-refused news e h = subst (λ ss. RefusesMerge olds news start b e (λ parts. each_ok (expected parts) ss)) (parted all i slot within is) (slots-refused times olds mids start a b old new n expected (take i all) slot was stay news (drop (suc i) all) e h)

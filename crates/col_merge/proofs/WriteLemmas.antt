@@ -55,13 +55,6 @@ turn-put olds news old new a b (Err e) n name t bytes expected puts told = end-r
 pub turn-some : (olds news : List SeenReader) (old new : Columns) (a b : SeenSink) (r : Result (Unit {0}) ColumnarError) (n : ℕ) (name passed : List ℕ) (t : ColumnType) (bytes : List ℕ) (expected : List Part → Result (Option Column) Refusal) (o : Option (ColumnType × List ℕ)) → o ≡ Some (t, bytes) → JoinsColumns olds news (Ok o) name n expected → passed ≡ name → Puts old new a b r (key_at passed t) bytes → MergesOne olds news old new a b r n expected
 turn-some olds news old new a b r n name passed t bytes expected o is joins same puts = turn-put olds news old new a b r n name t bytes expected (subst (λ name. Puts old new a b r (key_at name t) bytes) same puts) (subst (λ o. JoinsColumns olds news (Ok o) name n expected) is joins)
 
--- no column was put, where none is expected
-pub turn-none : (olds news : List SeenReader) (old : Columns) (a : SeenSink) (n : ℕ) (expected : List Part → Result (Option Column) Refusal) → IfSome (told_parts olds) (λ parts. expected parts ≡ Ok None) → MergesOne olds news old old a a (Ok tt) n expected
-turn-none olds news old a n expected told = record { one = None; put = (refl, refl); told = told }
-
-pub puts-go : (old new : Columns) (a b : SeenSink) (r : Result (Unit {0}) ColumnarError) (key : Key) (bytes : List ℕ) → Puts old new a b r key bytes → GoesOn a b
-puts-go old new a b r key bytes puts = record { grown = puts.written.grown; later = puts.written.later }
-
 -- ---- the end of the file
 
 pub slots-written : (olds news : List SeenReader) (start mid end : SeenSink) (columns : Columns) (r : Result (Unit {0}) ColumnarError) (n : ℕ) (expected : List Part → Slot → Result (Option Column) Refusal) (slots : List Slot) → MergedSoFar olds start mid columns n expected slots → ((start : SeenSink) (ps : List (Key × List ℕ)) → HavePut start mid columns ps → Serializes start end r (file_bytes n ps)) → OnOk r ((start : SeenSink) (ps : List (Key × List ℕ)) → HavePut start mid columns ps → AreKeys (map (λ p. p.0) ps) → HasColumns (file_bytes n ps) n ps) → WritesSlots olds news start end r n expected slots

@@ -14,7 +14,7 @@ use Rattle.col_file.specs.Handles.{Handle}
 use Rattle.col_file.specs.Readers.{SeenReader}
 use Rattle.col_slot.specs.JoinedSlots.{part_seen}
 use Rattle.col_merge.specs.Parts.{told_part, told_parts}
-use Rattle.col_merge.specs.Readings.{SomeRose}
+use Rattle.col_merge.specs.Readings.{SomeReaderRose}
 
 -- What a reader has under a slot was opened: the column that its part has there, or none, of as
 -- many rows as the part.
@@ -44,7 +44,7 @@ RefusesColumn slot old new _ = ⊥
 -- Why the columns of a slot weren't opened.
 abbrev pub RefusesColumns : Slot → List SeenReader → List SeenReader → ColumnarError → Type 0
 RefusesColumns slot olds news OutOfMemory = Unit {0}
-RefusesColumns slot olds news ReadFault = SomeRose olds news
+RefusesColumns slot olds news ReadFault = SomeReaderRose olds news
 RefusesColumns slot olds news InvalidData =
     IfSome (told_parts olds) (λ parts. has_bad_column slot parts ≡ true)
 RefusesColumns slot olds news _ = ⊥

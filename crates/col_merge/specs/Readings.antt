@@ -1,23 +1,40 @@
--- What reading leaves of readers.
-use Rattle.std.specs.Prelude.{◌≡◌, ◌≤◌, ℕ, List, slice_get, Some}
-use Rattle.std.specs.List.{AllZip}
+-- What reading leaves of readers, and how often their files are read.
+use Rattle.std.specs.Prelude.{◌≡◌, ◌≤◌, ◌+◌, ℕ, List, length, slice_get, Some, if◌then◌else◌}
+use Rattle.std.specs.List.{AllZip, list_any, sum_by}
 use Rattle.col_common.specs.Causes.{Rose}
+use Rattle.col_model.specs.Category.{Slot, same_slot}
+use Rattle.col_model.specs.Keys.{FileKeys}
 use Rattle.col_file.specs.Readers.{SeenReader}
+use Rattle.col_slots.specs.Slots.{entry_slot}
 
--- a reader's file was read, and stays as it was but for its counts
-pub record Stays (old new : SeenReader) : Type 0 where
+-- a reader's file was read at most so often, and stays as it was but for its counts
+pub record Stays (times : ℕ) (old new : SeenReader) : Type 0 where
   pub told : new.file.told ≡ old.file.told
   pub size : new.file.size ≡ old.file.size
   pub later : old.file.faults ≤ new.file.faults
+  pub reads : new.file.reads ≤ old.file.reads + times
   pub keys : new.keys ≡ old.keys
   pub mark : new.file.mark ≡ old.file.mark
 
--- the same of all readers
+-- the same of all readers, of each at most as often as its file's end has it
+abbrev pub AllRead : (FileKeys → ℕ) → List SeenReader → List SeenReader → Type 0
+AllRead times olds news = AllZip (λ old new. Stays (times old.keys) old new) olds news
+
+-- The same of all readers, of each at most as often as it has columns.
 abbrev pub AllStay : List SeenReader → List SeenReader → Type 0
-AllStay olds news = AllZip Stays olds news
+AllStay olds news = AllRead (λ k. length k.entries) olds news
+
+-- one read, where a file has a column under the slot
+abbrev pub slot_reads : Slot → FileKeys → ℕ
+slot_reads slot k =
+    if list_any (λ e. same_slot (entry_slot e) slot) k.entries then 1 else 0
+
+-- the same for each of these slots
+abbrev pub slots_reads : List Slot → FileKeys → ℕ
+slots_reads slots k = sum_by (λ slot. slot_reads slot k) slots
 
 -- some reader's count of faults rose
-pub record SomeRose (olds news : List SeenReader) : Type 0 where
+pub record SomeReaderRose (olds news : List SeenReader) : Type 0 where
   pub at : ℕ
   pub old : SeenReader
   pub new : SeenReader

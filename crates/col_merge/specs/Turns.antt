@@ -11,7 +11,7 @@ use Rattle.col_model.specs.Table.{Column}
 use Rattle.col_keys.specs.Put.{Columns, Puts, HavePut, part_put}
 use Rattle.col_file.specs.Readers.{SeenReader}
 use Rattle.col_merge.specs.Parts.{told_parts}
-use Rattle.col_merge.specs.Readings.{SomeRose}
+use Rattle.col_merge.specs.Readings.{SomeReaderRose}
 
 -- the refusal that the definitions have for an answer
 abbrev pub refusal_of : ColumnarError → Option Refusal
@@ -36,7 +36,7 @@ pub record RefusesParts {A : Type 0} (rs : List SeenReader) (e : ColumnarError)
 abbrev pub RefusesMerge : {A : Type 0} → List SeenReader → List SeenReader → SeenSink → SeenSink →
     ColumnarError → (List Part → Result A Refusal) → Type 0
 RefusesMerge olds news a b OutOfMemory expected = Unit {0}
-RefusesMerge olds news a b ReadFault expected = SomeRose olds news
+RefusesMerge olds news a b ReadFault expected = SomeReaderRose olds news
 RefusesMerge olds news a b WriteFault expected = Faulted a b
 RefusesMerge olds news a b e expected = RefusesParts olds e expected
 

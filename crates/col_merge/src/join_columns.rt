@@ -9,13 +9,13 @@ ghost use Rattle.col_types.specs.Kinds.{kind_of};
 ghost use Rattle.col_merge.specs.Joined.{HasJoinCause, JoinsBytes, JoinsColumns, joined_by};
 ghost use Rattle.col_slot.specs.JoinedSlots.{AreOpened};
 ghost use Rattle.col_slot.specs.Segments.{HaveRows};
-ghost use Rattle.col_merge.specs.Readings.{AllStay};
+ghost use Rattle.col_merge.specs.Readings.{AllRead, slot_reads};
 ghost use Rattle.col_slots.specs.Slots.{counts_read};
 
-use crate::open_columns::{files_are_read, open_columns};
+use crate::open_columns::open_columns;
 use col_common::{Buffer, ColumnarError, FileHandle};
 use col_dynamic::DynamicColumn;
-use col_file::ColumnarReader;
+use col_file::{ColumnarReader, files_are_read};
 use col_order::MergeRowOrder;
 use col_slot::join_slot;
 use col_slots::SlotKey;
@@ -36,7 +36,7 @@ pub(crate) fn join_columns<F: FileHandle>(
         → JoinsColumns columnar_readers.old columnar_readers.new result slot.now.name
         (length (picks_of (order_of merge_row_order.now)))
         (λ parts. joined_by (order_of merge_row_order.now) required parts slot.now) }
-    ensures kept { AllStay columnar_readers.old columnar_readers.new }
+    ensures kept { AllRead (slot_reads slot.now) columnar_readers.old columnar_readers.new }
 {
     files_are_read(columnar_readers);
     let mut columns = open_columns(alloc, columnar_readers, slot)?;

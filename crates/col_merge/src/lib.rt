@@ -5,6 +5,8 @@
 mod join_columns;
 mod merge;
 mod open_columns;
+mod stack_from_readers;
 mod turn;
 
 pub use merge::merge_columnar;
+pub use stack_from_readers::StackFromReaders;

@@ -6,15 +6,14 @@ ghost use Rattle.col_order.specs.Orders.{counts_of, picks_of};
 ghost use Rattle.col_order.specs.RowOrders.{order_of};
 ghost use Rattle.col_merge.specs.Joined.{joined_by};
 ghost use Rattle.col_merge.specs.Merges.{MergesFiles, WritesSlots};
-ghost use Rattle.col_merge.specs.Readings.{AllStay};
+ghost use Rattle.col_merge.specs.Readings.{AllRead, AllStay, slots_reads};
 ghost use Rattle.col_slots.specs.RequiredTypes.{known_type};
 ghost use Rattle.col_slots.specs.Slots.{counts_read, required_of};
 ghost use Rattle.col_merge.specs.Turns.{GoesOn};
 
-use crate::open_columns::files_are_read;
 use crate::turn::merge_slots;
 use col_common::{ColumnarError, FileHandle, RowId, Sink};
-use col_file::ColumnarReader;
+use col_file::{ColumnarReader, files_are_read};
 use col_keys::ColumnarSerializer;
 use col_order::{MergeRowOrder, orders_are_picks};
 use col_slots::{SlotKey, is_order_of, required_types, slots_of};
@@ -25,7 +24,7 @@ use std::collections::BTreeMap;
 /// Writes a file with the rows that an order picks from the readers' files: a column for each name
 /// and category of their columns, where some picked row has a value, and for each one that is
 /// required. It refuses in the order of the definition: BadOrder, BadName or RequiredConflict, then
-/// slot by slot.
+/// slot by slot. Each reader's file is read at most as often as it has columns.
 pub fn merge_columnar<F: FileHandle, K: Sink>(
     alloc: Global,
     columnar_readers: &mut [ColumnarReader<F>],
@@ -77,7 +76,7 @@ fn write_slots<F: FileHandle, K: Sink>(
         (K.seen output.old) (K.seen output.new) result
         (length (picks_of (order_of merge_row_order.now)))
         (joined_by (order_of merge_row_order.now) required) slots.now }
-    ensures kept { AllStay columnar_readers.old columnar_readers.new }
+    ensures kept { AllRead (slots_reads slots.now) columnar_readers.old columnar_readers.new }
     ensures sink { GoesOn (K.seen output.old) (K.seen output.new) }
 {
     let mut columns = ColumnarSerializer::new(alloc);

@@ -1,13 +1,11 @@
 //! Opens the columns of a slot.
 ghost use Rattle.std.specs.Prelude.{◌≡◌, find, option_map, IfOk, IfErr};
-ghost use Rattle.std.specs.List.{AllByRecursion};
 ghost use Rattle.col_common.specs.declared.error.ColumnarError.TheVariants as refusals;
 ghost use Rattle.col_model.specs.Category.{same_slot};
 ghost use Rattle.col_file.specs.Handles.{handle_of};
-ghost use Rattle.col_file.specs.Readers.{IsRead};
 ghost use Rattle.col_slots.specs.Slots.{entry_slot};
 ghost use Rattle.col_merge.specs.Opened.{IsOpenedAs, AllOpenedAs, RefusesColumn, RefusesColumns};
-ghost use Rattle.col_merge.specs.Readings.{Stays, AllStay};
+ghost use Rattle.col_merge.specs.Readings.{Stays, AllRead, slot_reads};
 
 use col_common::{ColumnarError, FileHandle};
 use col_dynamic::DynamicColumn;
@@ -15,8 +13,8 @@ use col_file::{ColumnarReader, DynamicColumnHandle};
 use col_slots::SlotKey;
 use std::alloc::Global;
 
-// Opens the column that each reader has under a slot, where it has one. It answers InvalidData
-// where the bytes of some such column are none.
+// Opens the column that each reader has under a slot, where it has one: its file is read once. It
+// answers InvalidData where the bytes of some such column are none.
 pub(crate) fn open_columns<F: FileHandle>(
     alloc: Global,
     columnar_readers: &mut [ColumnarReader<F>],
@@ -24,7 +22,7 @@ pub(crate) fn open_columns<F: FileHandle>(
 ) -> Result<Vec<Option<DynamicColumn>>, ColumnarError>
     ensures ok { IfOk result (λ columns. AllOpenedAs slot.now columnar_readers.old columns.items) }
     ensures err { IfErr result (RefusesColumns slot.now columnar_readers.old columnar_readers.new) }
-    ensures kept { AllStay columnar_readers.old columnar_readers.new }
+    ensures kept { AllRead (slot_reads slot.now) columnar_readers.old columnar_readers.new }
 {
     let mut columns = Vec::new(alloc);
     for segment in 0..columnar_readers.len() {
@@ -42,7 +40,7 @@ fn open_in<F: FileHandle>(
 ) -> Result<Option<DynamicColumn>, ColumnarError>
     ensures ok { IfOk result (IsOpenedAs slot.now reader.old) }
     ensures err { IfErr result (RefusesColumn slot.now reader.old reader.new) }
-    ensures kept { Stays reader.old reader.new }
+    ensures kept { Stays (slot_reads slot.now reader.old.keys) reader.old reader.new }
 {
     reader.tell();
     match find_handle(alloc, reader, slot)? {
@@ -68,13 +66,4 @@ fn find_handle<F: FileHandle>(
         }
     }
     Ok(None)
-}
-
-// Each file ends as its reader says.
-pub(crate) fn files_are_read<F: FileHandle>(columnar_readers: &[ColumnarReader<F>])
-    ensures { AllByRecursion IsRead columnar_readers.now }
-{
-    for reader in columnar_readers {
-        reader.tell();
-    }
 }

@@ -8,7 +8,7 @@ ghost use Rattle.col_types.specs.Kinds.{kind_of};
 ghost use Rattle.col_keys.specs.KeyTables.{key_at};
 ghost use Rattle.col_keys.specs.Put.{Puts, no_columns};
 ghost use Rattle.col_merge.specs.Joined.{joined_by};
-ghost use Rattle.col_merge.specs.Readings.{AllStay};
+ghost use Rattle.col_merge.specs.Readings.{AllRead, slot_reads, slots_reads};
 ghost use Rattle.col_slots.specs.RequiredTypes.{known_type};
 ghost use Rattle.col_slots.specs.Slots.{counts_read};
 ghost use Rattle.col_merge.specs.Turns.{GoesOn, MergesOne, MergesSlots};
@@ -42,7 +42,7 @@ pub(crate) fn merge_slots<F: FileHandle, K: Sink>(
         (K.seen output.old) (K.seen output.new) result
         (length (picks_of (order_of merge_row_order.now)))
         (joined_by (order_of merge_row_order.now) required) slots.now }
-    ensures kept { AllStay columnar_readers.old columnar_readers.new }
+    ensures kept { AllRead (slots_reads slots.now) columnar_readers.old columnar_readers.new }
     ensures sink { GoesOn (K.seen output.old) (K.seen output.new) }
 {
     for slot in slots {
@@ -77,7 +77,7 @@ fn merge_slot<F: FileHandle, K: Sink>(
         (K.seen output.old) (K.seen output.new) result
         (length (picks_of (order_of merge_row_order.now)))
         (λ parts. joined_by (order_of merge_row_order.now) required parts slot.now) }
-    ensures kept { AllStay columnar_readers.old columnar_readers.new }
+    ensures kept { AllRead (slot_reads slot.now) columnar_readers.old columnar_readers.new }
     ensures sink { GoesOn (K.seen output.old) (K.seen output.new) }
 {
     match join_columns(alloc, columnar_readers, slot, wanted, merge_row_order)? {

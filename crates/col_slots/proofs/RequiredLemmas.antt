@@ -61,9 +61,6 @@ required-more (r ∷ rs) x q = by (same_slot (required_slot r) q) (required-more
 pub record AreConsistent (earlier : List Required) : Type 0 where
   pub each : (r : Required) → list_any (contradicts r) earlier ≡ conflicts (required_type earlier (required_slot r)) r.column_type
 
-pub consistent-none : AreConsistent []
-consistent-none = record { each = λ r. refl }
-
 or-nothing : (a : Bool) → (a || false) ≡ a
 or-nothing true = refl
 or-nothing false = refl
@@ -155,9 +152,6 @@ module _ (known : BTreeMap Slot variants.ColumnType) (earlier : List Required) (
         types_are = λ q. n q ∙ ap (λ w. or_type w (same_slot (required_slot x) q) x.column_type) (was.types_are q) ∙ sym (required-more earlier x q);
         left_is = was.left_is ∙ item-accepted earlier x left e was.consistent agrees;
       }
-
-pub types-all : (known : BTreeMap Slot variants.ColumnType) (all : List Required) → TypesSoFar known all [] all → AreTypes known all
-types-all known all was = record { accepted = was.left_is; names = was.names; types_are = was.types_are }
 
 -- ---- one item of the list
 

@@ -1,8 +1,10 @@
-//! Tests of open files, reports and scripts, by examples.
+//! Tests of open files, their merges, reports and scripts, by examples.
 #![tactic(auto)]
 
 #[cfg(test)]
 mod file;
+#[cfg(test)]
+mod merge;
 #[cfg(test)]
 mod report;
 #[cfg(test)]

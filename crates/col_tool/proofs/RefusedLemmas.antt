@@ -45,11 +45,6 @@ known-among e (inl memory) = rw memory (0, omega arith, refl)
 known-among e (inr (inl fault)) = rw fault (1, omega arith, refl)
 known-among e (inr (inr known)) = rw (known.1, code-answer known.0) (status-among known.0)
 
--- and each of a script that couldn't be read
-pub unread-among : (e : ColumnarError) → (e ≡ OutOfMemory) ⊎ (e ≡ ReadFault) → Contains refusals (code_of e)
-unread-among e (inl memory) = rw memory (0, omega arith, refl)
-unread-among e (inr fault) = rw fault (1, omega arith, refl)
-
 -- the statuses of refusals are among those of answers
 pub refusals-among : (status : ℕ) → Contains refusals status → Contains answers status
 refusals-among status (k, within, e) = (suc (suc k), omega (arith, within), e)

@@ -2,8 +2,9 @@ use Rattle.std.proofs.Common.{◌≡◌, ◌<◌, ◌^◌, ◌∙◌, true, leng
 use Rattle.std.proofs.lemmas.Result.{err_from_is_err_and}
 use Rattle.col_order.specs.Orders.{picks_of}
 use Rattle.col_order.specs.RowOrders.{order_of}
-use Rattle.col_slots.specs.Slots.{required_of}
-use Rattle.col_merge.proofs.ReadingLemmas.{all_stay-none}
+use Rattle.col_slots.specs.Slots.{keys_read, required_of}
+use Rattle.col_merge.proofs.ReadingLemmas.{all_read-none}
+use Rattle.col_merge.proofs.SlotReadLemmas.{all-stay}
 use Rattle.col_merge.proofs.WriteLemmas.{order-refused, order-picks, types-refused, files-merged}
 use Rattle.col_merge.proofs.merge.merge_columnar.Goals as goal
 
@@ -13,7 +14,7 @@ returns-then-not-is_order_of-clause-answer g c =
     order-refused c.args.columnar_readers.now (order_of c.args.merge_row_order) (required_of c.args.required_columns.now) a a c.files_are_read.ensures (sym c.is_order_of.ensures ∙ c.if-not-is_order_of.true)
 
 pub returns-then-not-is_order_of-clause-kept : goal.returns-then-not-is_order_of-clause-kept
-returns-then-not-is_order_of-clause-kept g c = all_stay-none c.args.columnar_readers.now
+returns-then-not-is_order_of-clause-kept g c = all_read-none (λ k. length k.entries) c.args.columnar_readers.now
 
 pub returns-in_err-types-clause-answer : goal.returns-in_err-types-clause-answer
 returns-in_err-types-clause-answer g c =
@@ -25,10 +26,10 @@ returns-in_err-types-clause-answer g c =
     rw (p.1, p.2) (types-refused rs rs order (required_of c.args.required_columns.now) a a c.in_err-types.field-0.0 c.files_are_read.ensures (order-picks rs order (sym c.is_order_of.ensures ∙ c.if-not-is_order_of.false) c.orders_are_picks.ensures) few c.in_err-types.ensures)
 
 pub returns-in_err-types-clause-kept : goal.returns-in_err-types-clause-kept
-returns-in_err-types-clause-kept g c = all_stay-none c.args.columnar_readers.now
+returns-in_err-types-clause-kept g c = all_read-none (λ k. length k.entries) c.args.columnar_readers.now
 
 pub returns-in_err-slots-clause-kept : goal.returns-in_err-slots-clause-kept
-returns-in_err-slots-clause-kept g c = all_stay-none c.args.columnar_readers.now
+returns-in_err-slots-clause-kept g c = all_read-none (λ k. length k.entries) c.args.columnar_readers.now
 
 pub returns-clause-answer : goal.returns-clause-answer
 returns-clause-answer g c =
@@ -45,3 +46,6 @@ returns-clause-answer g c =
       names = c.in_ok-types.ensures.names;
       slots_are = c.deref.ensures.value ∙ c.in_ok-slots.ensures;
     }) (c.write_slots.ensures.answer required c.in_ok-types.ensures.types_are)
+
+pub returns-clause-kept : goal.returns-clause-kept
+returns-clause-kept g c = all-stay (keys_read c.args.columnar_readers.now) (required_of c.args.required_columns.now) c.deref.result.now c.args.columnar_readers.now c.write_slots.new.columnar_readers (c.deref.ensures.value ∙ c.in_ok-slots.ensures) c.write_slots.ensures.kept

@@ -1,6 +1,6 @@
 use Rattle.std.proofs.Common.{◌≡◌, ◌∙◌, sym}
 use Rattle.std.proofs.lemmas.Result.{err_from_is_err_and}
-use Rattle.col_merge.proofs.OpenLemmas.{handle-none, handle-opened, handle-refused}
+use Rattle.col_merge.proofs.OpenLemmas.{handle-none, handle-opened, handle-read, handle-refused}
 use Rattle.col_merge.proofs.open_columns.open_in.Goals as goal
 
 pub returns-in_err-open-in-Some-clause-err : goal.returns-in_err-open-in-Some-clause-err
@@ -13,3 +13,9 @@ returns-in_ok-open-in-Some-clause-ok g c = handle-opened c.args.slot.now c.args.
 
 pub returns-in-None-clause-ok : goal.returns-in-None-clause-ok
 returns-in-None-clause-ok g c = handle-none c.args.slot.now c.args.reader.now c.tell.ensures (sym c.in-None.is ∙ c.in_ok-handle.ensures.ok)
+
+pub returns-in_err-open-in-Some-clause-kept : goal.returns-in_err-open-in-Some-clause-kept
+returns-in_err-open-in-Some-clause-kept g c = handle-read c.args.slot.now c.args.reader.now c.tell.ensures c.in-Some.handle (sym c.in-Some.is ∙ c.in_ok-handle.ensures.ok) c.open.new.reader c.in_err-open-in-Some.ensures.kept
+
+pub returns-in_ok-open-in-Some-clause-kept : goal.returns-in_ok-open-in-Some-clause-kept
+returns-in_ok-open-in-Some-clause-kept g c = handle-read c.args.slot.now c.args.reader.now c.tell.ensures c.in-Some.handle (sym c.in-Some.is ∙ c.in_ok-handle.ensures.ok) c.open.new.reader c.in_ok-open-in-Some.ensures.kept

@@ -1,7 +1,0 @@
-use Rattle.std.proofs.Common.{take}
-use Rattle.std.specs.List.{AllByRecursion}
-use Rattle.col_file.specs.Readers.{IsRead}
-use Rattle.col_made.proofs.made.files_are_read.Given as goal
-
-abbrev pub invariant-loop-reader : goal.invariant-loop-reader
-invariant-loop-reader l = AllByRecursion IsRead (take l.reader-index l.readers)
