@@ -9,10 +9,12 @@ use Rattle.col_common.specs.declared.error.ColumnarError.{ColumnarError}
 use Rattle.col_common.specs.declared.error.ColumnarError.TheVariants.{OutOfMemory, ReadFault, WriteFault, InvalidData, BadOrder, BadName, RequiredConflict, CannotCoerce, NumericalConflict, TooLarge, NoCodec, ForcedType, DocOrder, DocOutOfRange, TieBreakerStart, NotUtf8}
 use Rattle.col_model.specs.File.{parts_of, for_each}
 use Rattle.col_model.specs.Keys.{FileKeys, keys}
-use Rattle.col_file.specs.Files.{SeenFile, RefusesFile}
+use Rattle.col_file.specs.Files.{SeenFile, ReadsFile, RefusesFile}
+use Rattle.col_common.specs.Causes.{Rose}
+use Rattle.col_made.proofs.PartLemmas.{keeps-read}
 use Rattle.col_file.specs.Readers.{SeenReader}
 use Rattle.col_made.specs.InMemory.{in_memory_alone}
-use Rattle.col_made.specs.Inputs.{IsOpened, IsOpenedFrom, IsRead, is_no_file, RefusesInputs, rows_in}
+use Rattle.col_made.specs.Inputs.{IsOpened, IsOpenedFrom, is_no_file, RefusesInputs, rows_in}
 
 -- bytes without a key table and a footer are no file
 pub no_file : (bytes : List ℕ) → keys bytes ≡ None → is_no_file bytes ≡ true
@@ -51,28 +53,13 @@ unopened bytes old new DocOutOfRange h told = absurd h
 unopened bytes old new TieBreakerStart h told = absurd h
 unopened bytes old new NotUtf8 h told = absurd h
 
--- what was read is what is told
-pub read-opened : (told : Told) (bytes : List ℕ) (r : SeenReader) → IfSome told (λ all. all ≡ bytes) → IsOpenedFrom bytes (Ok r) → IsOpened told r
-read-opened told bytes r same opened = record { file = bytes; has = opened.0; whole = opened.1; same = same }
-
-no_file-told : (told : Told) (bytes : List ℕ) → IfSome told (λ all. all ≡ bytes) → is_no_file bytes ≡ true → IfSome told (λ all. is_no_file all ≡ true)
-no_file-told None bytes same bad = tt
-no_file-told (Some all) bytes same bad = rw same bad
-
-pub read-refused : (told : Told) (bytes : List ℕ) (e : ColumnarError) → IfSome told (λ all. all ≡ bytes) → IsOpenedFrom bytes (Err e) → IsRead told (Err e)
-read-refused told bytes e same (inl memory) = inl memory
-read-refused told bytes e same (inr bad) = inr (inr (bad.0, no_file-told told bytes same bad.1))
-
--- one input more
-pub opened-more : (told : List Told) (i j : ℕ) (rs more : List SeenReader) (r : SeenReader) → AllZip IsOpened (take i told) rs → i < length told → j ≡ suc i → IsOpened (get_or told i None) r → more ≡ rs ++ r ∷ [] → AllZip IsOpened (take j told) more
-opened-more told i j rs more r have within step here grown = rw (step, grown) (by told i rs have within here)
+-- a file with its key table is opened
+pub opened-one : (f : SeenFile) (r : SeenReader) → IfSome f.told (λ bytes. keys bytes ≡ Some r.keys) × ReadsFile 2 f r.file → IsOpened f r
+opened-one f r h = record { kept = keeps-read 2 f r.file h.1; whole = by f.told h.0 }
   where
-    by : (told : List Told) (i : ℕ) (rs : List SeenReader) → AllZip IsOpened (take i told) rs → i < length told → IsOpened (get_or told i None) r → AllZip IsOpened (take (suc i) told) (rs ++ r ∷ [])
-    by [] i rs have within here = absurd (omega arith)
-    by (t ∷ told) zero [] have within here = (here, tt)
-    by (t ∷ told) zero (s ∷ rs) have within here = absurd have
-    by (t ∷ told) (suc i) [] have within here = absurd have
-    by (t ∷ told) (suc i) (s ∷ rs) have within here = (have.0, by told i rs have.1 (omega arith) here)
+    by : (o : Told) → IfSome o (λ bytes. keys bytes ≡ Some r.keys) → IfSome o (λ bytes. is_no_file bytes ≡ false)
+    by None e = tt
+    by (Some bytes) e = a_file bytes r.keys e
 
 either-first : (a b : Bool) → a ≡ true → (a || b) ≡ true
 either-first true b e = refl
@@ -83,24 +70,46 @@ either-second true b e = refl
 either-second false b e = e
 
 -- an input that is no file is one of all
-no_file-among : (told : List Told) (i : ℕ) → i < length told → IfSome (get_or told i None) (λ bytes. is_no_file bytes ≡ true) → IfSome (for_each (λ t. t) told) (λ files. list_any is_no_file files ≡ true)
-no_file-among [] i within bad = absurd (omega arith)
-no_file-among (None ∷ told) i within bad = tt
-no_file-among (Some t ∷ told) zero within bad = by (for_each (λ t. t) told)
+no_file-among : (fs gs : List SeenFile) (f : SeenFile) → IfSome f.told (λ bytes. is_no_file bytes ≡ true) → IfSome (for_each (λ (x : SeenFile). x.told) (fs ++ f ∷ gs)) (λ files. list_any is_no_file files ≡ true)
+no_file-among [] gs f bad = by f.told bad (for_each (λ (x : SeenFile). x.told) gs)
   where
-    by : (o : Option (List (List ℕ))) → IfSome (option_and_then (λ ys. Some (t ∷ ys)) o) (λ files. list_any is_no_file files ≡ true)
-    by None = tt
-    by (Some ys) = either-first (is_no_file t) (list_any is_no_file ys) bad
-no_file-among (Some t ∷ told) (suc i) within bad = by (for_each (λ t. t) told) (no_file-among told i (omega arith) bad)
+    by : (t : Told) → IfSome t (λ bytes. is_no_file bytes ≡ true) → (o : Option (List (List ℕ))) → IfSome (option_and_then (λ y. option_and_then (λ ys. Some (y ∷ ys)) o) t) (λ files. list_any is_no_file files ≡ true)
+    by None bad o = tt
+    by (Some t) bad None = tt
+    by (Some t) bad (Some ys) = either-first (is_no_file t) (list_any is_no_file ys) bad
+no_file-among (x ∷ fs) gs f bad = by x.told (for_each (λ (x : SeenFile). x.told) (fs ++ f ∷ gs)) (no_file-among fs gs f bad)
   where
-    by : (o : Option (List (List ℕ))) → IfSome o (λ files. list_any is_no_file files ≡ true) → IfSome (option_and_then (λ ys. Some (t ∷ ys)) o) (λ files. list_any is_no_file files ≡ true)
-    by None h = tt
-    by (Some ys) h = either-second (is_no_file t) (list_any is_no_file ys) h
+    by : (t : Told) (o : Option (List (List ℕ))) → IfSome o (λ files. list_any is_no_file files ≡ true) → IfSome (option_and_then (λ y. option_and_then (λ ys. Some (y ∷ ys)) o) t) (λ files. list_any is_no_file files ≡ true)
+    by None o h = tt
+    by (Some t) None h = tt
+    by (Some t) (Some ys) h = either-second (is_no_file t) (list_any is_no_file ys) h
 
-pub inputs-refused : (told : List Told) (i : ℕ) (t : Told) (e : ColumnarError) → i < length told → t ≡ get_or told i None → IsRead t (Err e) → RefusesInputs told e
-inputs-refused told i t e within is (inl memory) = inl memory
-inputs-refused told i t e within is (inr (inl fault)) = inr (inl fault)
-inputs-refused told i t e within is (inr (inr bad)) = inr (inr (bad.0, no_file-among told i within (subst (λ o. IfSome o (λ bytes. is_no_file bytes ≡ true)) is bad.1)))
+no_file-told : (told : Told) → IfSome told (λ bytes. keys bytes ≡ None) → IfSome told (λ bytes. is_no_file bytes ≡ true)
+no_file-told None h = tt
+no_file-told (Some bytes) h = no_file bytes h
+
+-- why an input among others isn't opened
+pub inputs-refused : (fs gs : List SeenFile) (f g : SeenFile) (e : ColumnarError) → RefusesFile f g e keys → RefusesInputs (fs ++ f ∷ gs) e
+inputs-refused fs gs f g OutOfMemory h = inl refl
+inputs-refused fs gs f g ReadFault h = inr (inl refl)
+inputs-refused fs gs f g InvalidData h = inr (inr (refl, no_file-among fs gs f (no_file-told f.told h)))
+inputs-refused fs gs f g WriteFault h = absurd h
+inputs-refused fs gs f g BadOrder h = absurd h
+inputs-refused fs gs f g BadName h = absurd h
+inputs-refused fs gs f g RequiredConflict h = absurd h
+inputs-refused fs gs f g CannotCoerce h = absurd h
+inputs-refused fs gs f g NumericalConflict h = absurd h
+inputs-refused fs gs f g TooLarge h = absurd h
+inputs-refused fs gs f g NoCodec h = absurd h
+inputs-refused fs gs f g ForcedType h = absurd h
+inputs-refused fs gs f g DocOrder h = absurd h
+inputs-refused fs gs f g DocOutOfRange h = absurd h
+inputs-refused fs gs f g TieBreakerStart h = absurd h
+inputs-refused fs gs f g NotUtf8 h = absurd h
+
+-- where a read failed, the count rose
+pub fault-rose : (f g : SeenFile) (e : ColumnarError) → RefusesFile f g e keys → e ≡ ReadFault → Rose f.faults g.faults
+fault-rose f g e h fault = rw fault at h
 
 -- refusals that are the same have the same cause
 pub same-error : {A : Type 0} (d e : ColumnarError) → ◌≡◌ {A = Result A ColumnarError} (Err d) (Err e) → d ≡ e

@@ -1,9 +1,11 @@
-mod HandleLemmas
+mod PartLemmas
 mod InputLemmas
 mod MadeFileLemmas
 mod MakeLemmas
 mod MergedFileLemmas
 mod MergedLemmas
+mod OpeningLemmas
 mod OrderLemmas
 mod SegmentLemmas
+mod StayLemmas
 mod TableLemmas

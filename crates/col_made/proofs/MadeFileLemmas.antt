@@ -11,7 +11,7 @@ use Rattle.col_record.specs.Answers.{MayRefuse}
 use Rattle.col_made.specs.Making.{Makes}
 
 -- two lists that belong together, with one more item each
-zip-more : {A B : Type 0} (R : A → B → Type 0) (xs : List A) (ys : List B) (x : A) (y : B) → AllZip R xs ys → R x y → AllZip R (xs ++ x ∷ []) (ys ++ y ∷ [])
+pub zip-more : {A B : Type 0} (R : A → B → Type 0) (xs : List A) (ys : List B) (x : A) (y : B) → AllZip R xs ys → R x y → AllZip R (xs ++ x ∷ []) (ys ++ y ∷ [])
 zip-more R [] [] x y all here = (here, tt)
 zip-more R [] (w ∷ ws) x y all here = absurd all
 zip-more R (w ∷ ws) [] x y all here = absurd all

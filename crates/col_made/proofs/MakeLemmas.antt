@@ -1,15 +1,18 @@
 -- What inputs and a script's segments come to.
-use Rattle.std.proofs.Common.{◌≡◌, ℕ, List, [], ◌∷◌, ◌++◌, map, true, false, Option, Some, None, option_and_then, Result, Ok, Err, IfSome, IfErr, inl, inr, refl, sym, ap, ap₂, ◌∙◌, subst}
-use Rattle.std.specs.List.{AllZip, list_any}
+use Rattle.std.proofs.Common.{◌≡◌, ◌+◌, ℕ, List, [], ◌∷◌, ◌++◌, map, reverse, length, Bool, true, false, Option, Some, None, option_and_then, Result, Ok, Err, IfSome, inl, inr, refl, sym, ap, ap₂, ◌∙◌, subst}
+use Rattle.std.specs.List.{AllZip, AllByRecursion, list_any}
 use Rattle.std.specs.Prelude.{◌||◌, is_none}
+use Rattle.std.proofs.lemmas.List.{length-append, length-map, length-reverse, reverse-reverse}
 use Rattle.std.proofs.lemmas.Option.{same_Some}
+use Rattle.std.proofs.lemmas.Slice.Zip.{AllZip-long}
 use Rattle.col_common.specs.Outside.{Told}
 use Rattle.col_common.specs.Reading.{◌>>=◌}
 use Rattle.col_common.specs.declared.error.ColumnarError.{ColumnarError}
-use Rattle.col_common.specs.declared.error.ColumnarError.TheVariants.{ReadFault}
+use Rattle.col_common.specs.declared.error.ColumnarError.TheVariants.{OutOfMemory, ReadFault}
+use Rattle.col_file.specs.Files.{SeenFile, seen_by}
 use Rattle.col_file.specs.Readers.{SeenReader}
 use Rattle.col_merge.specs.Parts.{told_part, told_parts}
-use Rattle.col_model.specs.File.{Part, parts_of, part_of_table, for_each}
+use Rattle.col_model.specs.File.{Part, StandsFor, parts_of, part_of_table, for_each}
 use Rattle.col_model.specs.Merge.{Required, merged, row_counts}
 use Rattle.col_model.specs.Outcome.{segment_table, script_table, order_over}
 use Rattle.col_model.specs.Refusal.{Refusal, or_refuse, each_ok, invalid_data}
@@ -17,9 +20,14 @@ use Rattle.col_model.specs.Refusal as refusals
 use Rattle.col_model.specs.Script.{Script, Find}
 use Rattle.col_model.specs.Table.{Table}
 use Rattle.col_record.specs.Answers.{MayRefuse, answer_of}
-use Rattle.col_made.specs.Inputs.{IsOpened, is_no_file, RefusesInputs}
+use Rattle.col_made.specs.Inputs.{IsOpened, is_no_file, RefusesInputs, OpensInputs, OpensFiles}
+use Rattle.col_made.specs.Making.{Makes, MakesIfRead, MergesInputs, MergesReaders, IsKnown, IsMade, AreFilesOf, inputs_table}
+use Rattle.col_made.specs.Parts.{given, handed_in, given_in, files_in, held, IsUnfailed, AllKeep}
+use Rattle.col_made.specs.declared.made.Made.{Made}
 use Rattle.col_made.proofs.InputLemmas.{same-error}
-use Rattle.col_made.specs.Making.{Makes, MakesIfRead, IsKnown, AreFilesOf}
+use Rattle.col_made.proofs.PartLemmas.{all_keep-long, some_rose-later, some_rose-first}
+use Rattle.col_made.proofs.StayLemmas.{reader-rose, merged-keep}
+use Rattle.col_made.proofs.TableLemmas.{whole-part}
 
 -- what is read of an input
 abbrev input_part : List ℕ → Result Part Refusal
@@ -33,44 +41,29 @@ part-in bytes = by (parts_of bytes)
     by None h = cc
     by (Some p) h = (p, refl)
 
--- an opened input has it too
-opened-part : (t : Told) (r : SeenReader) → IsOpened t r → (p : Part) × (told_part r ≡ Some p)
-opened-part t r h = let p = part-in h.file h.whole in (p.0, ap (λ o. o >>= parts_of) h.has ∙ p.1)
-
--- the parts of inputs that were opened
-pub opened-parts : (ts : List Told) (rs : List SeenReader) → AllZip IsOpened ts rs → (ps : List Part) × (told_parts rs ≡ Some ps)
-opened-parts [] [] h = ([], refl)
-opened-parts [] (r ∷ rs) h = absurd h
-opened-parts (t ∷ ts) [] h = absurd h
-opened-parts (t ∷ ts) (r ∷ rs) h =
-    let p = opened-part t r h.0 in
-    let ps = opened-parts ts rs h.1 in
-    (p.0 ∷ ps.0, ap₂ (λ o q. o >>= λ y. q >>= λ ys. Some (y ∷ ys)) p.1 ps.1)
-
 -- where inputs tell, their parts are those of what they tell
 record InputParts (files : List (List ℕ)) (rs : List SeenReader) : Type 0 where
   parts : List Part
   read : told_parts rs ≡ Some parts
   are : each_ok input_part files ≡ Ok parts
 
-one-more : (t : Told) (r : SeenReader) (rs : List SeenReader) (o : Option (List (List ℕ))) (files : List (List ℕ)) → IsOpened t r → ((ys : List (List ℕ)) → o ≡ Some ys → InputParts ys rs) → option_and_then (λ y. option_and_then (λ ys. Some (y ∷ ys)) o) t ≡ Some files → InputParts files (r ∷ rs)
-one-more None r rs o files h later e = cc
-one-more (Some t) r rs None files h later e = cc
-one-more (Some t) r rs (Some ys) files h later e =
-    let p = part-in h.file h.whole in
-    let here : parts_of t ≡ Some p.0 = ap parts_of h.same ∙ p.1 in
+one-more : (t : Told) (r : SeenReader) (rs : List SeenReader) (o : Option (List (List ℕ))) (files : List (List ℕ)) → r.file.told ≡ t → IfSome t (λ bytes. is_no_file bytes ≡ false) → ((ys : List (List ℕ)) → o ≡ Some ys → InputParts ys rs) → option_and_then (λ y. option_and_then (λ ys. Some (y ∷ ys)) o) t ≡ Some files → InputParts files (r ∷ rs)
+one-more None r rs o files told whole later e = cc
+one-more (Some t) r rs None files told whole later e = cc
+one-more (Some t) r rs (Some ys) files told whole later e =
+    let p = part-in t whole in
     let rest = later ys refl in
     subst (λ fs. InputParts fs (r ∷ rs)) (same_Some (t ∷ ys) files e) (record {
       parts = p.0 ∷ rest.parts;
-      read = ap₂ (λ o q. o >>= λ y. q >>= λ ys. Some (y ∷ ys)) (ap (λ o. o >>= parts_of) h.has ∙ p.1) rest.read;
-      are = rw (here, rest.are) refl;
+      read = ap₂ (λ o q. o >>= λ y. q >>= λ ys. Some (y ∷ ys)) (ap (λ o. o >>= parts_of) told ∙ p.1) rest.read;
+      are = rw (p.1, rest.are) refl;
     })
 
-input-parts : (ts : List Told) (rs : List SeenReader) (files : List (List ℕ)) → AllZip IsOpened ts rs → for_each (λ t. t) ts ≡ Some files → InputParts files rs
+input-parts : (fs : List SeenFile) (rs : List SeenReader) (files : List (List ℕ)) → AllZip IsOpened fs rs → for_each (λ (f : SeenFile). f.told) fs ≡ Some files → InputParts files rs
 input-parts [] [] files h e = subst (λ fs. InputParts fs []) (same_Some [] files e) (record { parts = []; read = refl; are = refl })
 input-parts [] (r ∷ rs) files h e = absurd h
-input-parts (t ∷ ts) [] files h e = absurd h
-input-parts (t ∷ ts) (r ∷ rs) files h e = one-more t r rs (for_each (λ t. t) ts) files h.0 (λ ys f. input-parts ts rs ys h.1 f) e
+input-parts (f ∷ fs) [] files h e = absurd h
+input-parts (f ∷ fs) (r ∷ rs) files h e = one-more f.told r rs (for_each (λ (x : SeenFile). x.told) fs) files h.0.kept.told h.0.whole (λ ys g. input-parts fs rs ys h.1 g) e
 
 -- an input that is no file
 no_file-refused : (files : List (List ℕ)) → list_any is_no_file files ≡ true → each_ok input_part files ≡ Err invalid_data
@@ -100,47 +93,108 @@ parts-append (x ∷ xs) ys ps qs e f = by (told_part x) refl (told_parts xs) ref
         ap₂ (λ o q. o >>= λ y. q >>= λ ys. Some (y ∷ ys)) at (later zs rest)
         ∙ ap (λ ps. Some (ps ++ qs)) (same_Some (p ∷ zs) ps h)
 
--- all files tell their parts
-pub all-parts : (ts : List Told) (rs made : List SeenReader) (tables : List Table) → AllZip IsOpened ts rs → AreFilesOf tables made → (ps : List Part) × (told_parts (rs ++ made) ≡ Some ps)
-all-parts ts rs made tables opened are =
-    let p = opened-parts ts rs opened in
-    (p.0 ++ map part_of_table tables, parts-append rs made p.0 (map part_of_table tables) p.1 (files-parts tables made are))
+-- files of tables that were opened
+files-opened : (tables : List Table) (files : List (List ℕ)) (rs : List SeenReader) → AllZip StandsFor tables files → AllZip (λ bytes (r : SeenReader). r.file.told ≡ Some bytes) files rs → AreFilesOf tables rs
+files-opened [] [] [] h k = tt
+files-opened [] [] (r ∷ rs) h k = absurd k
+files-opened [] (f ∷ files) rs h k = absurd h
+files-opened (t ∷ tables) [] rs h k = absurd h
+files-opened (t ∷ tables) (f ∷ files) [] h k = absurd k
+files-opened (t ∷ tables) (f ∷ files) (r ∷ rs) h k = (ap (λ o. o >>= parts_of) k.0 ∙ whole-part f t h.0.content, files-opened tables files rs h.1 k.1)
 
--- what a script with these tables comes to over the parts of all files
-pub script-parts : (s : Script) (ts : List Told) (files : List (List ℕ)) (rs made : List SeenReader) (tables : List Table) (parts : List Part) → each_ok segment_table s.segments ≡ Ok tables → for_each (λ t. t) ts ≡ Some files → AllZip IsOpened ts rs → AreFilesOf tables made → told_parts (rs ++ made) ≡ Some parts → script_table files s ≡ merged parts s.required (order_over s.order (row_counts parts))
-script-parts s ts files rs made tables parts segments told opened are read =
-    let i = input-parts ts rs files opened told in
-    let same : i.parts ++ map part_of_table tables ≡ parts = same_Some _ parts (sym (parts-append rs made i.parts (map part_of_table tables) i.read (files-parts tables made are)) ∙ read) in
-    rw (segments, i.are) (ap (λ ps. merged ps s.required (order_over s.order (row_counts ps))) same)
+-- ---- what is made of inputs
+
+-- what is made of open inputs, and of files behind them
+merge-made : (IsOf : Table → Made → Type 0) (fs : List SeenFile) (rs ss us : List SeenReader) (files : List (List ℕ)) (tables : List Table) (required : List Required) (rows : Option (List (ℕ × ℕ))) (result : Result Made ColumnarError) → AllZip IsOpened fs rs → OpensFiles files rs ss → MergesReaders IsOf ss us result (λ parts. merged parts required (order_over rows (row_counts parts))) → AllZip StandsFor tables files → IfSome (for_each (λ (f : SeenFile). f.told) fs) (λ inputs. MakesIfRead IsOf result (inputs_table inputs tables required rows))
+merge-made IsOf fs rs ss us files tables required rows result opened opens merges stand = by (for_each (λ (f : SeenFile). f.told) fs) refl
+  where
+    by : (o : Option (List (List ℕ))) → for_each (λ (f : SeenFile). f.told) fs ≡ o → IfSome o (λ inputs. MakesIfRead IsOf result (inputs_table inputs tables required rows))
+    by None told = tt
+    by (Some inputs) told =
+        let i = input-parts fs rs inputs opened told in
+        let behind = files-parts tables opens.made (files-opened tables files opens.made stand opens.told) in
+        let all = merges.made (i.parts ++ map part_of_table tables) (ap told_parts opens.behind ∙ parts-append rs opens.made i.parts (map part_of_table tables) i.read behind) in
+        rw i.are all
+
+-- what a merge leaves of files that were handed in
+pub inputs-merged : {H : Type 0} (see : H → SeenFile) (left : List H) (IsOf : Table → Made → Type 0) (fs : List SeenFile) (rs ss us : List SeenReader) (files : List (List ℕ)) (required : List Required) (rows : Option (List (ℕ × ℕ))) (result : Result Made ColumnarError) → AllZip IsOpened fs rs → OpensFiles files rs ss → MergesReaders IsOf ss us result (λ parts. merged parts required (order_over rows (row_counts parts))) → AllKeep fs (held see rs left) → given_in (files_in ss) ≡ given_in (files_in rs) → AllByRecursion IsUnfailed (files_in us) → MergesInputs IsOf fs (held see us left) files required rows result
+inputs-merged see left IsOf fs rs ss us files required rows result opened opens merges keep same unfailed =
+    let keep_both : AllKeep fs (held see ss left) = rw same keep in
+    record {
+      made = λ tables stand. merge-made IsOf fs rs ss us files tables required rows result opened opens merges stand;
+      known = merges.known;
+      read_fault = λ e. some_rose-later fs (held see ss left) (held see us left) keep_both (some_rose-first (given_in (files_in ss)) (given_in (files_in us)) (handed_in see (reverse left)) (handed_in see (reverse left)) (reader-rose ss us (merges.read_fault e) merges.stay unfailed));
+      kept = merged-keep see left fs ss us keep_both merges.stay;
+    }
 
 -- ---- refusals
 
--- a segment's refusal is that of the script
-pub segments-refused : {A : Type 0} (IsOf : Table → A → Type 0) (s : Script) (files : List (List ℕ)) (e : ColumnarError) → MayRefuse (each_ok segment_table s.segments) e → MakesIfRead {B = A} IsOf (Err e) (script_table files s)
-segments-refused IsOf s files e (inl memory) = record { ok = tt; refused = inr (inl memory) }
-segments-refused IsOf s files e (inr (r, at, answer)) = record { ok = tt; refused = inr (inr (r, rw at refl, answer)) }
+-- want of memory, with all handed back
+pub inputs-memory : (IsOf : Table → Made → Type 0) (olds news : List SeenFile) (files : List (List ℕ)) (required : List Required) (rows : Option (List (ℕ × ℕ))) (e : ColumnarError) → e ≡ OutOfMemory → AllKeep olds news → MergesInputs IsOf olds news files required rows (Err e)
+inputs-memory IsOf olds news files required rows e memory keep = record {
+  made = λ tables stand. by (for_each (λ (f : SeenFile). f.told) olds) tables;
+  known = inl memory;
+  read_fault = λ fault. absurd (memory_no_fault (sym memory ∙ same-error e ReadFault fault));
+  kept = keep;
+}
+  where
+    by : (o : Option (List (List ℕ))) (tables : List Table) → IfSome o (λ inputs. MakesIfRead IsOf (Err e) (inputs_table inputs tables required rows))
+    by None tables = tt
+    by (Some inputs) tables = record { ok = tt; refused = inr (inl memory) }
 
--- so is an input's
-pub inputs-refuse : {A : Type 0} (IsOf : Table → A → Type 0) (s : Script) (ts : List Told) (files : List (List ℕ)) (tables : List Table) (e : ColumnarError) → each_ok segment_table s.segments ≡ Ok tables → for_each (λ t. t) ts ≡ Some files → RefusesInputs ts e → MakesIfRead {B = A} IsOf (Err e) (script_table files s)
-inputs-refuse IsOf s ts files tables e segments told (inl memory) = record { ok = tt; refused = inr (inl memory) }
-inputs-refuse IsOf s ts files tables e segments told (inr (inl fault)) = record { ok = tt; refused = inl fault }
-inputs-refuse IsOf s ts files tables e segments told (inr (inr bad)) =
-    record { ok = tt; refused = inr (inr (invalid_data, rw (segments, no_file-refused files (rw told at bad.1)) refl, bad.0)) }
+    memory_no_fault : OutOfMemory ≡ ReadFault → ⊥
+    memory_no_fault h = cc
+
+-- an input that wasn't opened
+inputs-refuse : (IsOf : Table → Made → Type 0) (fs : List SeenFile) (inputs : List (List ℕ)) (tables : List Table) (required : List Required) (rows : Option (List (ℕ × ℕ))) (e : ColumnarError) → for_each (λ (f : SeenFile). f.told) fs ≡ Some inputs → RefusesInputs fs e → MakesIfRead {B = Made} IsOf (Err e) (inputs_table inputs tables required rows)
+inputs-refuse IsOf fs inputs tables required rows e told (inl memory) = record { ok = tt; refused = inr (inl memory) }
+inputs-refuse IsOf fs inputs tables required rows e told (inr (inl fault)) = record { ok = tt; refused = inl fault }
+inputs-refuse IsOf fs inputs tables required rows e told (inr (inr bad)) =
+    record { ok = tt; refused = inr (inr (invalid_data, rw (no_file-refused inputs (rw told at bad.1)) refl, bad.0)) }
+
+known-inputs : (fs : List SeenFile) (e : ColumnarError) → RefusesInputs fs e → IsKnown e
+known-inputs fs e (inl memory) = inl memory
+known-inputs fs e (inr (inl fault)) = inr (inl fault)
+known-inputs fs e (inr (inr bad)) = inr (inr (invalid_data, bad.0))
+
+pub inputs-unopened : (IsOf : Table → Made → Type 0) (fs now : List SeenFile) (rs : List SeenReader) (files : List (List ℕ)) (required : List Required) (rows : Option (List (ℕ × ℕ))) (e : ColumnarError) → OpensInputs fs (Err e) rs now → MergesInputs IsOf fs now files required rows (Err e)
+inputs-unopened IsOf fs now rs files required rows e h = record {
+  made = λ tables stand. by (for_each (λ (f : SeenFile). f.told) fs) refl tables;
+  known = known-inputs fs e h.refused;
+  read_fault = λ fault. h.read_fault (ap Err (same-error e ReadFault fault));
+  kept = h.kept;
+}
+  where
+    by : (o : Option (List (List ℕ))) → for_each (λ (f : SeenFile). f.told) fs ≡ o → (tables : List Table) → IfSome o (λ inputs. MakesIfRead IsOf (Err e) (inputs_table inputs tables required rows))
+    by None told tables = tt
+    by (Some inputs) told tables = inputs-refuse IsOf fs inputs tables required rows e told h.refused
+
+-- ---- handing back
+
+-- the inputs, turned round and back
+pub inputs-handed : {H : Type 0} (see : H → SeenFile) (old turned new left : List H) (rs : List SeenReader) (IsOf : Table → Made → Type 0) (files : List (List ℕ)) (required : List Required) (rows : Option (List (ℕ × ℕ))) (result : Result Made ColumnarError) → turned ≡ reverse old → MergesInputs IsOf (handed_in see (reverse turned)) (held see rs left) files required rows result → handed_in see new ≡ held see rs left → MergesInputs IsOf (handed_in see old) (handed_in see new) files required rows result
+inputs-handed see old turned new left rs IsOf files required rows result same merges handed =
+    subst (λ fs. MergesInputs IsOf (handed_in see old) fs files required rows result) (sym handed)
+    (subst (λ hs. MergesInputs IsOf (handed_in see hs) (held see rs left) files required rows result) (ap reverse same ∙ reverse-reverse old) merges)
+
+-- as many as there were
+pub held-long : {H : Type 0} (see : H → SeenFile) (turned left : List H) (rs : List SeenReader) → AllKeep (handed_in see (reverse turned)) (held see rs left) → length (given_in (files_in rs)) + length left ≡ length turned
+held-long see turned left rs keep =
+    ap (λ n. length (given_in (files_in rs)) + n) (sym (length-map (reverse left) (λ h. given (see h)) ∙ length-reverse left))
+    ∙ sym (length-append (given_in (files_in rs)) (handed_in see (reverse left)))
+    ∙ sym (all_keep-long (handed_in see (reverse turned)) (held see rs left) keep)
+    ∙ length-map (reverse turned) (λ h. given (see h)) ∙ length-reverse turned
+
+-- as many readers
+pub opened-long : {H : Type 0} (see : H → SeenFile) (left : List H) (rs : List SeenReader) → AllZip IsOpened (handed_in see (reverse left)) rs → length rs ≡ length left
+opened-long see left rs opened = AllZip-long IsOpened (handed_in see (reverse left)) rs opened ∙ length-map (reverse left) (λ h. given (see h)) ∙ length-reverse left
+
+-- ---- a script
 
 -- each refusal is known
 pub known-may : {A : Type 0} (expected : Result A Refusal) (e : ColumnarError) → MayRefuse expected e → IsKnown e
 known-may expected e (inl memory) = inl memory
 known-may expected e (inr (r, at, answer)) = inr (inr (r, answer))
-
-pub known-inputs : (ts : List Told) (e : ColumnarError) → RefusesInputs ts e → IsKnown e
-known-inputs ts e (inl memory) = inl memory
-known-inputs ts e (inr (inl fault)) = inr (inl fault)
-known-inputs ts e (inr (inr bad)) = inr (inr (invalid_data, bad.0))
-
--- what is made of read inputs
-pub if_read : {A B : Type 0} (IsOf : A → B → Type 0) (result : Result B ColumnarError) (expected : Result A Refusal) → Makes IsOf result expected → MakesIfRead IsOf result expected
-if_read IsOf (Ok b) expected h = record { ok = h.ok; refused = tt }
-if_read IsOf (Err e) expected h = record { ok = tt; refused = inr h.refused }
 
 -- no refusal of the definitions is a failed read
 no_fault : (r : Refusal) → answer_of r ≡ ReadFault → ⊥
@@ -161,54 +215,26 @@ pub known-fault : {A : Type 0} (expected : Result A Refusal) (e : ColumnarError)
 known-fault expected e (inl memory) fault = cc
 known-fault expected e (inr (r, at, answer)) fault = no_fault r (sym answer ∙ fault)
 
--- the script's part of a made thing
-pub make-made : {A : Type 0} (IsOf : List Find → Table → A → Type 0) (s : Script) (ts : List Told) (rs made all : List SeenReader) (tables : List Table) (required : List Required) (rows : Option (List (ℕ × ℕ))) (finds : List Find) (result : Result A ColumnarError) → each_ok segment_table s.segments ≡ Ok tables → AllZip IsOpened ts rs → AreFilesOf tables made → all ≡ rs ++ made → s.required ≡ required → s.order ≡ rows → s.finds ≡ finds → ((parts : List Part) → told_parts all ≡ Some parts → Makes (IsOf finds) result (merged parts required (order_over rows (row_counts parts)))) → IfSome (for_each (λ t. t) ts) (λ files. MakesIfRead (IsOf s.finds) result (script_table files s))
-make-made IsOf s ts rs made all tables required rows finds result segments opened are whole same_required same_rows same_finds makes = by (for_each (λ t. t) ts) refl
+-- a segment's refusal is that of the script
+pub segments-refused : {A : Type 0} (IsOf : Table → A → Type 0) (s : Script) (files : List (List ℕ)) (e : ColumnarError) → MayRefuse (each_ok segment_table s.segments) e → MakesIfRead {B = A} IsOf (Err e) (script_table files s)
+segments-refused IsOf s files e (inl memory) = record { ok = tt; refused = inr (inl memory) }
+segments-refused IsOf s files e (inr (r, at, answer)) = record { ok = tt; refused = inr (inr (r, rw at refl, answer)) }
+
+-- what inputs tell, by what is seen of them
+told-each : {H : Type 0} (content : H → Told) (size faults reads mark : H → ℕ) (hs : List H) → for_each (λ (f : SeenFile). f.told) (handed_in (seen_by content size faults reads mark) hs) ≡ for_each content hs
+told-each content size faults reads mark [] = refl
+told-each content size faults reads mark (h ∷ hs) = ap (λ o. option_and_then (λ y. option_and_then (λ ys. Some (y ∷ ys)) o) (content h)) (told-each content size faults reads mark hs)
+
+-- what a script comes to, where its segments have these files
+pub script-made : {H : Type 0} (content : H → Told) (size faults reads mark : H → ℕ) (olds : List H) (news : List SeenFile) (s : Script) (short : Bool) (finds : List Find) (files : List (List ℕ)) (required : List Required) (rows : Option (List (ℕ × ℕ))) (result : Result Made ColumnarError) → Makes (λ tables (fs : List (List ℕ)). AllZip StandsFor tables fs) (Ok files) (each_ok segment_table s.segments) → s.required ≡ required → s.order ≡ rows → s.finds ≡ finds → MergesInputs (IsMade short finds) (handed_in (seen_by content size faults reads mark) olds) news files required rows result → IfSome (for_each content olds) (λ inputs. MakesIfRead (IsMade short s.finds) result (script_table inputs s))
+script-made content size faults reads mark olds news s short finds files required rows result makes same_required same_rows same_finds merges = by makes.ok
   where
-    by : (o : Option (List (List ℕ))) → for_each (λ t. t) ts ≡ o → IfSome o (λ files. MakesIfRead (IsOf s.finds) result (script_table files s))
-    by None told = tt
-    by (Some files) told =
-        let p = all-parts ts rs made tables opened are in
-        let here = makes p.0 (ap told_parts whole ∙ p.1) in
-        let same = script-parts s ts files rs made tables p.0 segments told opened are p.1 in
-        rw (same, same_required, same_rows, same_finds) (if_read (IsOf finds) result _ here)
+    in_script : (tables : List Table) → each_ok segment_table s.segments ≡ Ok tables → (inputs : List (List ℕ)) → MakesIfRead (IsMade short finds) result (inputs_table inputs tables required rows) → MakesIfRead (IsMade short s.finds) result (script_table inputs s)
+    in_script tables segments inputs h = rw (segments, same_required, same_rows, same_finds) h
 
--- ---- a made thing, over inputs by what they tell
+    over : (o : Option (List (List ℕ))) (tables : List Table) → each_ok segment_table s.segments ≡ Ok tables → IfSome o (λ inputs. MakesIfRead (IsMade short finds) result (inputs_table inputs tables required rows)) → IfSome o (λ inputs. MakesIfRead (IsMade short s.finds) result (script_table inputs s))
+    over None tables segments h = tt
+    over (Some inputs) tables segments h = in_script tables segments inputs h
 
--- what inputs tell, as the lists of what each tells
-told-each : {H : Type 0} (content : H → Told) (hs : List H) → for_each (λ t. t) (map content hs) ≡ for_each content hs
-told-each content [] = refl
-told-each content (h ∷ hs) = ap (λ o. option_and_then (λ y. option_and_then (λ ys. Some (y ∷ ys)) o) (content h)) (told-each content hs)
-
--- an input that is no file, where the segments have files
-pub inputs-refused-made : {H A : Type 0} (IsOf : Table → A → Type 0) (content : H → Told) (hs : List H) (s : Script) (made : List SeenReader) (e : ColumnarError) → Makes (λ tables (rs : List SeenReader). AreFilesOf tables rs) (Ok made) (each_ok segment_table s.segments) → RefusesInputs (map content hs) e → IfSome (for_each content hs) (λ files. MakesIfRead {B = A} IsOf (Err e) (script_table files s))
-inputs-refused-made {A = A} IsOf content hs s made e makes refused = by makes.ok (for_each content hs) (told-each content hs)
-  where
-    by : ((tables : List Table) × (each_ok segment_table s.segments ≡ Ok tables) × AreFilesOf tables made) → (o : Option (List (List ℕ))) → for_each (λ t. t) (map content hs) ≡ o → IfSome o (λ files. MakesIfRead {B = A} IsOf (Err e) (script_table files s))
-    by (tables, segments, are) None told = tt
-    by (tables, segments, are) (Some files) told = inputs-refuse IsOf s (map content hs) files tables e segments told refused
-
--- a script's made thing, where the segments have files and the inputs are open
-pub make-over : {H A : Type 0} (IsOf : List Find → Table → A → Type 0) (content : H → Told) (hs : List H) (s : Script) (rs made all : List SeenReader) (required : List Required) (rows : Option (List (ℕ × ℕ))) (finds : List Find) (result : Result A ColumnarError) → Makes (λ tables (rs : List SeenReader). AreFilesOf tables rs) (Ok made) (each_ok segment_table s.segments) → AllZip IsOpened (map content hs) rs → all ≡ rs ++ made → s.required ≡ required → s.order ≡ rows → s.finds ≡ finds → ((parts : List Part) → told_parts all ≡ Some parts → Makes (IsOf finds) result (merged parts required (order_over rows (row_counts parts)))) → IfSome (for_each content hs) (λ files. MakesIfRead (IsOf s.finds) result (script_table files s))
-make-over IsOf content hs s rs made all required rows finds result makes opened whole same_required same_rows same_finds merges = by makes.ok
-  where
-    by : ((tables : List Table) × (each_ok segment_table s.segments ≡ Ok tables) × AreFilesOf tables made) → IfSome (for_each content hs) (λ files. MakesIfRead (IsOf s.finds) result (script_table files s))
-    by (tables, segments, are) = subst (λ o. IfSome o (λ files. MakesIfRead (IsOf s.finds) result (script_table files s))) (told-each content hs)
-        (make-made IsOf s (map content hs) rs made all tables required rows finds result segments opened are whole same_required same_rows same_finds merges)
-
--- what a merge of open files answers, whatever inputs tell
-merge-answers : {A : Type 0} (IsOf : Table → A → Type 0) (ts : List Told) (s : Script) (rs made all : List SeenReader) (expected : List Part → Result Table Refusal) (e : ColumnarError) → Makes (λ tables (rs : List SeenReader). AreFilesOf tables rs) (Ok made) (each_ok segment_table s.segments) → AllZip IsOpened ts rs → all ≡ rs ++ made → ((parts : List Part) → told_parts all ≡ Some parts → Makes {B = A} IsOf (Err e) (expected parts)) → (ps : List Part) × MayRefuse (expected ps) e
-merge-answers IsOf ts s rs made all expected e makes opened whole merges = by makes.ok
-  where
-    by : ((tables : List Table) × (each_ok segment_table s.segments ≡ Ok tables) × AreFilesOf tables made) → (ps : List Part) × MayRefuse (expected ps) e
-    by (tables, segments, are) = let p = all-parts ts rs made tables opened are in (p.0, (merges p.0 (ap told_parts whole ∙ p.1)).refused)
-
-pub merge-known : {A : Type 0} (IsOf : Table → A → Type 0) (ts : List Told) (s : Script) (rs made all : List SeenReader) (expected : List Part → Result Table Refusal) (result : Result A ColumnarError) → Makes (λ tables (rs : List SeenReader). AreFilesOf tables rs) (Ok made) (each_ok segment_table s.segments) → AllZip IsOpened ts rs → all ≡ rs ++ made → ((parts : List Part) → told_parts all ≡ Some parts → Makes IsOf result (expected parts)) → IfErr result IsKnown
-merge-known IsOf ts s rs made all expected (Ok a) makes opened whole merges = tt
-merge-known IsOf ts s rs made all expected (Err e) makes opened whole merges =
-    let p = merge-answers IsOf ts s rs made all expected e makes opened whole merges in known-may (expected p.0) e p.1
-
-pub merge-unfaulted : {A : Type 0} (IsOf : Table → A → Type 0) (ts : List Told) (s : Script) (rs made all : List SeenReader) (expected : List Part → Result Table Refusal) (result : Result A ColumnarError) → Makes (λ tables (rs : List SeenReader). AreFilesOf tables rs) (Ok made) (each_ok segment_table s.segments) → AllZip IsOpened ts rs → all ≡ rs ++ made → ((parts : List Part) → told_parts all ≡ Some parts → Makes IsOf result (expected parts)) → result ≡ Err ReadFault → ⊥
-merge-unfaulted IsOf ts s rs made all expected (Ok a) makes opened whole merges fault = cc
-merge-unfaulted IsOf ts s rs made all expected (Err e) makes opened whole merges fault =
-    let p = merge-answers IsOf ts s rs made all expected e makes opened whole merges in known-fault (expected p.0) e p.1 (same-error e ReadFault fault)
+    by : ((tables : List Table) × (each_ok segment_table s.segments ≡ Ok tables) × AllZip StandsFor tables files) → IfSome (for_each content olds) (λ inputs. MakesIfRead (IsMade short s.finds) result (script_table inputs s))
+    by (tables, segments, stand) = over (for_each content olds) tables segments (subst (λ o. IfSome o (λ inputs. MakesIfRead (IsMade short finds) result (inputs_table inputs tables required rows))) (told-each content size faults reads mark olds) (merges.made tables stand))

@@ -1,19 +1,21 @@
--- What a merge into memory makes, where its readers tell.
-use Rattle.std.proofs.Common.{◌≡◌, ℕ, List, [], Option, Some, Result, Ok, Err, IfSome, inl, inr, refl, ap}
+-- What a merge into memory makes of readers.
+use Rattle.std.proofs.Common.{◌≡◌, ◌⊎◌, ℕ, List, [], ◌++◌, Option, Some, Result, Ok, Err, IfSome, inl, inr, refl, sym, ap, ◌∙◌, subst, arith}
 use Rattle.std.proofs.lemmas.Option.{same_Some}
-use Rattle.col_common.specs.Outside.{SeenSink, in_memory}
+use Rattle.col_common.specs.Causes.{Rose}
+use Rattle.col_common.specs.Outside.{in_memory}
 use Rattle.col_common.specs.declared.error.ColumnarError.{ColumnarError}
 use Rattle.col_common.specs.declared.error.ColumnarError.TheVariants.{OutOfMemory, ReadFault, WriteFault, InvalidData, BadOrder, BadName, RequiredConflict, CannotCoerce, NumericalConflict, TooLarge, NoCodec, ForcedType, DocOrder, DocOutOfRange, TieBreakerStart, NotUtf8}
 use Rattle.col_file.specs.Readers.{SeenReader}
 use Rattle.col_merge.specs.Merges.{MergesFiles, AddsTable}
 use Rattle.col_merge.specs.Parts.{told_parts}
+use Rattle.col_merge.specs.Readings.{AllStay, SomeReaderRose}
 use Rattle.col_merge.specs.Turns.{RefusesMerge, RefusesParts, refusal_of}
 use Rattle.col_model.specs.File.{Part, StandsFor}
 use Rattle.col_model.specs.Refusal.{Refusal}
 use Rattle.col_model.specs.Table.{Table}
-use Rattle.col_record.specs.Answers.{answer_of, MayRefuse}
-use Rattle.col_made.specs.InMemory.{in_memory_alone}
-use Rattle.col_made.specs.Making.{Makes}
+use Rattle.col_record.specs.Answers.{answer_of}
+use Rattle.col_made.specs.Making.{MakesIfRead, MergesReaders}
+use Rattle.col_made.proofs.InputLemmas.{same-error}
 
 -- what is known of told parts is known of these
 on_parts : (o : Option (List Part)) (parts : List Part) (P : List Part → Type 0) → o ≡ Some parts → IfSome o P → P parts
@@ -38,31 +40,81 @@ answer-is DocOutOfRange r h = cc
 answer-is TieBreakerStart r h = cc
 answer-is NotUtf8 r h = cc
 
-refuses-parts : {A : Type 0} (rs : List SeenReader) (e : ColumnarError) (expected : List Part → Result A Refusal) (parts : List Part) → told_parts rs ≡ Some parts → RefusesParts rs e expected → MayRefuse (expected parts) e
-refuses-parts rs e expected parts told h = inr (h.refusal, on_parts (told_parts rs) parts (λ ps. expected ps ≡ Err h.refusal) told h.told, answer-is e h.refusal h.is)
+-- nothing in memory fails
+unfaulted : Rose 0 0 → ⊥
+unfaulted h = omega (arith, h)
 
--- why a merge of bytes in memory refuses
-pub refused-in_memory : {A : Type 0} (olds news : List SeenReader) (a b : SeenSink) (e : ColumnarError) (expected : List Part → Result A Refusal) (parts : List Part) → told_parts olds ≡ Some parts → RefusesMerge olds news a b e expected → MayRefuse (expected parts) (in_memory_alone e)
-refused-in_memory olds news a b OutOfMemory expected parts told h = inl refl
-refused-in_memory olds news a b ReadFault expected parts told h = inl refl
-refused-in_memory olds news a b WriteFault expected parts told h = inl refl
-refused-in_memory olds news a b InvalidData expected parts told h = refuses-parts olds InvalidData expected parts told h
-refused-in_memory olds news a b BadOrder expected parts told h = refuses-parts olds BadOrder expected parts told h
-refused-in_memory olds news a b BadName expected parts told h = refuses-parts olds BadName expected parts told h
-refused-in_memory olds news a b RequiredConflict expected parts told h = refuses-parts olds RequiredConflict expected parts told h
-refused-in_memory olds news a b CannotCoerce expected parts told h = refuses-parts olds CannotCoerce expected parts told h
-refused-in_memory olds news a b NumericalConflict expected parts told h = refuses-parts olds NumericalConflict expected parts told h
-refused-in_memory olds news a b TooLarge expected parts told h = refuses-parts olds TooLarge expected parts told h
-refused-in_memory olds news a b NoCodec expected parts told h = refuses-parts olds NoCodec expected parts told h
-refused-in_memory olds news a b ForcedType expected parts told h = refuses-parts olds ForcedType expected parts told h
-refused-in_memory olds news a b DocOrder expected parts told h = refuses-parts olds DocOrder expected parts told h
-refused-in_memory olds news a b DocOutOfRange expected parts told h = refuses-parts olds DocOutOfRange expected parts told h
-refused-in_memory olds news a b TieBreakerStart expected parts told h = refuses-parts olds TieBreakerStart expected parts told h
-refused-in_memory olds news a b NotUtf8 expected parts told h = refuses-parts olds NotUtf8 expected parts told h
+-- why a merge into memory refuses
+abbrev HasCause : {A : Type 0} → List SeenReader → List SeenReader → ColumnarError → (List Part → Result A Refusal) → Type 0
+HasCause olds news e expected = (e ≡ OutOfMemory) ⊎ (((e ≡ ReadFault) × SomeReaderRose olds news) ⊎ RefusesParts olds e expected)
+
+cause : {A : Type 0} (olds news : List SeenReader) (xs ys : List ℕ) (e : ColumnarError) (expected : List Part → Result A Refusal) → RefusesMerge olds news (in_memory xs) (in_memory ys) e expected → HasCause olds news e expected
+cause olds news xs ys OutOfMemory expected h = inl refl
+cause olds news xs ys ReadFault expected h = inr (inl (refl, h))
+cause olds news xs ys WriteFault expected h = absurd (unfaulted h)
+cause olds news xs ys InvalidData expected h = inr (inr h)
+cause olds news xs ys BadOrder expected h = inr (inr h)
+cause olds news xs ys BadName expected h = inr (inr h)
+cause olds news xs ys RequiredConflict expected h = inr (inr h)
+cause olds news xs ys CannotCoerce expected h = inr (inr h)
+cause olds news xs ys NumericalConflict expected h = inr (inr h)
+cause olds news xs ys TooLarge expected h = inr (inr h)
+cause olds news xs ys NoCodec expected h = inr (inr h)
+cause olds news xs ys ForcedType expected h = inr (inr h)
+cause olds news xs ys DocOrder expected h = inr (inr h)
+cause olds news xs ys DocOutOfRange expected h = inr (inr h)
+cause olds news xs ys TieBreakerStart expected h = inr (inr h)
+cause olds news xs ys NotUtf8 expected h = inr (inr h)
+
+-- a refusal that stands for one of the definitions is no failed read
+parts-no_fault : {A : Type 0} (olds : List SeenReader) (e : ColumnarError) (expected : List Part → Result A Refusal) → RefusesParts olds e expected → e ≡ ReadFault → ⊥
+parts-no_fault olds e expected h fault = by (sym (ap refusal_of fault) ∙ h.is)
+  where
+    by : refusal_of ReadFault ≡ Some h.refusal → ⊥
+    by s = cc
+
+-- want of memory
+pub readers-memory : {A B : Type 0} (IsOf : A → B → Type 0) (olds news : List SeenReader) (e : ColumnarError) (expected : List Part → Result A Refusal) → e ≡ OutOfMemory → AllStay olds news → MergesReaders IsOf olds news (Err e) expected
+readers-memory IsOf olds news e expected memory stay = record {
+  made = λ parts told. record { ok = tt; refused = inr (inl memory) };
+  known = inl memory;
+  read_fault = λ fault. absurd (by (sym memory ∙ same-error e ReadFault fault));
+  stay = stay;
+}
+  where
+    by : OutOfMemory ≡ ReadFault → ⊥
+    by s = cc
+
+-- a merge that refuses
+pub readers-refused : {A B : Type 0} (IsOf : A → B → Type 0) (olds news : List SeenReader) (xs ys : List ℕ) (e : ColumnarError) (expected : List Part → Result A Refusal) → RefusesMerge olds news (in_memory xs) (in_memory ys) e expected → AllStay olds news → MergesReaders IsOf olds news (Err e) expected
+readers-refused {A = A} {B = B} IsOf olds news xs ys e expected h stay = by (cause olds news xs ys e expected h)
+  where
+    by : HasCause olds news e expected → MergesReaders {A = A} {B = B} IsOf olds news (Err e) expected
+    by (inl memory) = readers-memory IsOf olds news e expected memory stay
+    by (inr (inl fault)) = record {
+      made = λ parts told. record { ok = tt; refused = inl fault.0 };
+      known = inr (inl fault.0);
+      read_fault = λ at. fault.1;
+      stay = stay;
+    }
+    by (inr (inr p)) = record {
+      made = λ parts told. record { ok = tt; refused = inr (inr (p.refusal, on_parts (told_parts olds) parts (λ ps. expected ps ≡ Err p.refusal) told p.told, answer-is e p.refusal p.is)) };
+      known = inr (inr (p.refusal, answer-is e p.refusal p.is));
+      read_fault = λ at. absurd (parts-no_fault olds e expected p (same-error e ReadFault at));
+      stay = stay;
+    }
 
 -- the bytes that a merge wrote are the file
-pub made-in_memory : (olds news : List SeenReader) (bytes : List ℕ) (expected : List Part → Result Table Refusal) (parts : List Part) → told_parts olds ≡ Some parts → MergesFiles olds news (in_memory []) (in_memory bytes) (Ok tt) expected → Makes StandsFor (Ok bytes) (expected parts)
-made-in_memory olds news bytes expected parts told h = by (on_parts (told_parts olds) parts (λ ps. AddsTable (in_memory []) (in_memory bytes) (expected ps)) told h)
+pub readers-made : (olds news : List SeenReader) (xs ys bytes : List ℕ) (done : Unit {0}) (expected : List Part → Result Table Refusal) → xs ≡ [] → bytes ≡ ys → MergesFiles olds news (in_memory xs) (in_memory ys) (Ok done) expected → AllStay olds news → MergesReaders StandsFor olds news (Ok bytes) expected
+readers-made olds news xs ys bytes done expected none same h stay = record {
+  made = λ parts told. by parts (on_parts (told_parts olds) parts (λ ps. AddsTable (in_memory xs) (in_memory ys) (expected ps)) told h);
+  known = tt;
+  read_fault = λ e. cc;
+  stay = stay;
+}
   where
-    by : AddsTable (in_memory []) (in_memory bytes) (expected parts) → Makes StandsFor (Ok bytes) (expected parts)
-    by adds = record { ok = (adds.table, adds.is, rw (same_Some bytes adds.file adds.added) adds.stands); refused = tt }
+    by : (parts : List Part) → AddsTable (in_memory xs) (in_memory ys) (expected parts) → MakesIfRead StandsFor (Ok bytes) (expected parts)
+    by parts adds = record {
+      ok = (adds.table, adds.is, subst (StandsFor adds.table) (sym (same ∙ same_Some ys (xs ++ adds.file) adds.added ∙ ap (λ zs. zs ++ adds.file) none)) adds.stands);
+      refused = tt;
+    }

@@ -1,11 +1,12 @@
 -- What a merge of open files comes to.
-use Rattle.std.proofs.Common.{◌≡◌, ◌≤◌, ◌^◌, ℕ, List, [], ◌∷◌, map, length, Option, Some, None, Ok, Err, IfSome, Bool, inl, inr, refl, sym, ap, ap₂, ◌∙◌, subst}
+use Rattle.std.proofs.Common.{◌≡◌, ◌⊎◌, ◌≤◌, ◌^◌, ℕ, List, [], ◌∷◌, map, length, Option, Some, None, Ok, Err, IfSome, Bool, inl, inr, refl, sym, ap, ap₂, ◌∙◌, subst}
 use Rattle.std.specs.List.{AllByRecursion}
 use Rattle.std.proofs.lemmas.Bool.{le-leb}
 use Rattle.std.proofs.lemmas.Option.{same_Some}
 use Rattle.col_common.specs.Outside.{Told}
 use Rattle.col_common.specs.Reading.{◌>>=◌}
 use Rattle.col_common.specs.declared.error.ColumnarError.{ColumnarError}
+use Rattle.col_common.specs.declared.error.ColumnarError.TheVariants.{OutOfMemory, ReadFault, BadOrder, TooLarge}
 use Rattle.col_file.specs.Readers.{SeenReader, IsRead}
 use Rattle.col_merge.specs.Parts.{told_part, told_parts}
 use Rattle.col_model.specs.File.{Part, parts_of, part_column, StandsFor, table_of}
@@ -19,7 +20,9 @@ use Rattle.col_model.specs.Script.{Find}
 use Rattle.col_model.specs.Table.{Table}
 use Rattle.col_record.specs.Answers.{MayRefuse}
 use Rattle.col_made.specs.Inputs.{rows_in}
-use Rattle.col_made.specs.Making.{Makes, IsMade}
+use Rattle.col_made.specs.Making.{MakesIfRead, MergesReaders, IsKnown, IsMade}
+use Rattle.col_made.proofs.InputLemmas.{same-error}
+use Rattle.col_made.proofs.StayLemmas.{all_stay-none}
 use Rattle.col_made.specs.Ordered.{IsOrder}
 use Rattle.col_made.specs.declared.made.Made.{Made}
 
@@ -54,26 +57,60 @@ merged-many : (parts : List Part) (required : List Required) (order : Order) (pi
 unfolding merged
 merged-many parts required order picked some many = rw (some, le-leb (2 ^ 32) (length picked) many) refl
 
-pub order-refused : {B : Type 0} (IsOf : Table → B → Type 0) (rs : List SeenReader) (parts : List Part) (required : List Required) (rows : Option (List (ℕ × ℕ))) (e : ColumnarError) → AllByRecursion IsRead rs → told_parts rs ≡ Some parts → IsOrder rows (map rows_in rs) (Err e) → Makes {B = B} IsOf (Err e) (merged parts required (order_over rows (row_counts parts)))
-order-refused IsOf rs parts required rows e read told h = record { ok = tt; refused = by (subst (λ counts. IsOrder rows counts (Err e)) (counts-are rs parts read told) h) }
+memory_no_fault : OutOfMemory ≡ ReadFault → ⊥
+memory_no_fault h = cc
+
+bad_no_fault : BadOrder ≡ ReadFault → ⊥
+bad_no_fault h = cc
+
+large_no_fault : TooLarge ≡ ReadFault → ⊥
+large_no_fault h = cc
+
+pub order-refused : {B : Type 0} (IsOf : Table → B → Type 0) (rs : List SeenReader) (required : List Required) (rows : Option (List (ℕ × ℕ))) (e : ColumnarError) → AllByRecursion IsRead rs → IsOrder rows (map rows_in rs) (Err e) → MergesReaders {B = B} IsOf rs rs (Err e) (λ parts. merged parts required (order_over rows (row_counts parts)))
+order-refused {B = B} IsOf rs required rows e read h = record {
+  made = λ parts told. record { ok = tt; refused = inr (by parts (subst (λ counts. IsOrder rows counts (Err e)) (counts-are rs parts read told) h)) };
+  known = known h;
+  read_fault = λ fault. absurd (no_fault h (same-error e ReadFault fault));
+  stay = all_stay-none rs;
+}
   where
-    by : IsOrder rows (row_counts parts) (Err e) → MayRefuse (merged parts required (order_over rows (row_counts parts))) e
-    by (inl memory) = inl memory
-    by (inr (inl bad)) = inr (bad_order, merged-bad parts required (order_over rows (row_counts parts)) bad.1, bad.0)
-    by (inr (inr large)) = inr (too_large, merged-many parts required (order_over rows (row_counts parts)) large.1.picked large.1.are large.1.many, large.0)
+    by : (parts : List Part) → IsOrder rows (row_counts parts) (Err e) → MayRefuse (merged parts required (order_over rows (row_counts parts))) e
+    by parts (inl memory) = inl memory
+    by parts (inr (inl bad)) = inr (bad_order, merged-bad parts required (order_over rows (row_counts parts)) bad.1, bad.0)
+    by parts (inr (inr large)) = inr (too_large, merged-many parts required (order_over rows (row_counts parts)) large.1.picked large.1.are large.1.many, large.0)
+
+    known : IsOrder rows (map rows_in rs) (Err e) → IsKnown e
+    known (inl memory) = inl memory
+    known (inr (inl bad)) = inr (inr (bad_order, bad.0))
+    known (inr (inr large)) = inr (inr (too_large, large.0))
+
+    no_fault : IsOrder rows (map rows_in rs) (Err e) → e ≡ ReadFault → ⊥
+    no_fault (inl memory) fault = memory_no_fault (sym memory ∙ fault)
+    no_fault (inr (inl bad)) fault = bad_no_fault (sym bad.0 ∙ fault)
+    no_fault (inr (inr large)) fault = large_no_fault (sym large.0 ∙ fault)
 
 -- the order that a merge takes
 same-order : (rs : List SeenReader) (parts : List Part) (rows : Option (List (ℕ × ℕ))) (order : Order) → AllByRecursion IsRead rs → told_parts rs ≡ Some parts → order ≡ order_over rows (map rows_in rs) → order ≡ order_over rows (row_counts parts)
 same-order rs parts rows order read told is = is ∙ ap (order_over rows) (counts-are rs parts read told)
 
-pub file-refused : {B : Type 0} (IsOf : Table → B → Type 0) (rs : List SeenReader) (parts : List Part) (required : List Required) (rows : Option (List (ℕ × ℕ))) (order : Order) (e : ColumnarError) → AllByRecursion IsRead rs → told_parts rs ≡ Some parts → order ≡ order_over rows (map rows_in rs) → Makes {B = List ℕ} StandsFor (Err e) (merged parts required order) → Makes {B = B} IsOf (Err e) (merged parts required (order_over rows (row_counts parts)))
-file-refused IsOf rs parts required rows order e read told is h = record { ok = tt; refused = subst (λ o. MayRefuse (merged parts required o) e) (same-order rs parts rows order read told is) h.refused }
+pub file-refused : {B : Type 0} (IsOf : Table → B → Type 0) (rs ss : List SeenReader) (required : List Required) (rows : Option (List (ℕ × ℕ))) (order : Order) (e : ColumnarError) → AllByRecursion IsRead rs → order ≡ order_over rows (map rows_in rs) → MergesReaders {B = List ℕ} StandsFor rs ss (Err e) (λ parts. merged parts required order) → MergesReaders {B = B} IsOf rs ss (Err e) (λ parts. merged parts required (order_over rows (row_counts parts)))
+file-refused IsOf rs ss required rows order e read is h = record {
+  made = λ parts told. record { ok = tt; refused = subst (λ o. (e ≡ ReadFault) ⊎ MayRefuse (merged parts required o) e) (same-order rs parts rows order read told is) (h.made parts told).refused };
+  known = h.known;
+  read_fault = λ fault. h.read_fault (ap Err (same-error e ReadFault fault));
+  stay = h.stay;
+}
 
-pub all-made : (short : Bool) (finds : List Find) (rs : List SeenReader) (parts : List Part) (required : List Required) (rows : Option (List (ℕ × ℕ))) (order : Order) (made : Made) → AllByRecursion IsRead rs → told_parts rs ≡ Some parts → order ≡ order_over rows (map rows_in rs) → Makes StandsFor (Ok made.file) (merged parts required order) → ((t : Table) → table_of made.file ≡ Some t → made.report.items ≡ report_of t finds short) → Makes (IsMade short finds) (Ok made) (merged parts required (order_over rows (row_counts parts)))
-all-made short finds rs parts required rows order made read told is h reported = by h.ok
+pub all-made : (short : Bool) (finds : List Find) (rs ss : List SeenReader) (required : List Required) (rows : Option (List (ℕ × ℕ))) (order : Order) (made : Made) → AllByRecursion IsRead rs → order ≡ order_over rows (map rows_in rs) → MergesReaders StandsFor rs ss (Ok made.file) (λ parts. merged parts required order) → ((t : Table) → table_of made.file ≡ Some t → made.report.items ≡ report_of t finds short) → MergesReaders (IsMade short finds) rs ss (Ok made) (λ parts. merged parts required (order_over rows (row_counts parts)))
+all-made short finds rs ss required rows order made read is h reported = record {
+  made = λ parts told. by parts told (h.made parts told).ok;
+  known = tt;
+  read_fault = λ e. cc;
+  stay = h.stay;
+}
   where
-    by : ((t : Table) × (merged parts required order ≡ Ok t) × StandsFor t made.file) → Makes (IsMade short finds) (Ok made) (merged parts required (order_over rows (row_counts parts)))
-    by (t, at, stands) = record {
+    by : (parts : List Part) → told_parts rs ≡ Some parts → ((t : Table) × (merged parts required order ≡ Ok t) × StandsFor t made.file) → MakesIfRead (IsMade short finds) (Ok made) (merged parts required (order_over rows (row_counts parts)))
+    by parts told (t, at, stands) = record {
       ok = (t, ap (merged parts required) (sym (same-order rs parts rows order read told is)) ∙ at, (stands, reported t stands.content));
       refused = tt;
     }

@@ -30,19 +30,12 @@ whole-table p t e = by (for_each whole_column p.columns) refl e
     by (Some cs) rest h = (λ i. record { row_count = p.row_count; columns = whole-columns p.columns cs rest i }) ∙ ap part_of_table (same_Some (record { row_count = p.row_count; columns = cs }) t h)
 
 -- the part of a file that stands for a table
-whole-part : (bytes : List ℕ) (t : Table) → table_of bytes ≡ Some t → parts_of bytes ≡ Some (part_of_table t)
+pub whole-part : (bytes : List ℕ) (t : Table) → table_of bytes ≡ Some t → parts_of bytes ≡ Some (part_of_table t)
 whole-part bytes t = by (parts_of bytes)
   where
     by : (o : Option Part) → (o >>= table_of_part) ≡ Some t → o ≡ Some (part_of_table t)
     by None h = cc
     by (Some p) h = ap Some (whole-table p t h)
-
--- a file that was written is opened with the part that its table is
-pub file-opened : (expected : Result Table Refusal) (bytes : List ℕ) (r : SeenReader) → Makes StandsFor (Ok bytes) expected → IsOpenedFrom bytes (Ok r) → Makes IsFileOf (Ok r) expected
-file-opened expected bytes r h opened = by h.ok
-  where
-    by : ((t : Table) × (expected ≡ Ok t) × StandsFor t bytes) → Makes IsFileOf (Ok r) expected
-    by (t, at, stands) = record { ok = (t, at, ap (λ o. o >>= parts_of) opened.0 ∙ whole-part bytes t stands.content); refused = tt }
 
 -- the first item of a list, and the others
 abbrev head_or : {C : Type 0} → C → List C → C

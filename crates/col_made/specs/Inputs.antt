@@ -1,11 +1,12 @@
--- Inputs that are read and opened.
-use Rattle.std.specs.Prelude.{◌≡◌, ◌⊎◌, ◌≤◌, ℕ, Bool, true, false, List, Some, is_none, Result, Ok, Err, IfSome}
-use Rattle.std.specs.List.{list_any}
-use Rattle.col_common.specs.Outside.{Told}
+-- Inputs that are opened.
+use Rattle.std.specs.Prelude.{◌≡◌, ◌⊎◌, ℕ, Bool, true, false, List, ◌++◌, Some, is_none, Result, Ok, Err, IfOk, IfErr, IfSome}
+use Rattle.std.specs.List.{AllZip, list_any}
 use Rattle.col_common.specs.declared.error.ColumnarError.{ColumnarError}
 use Rattle.col_common.specs.declared.error.ColumnarError.TheVariants.{OutOfMemory, ReadFault, InvalidData}
 use Rattle.col_model.specs.File.{parts_of, for_each}
+use Rattle.col_file.specs.Files.{SeenFile}
 use Rattle.col_file.specs.Readers.{SeenReader}
+use Rattle.col_made.specs.Parts.{Keeps, AllKeep, SomeFileRose}
 
 -- the bytes are no file
 abbrev pub is_no_file : List ℕ → Bool
@@ -17,29 +18,29 @@ IsOpenedFrom bytes (Ok r) = (r.file.told ≡ Some bytes) × (is_no_file bytes �
 IsOpenedFrom bytes (Err e) =
     (e ≡ OutOfMemory) ⊎ ((e ≡ InvalidData) × (is_no_file bytes ≡ true))
 
--- a reader of a file, which is what an input tells
-pub record IsOpened (told : Told) (r : SeenReader) : Type 0 where
-  pub file : List ℕ
-  pub has : r.file.told ≡ Some file
-  pub whole : is_no_file file ≡ false
-  pub same : IfSome told (λ bytes. bytes ≡ file)
+-- a reader of a file, which is what the file tells
+pub record IsOpened (f : SeenFile) (r : SeenReader) : Type 0 where
+  pub kept : Keeps f r.file
+  pub whole : IfSome f.told (λ bytes. is_no_file bytes ≡ false)
 
--- an input tells what it told, and its count of faults may have risen
-pub record IsKept (told told' : Told) (size size' faults faults' : ℕ) : Type 0 where
-  pub content : told' ≡ told
-  pub size_is : size' ≡ size
-  pub later : faults ≤ faults'
+-- Why files aren't all opened: InvalidData says that one is no file.
+abbrev pub RefusesInputs : List SeenFile → ColumnarError → Type 0
+RefusesInputs fs e = (e ≡ OutOfMemory) ⊎ ((e ≡ ReadFault) ⊎ ((e ≡ InvalidData)
+    × IfSome (for_each (λ f. f.told) fs) (λ files. list_any is_no_file files ≡ true)))
 
--- A reader of what an input tells, or why there is none.
-abbrev pub IsRead : Told → Result SeenReader ColumnarError → Type 0
-IsRead told (Ok r) = IsOpened told r
-IsRead told (Err e) = (e ≡ OutOfMemory) ⊎ ((e ≡ ReadFault)
-    ⊎ ((e ≡ InvalidData) × IfSome told (λ bytes. is_no_file bytes ≡ true)))
+-- Files were opened in order; or one refused, and all are held still.
+pub record OpensInputs (fs : List SeenFile) (result : Result (Unit {0}) ColumnarError)
+    (rs : List SeenReader) (held : List SeenFile) : Type 0 where
+  pub opened : IfOk result (λ done. AllZip IsOpened fs rs)
+  pub refused : IfErr result (RefusesInputs fs)
+  pub read_fault : result ≡ Err ReadFault → SomeFileRose fs held
+  pub kept : AllKeep fs held
 
--- Why inputs aren't all read: InvalidData says that one is no file.
-abbrev pub RefusesInputs : List Told → ColumnarError → Type 0
-RefusesInputs told e = (e ≡ OutOfMemory) ⊎ ((e ≡ ReadFault) ⊎ ((e ≡ InvalidData)
-    × IfSome (for_each (λ t. t) told) (λ files. list_any is_no_file files ≡ true)))
+-- files with these bytes were opened behind others
+pub record OpensFiles (files : List (List ℕ)) (olds news : List SeenReader) : Type 0 where
+  pub made : List SeenReader
+  pub behind : news ≡ olds ++ made
+  pub told : AllZip (λ bytes (r : SeenReader). r.file.told ≡ Some bytes) files made
 
 -- how many rows a file has
 abbrev pub rows_in : SeenReader → ℕ

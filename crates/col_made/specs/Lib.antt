@@ -1,3 +1,4 @@
+pub mod Parts
 pub mod HandedBack
 pub mod InMemory
 pub mod Inputs

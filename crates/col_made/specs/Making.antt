@@ -1,16 +1,21 @@
 -- What is made, or refused, in place of what is expected.
-use Rattle.std.specs.Prelude.{◌≡◌, ◌⊎◌, Bool, List, Some, Result, Ok, IfOk, IfErr}
+use Rattle.std.specs.Prelude.{◌≡◌, ◌⊎◌, ℕ, Bool, List, ◌++◌, map, Option, Some, Result, Ok, Err, IfOk, IfErr, IfSome}
 use Rattle.std.specs.List.{AllZip}
 use Rattle.col_common.specs.declared.error.ColumnarError.{ColumnarError}
 use Rattle.col_common.specs.declared.error.ColumnarError.TheVariants.{OutOfMemory, ReadFault}
-use Rattle.col_model.specs.File.{StandsFor, part_of_table}
-use Rattle.col_model.specs.Refusal.{Refusal}
+use Rattle.col_model.specs.File.{Part, StandsFor, part_of_table, parts_of, for_each}
+use Rattle.col_model.specs.Merge.{Required, merged, row_counts}
+use Rattle.col_model.specs.Outcome.{order_over}
+use Rattle.col_model.specs.Refusal.{Refusal, ◌>>=◌, or_refuse, each_ok, invalid_data}
 use Rattle.col_model.specs.Report.{report_of}
 use Rattle.col_model.specs.Script.{Find}
 use Rattle.col_model.specs.Table.{Table}
 use Rattle.col_record.specs.Answers.{answer_of, MayRefuse}
+use Rattle.col_file.specs.Files.{SeenFile}
 use Rattle.col_file.specs.Readers.{SeenReader}
-use Rattle.col_merge.specs.Parts.{told_part}
+use Rattle.col_merge.specs.Parts.{told_part, told_parts}
+use Rattle.col_merge.specs.Readings.{AllStay, SomeReaderRose}
+use Rattle.col_made.specs.Parts.{AllKeep, SomeFileRose}
 use Rattle.col_made.specs.declared.made.Made.{Made}
 
 -- What was made is of what is expected; or the refusal is the one that is expected, or want of
@@ -42,3 +47,33 @@ AreFilesOf tables rs = AllZip IsFileOf tables rs
 abbrev pub IsMade : Bool → List Find → Table → Made → Type 0
 IsMade short finds t made =
     StandsFor t made.file × (made.report.items ≡ report_of t finds short)
+
+-- What open files merge to. Where they tell their parts, what is made is of what is expected of
+-- these; each refusal is known, and ReadFault comes where some file's count of faults rose.
+pub record MergesReaders {A B : Type 0} (IsOf : A → B → Type 0) (olds news : List SeenReader)
+    (result : Result B ColumnarError) (expected : List Part → Result A Refusal) : Type 0 where
+  pub made : (parts : List Part) → told_parts olds ≡ Some parts →
+      MakesIfRead IsOf result (expected parts)
+  pub known : IfErr result IsKnown
+  pub read_fault : result ≡ Err ReadFault → SomeReaderRose olds news
+  pub stay : AllStay olds news
+
+-- the merged table of inputs and, behind them, of tables, by the rows that are named, or all
+abbrev pub inputs_table : List (List ℕ) → List Table → List Required → Option (List (ℕ × ℕ)) →
+    Result Table Refusal
+inputs_table inputs tables required rows = do
+  parts ← each_ok (λ bytes. or_refuse (parts_of bytes) invalid_data) inputs
+  let all = parts ++ map part_of_table tables
+  merged all required (order_over rows (row_counts all))
+
+-- What inputs, and files behind them, merge to. Where the inputs tell their bytes, and the files
+-- stand for tables, what is made is of the merged table of all.
+pub record MergesInputs (IsOf : Table → Made → Type 0) (olds news : List SeenFile)
+    (files : List (List ℕ)) (required : List Required) (rows : Option (List (ℕ × ℕ)))
+    (result : Result Made ColumnarError) : Type 0 where
+  pub made : (tables : List Table) → AllZip StandsFor tables files →
+      IfSome (for_each (λ f. f.told) olds) (λ inputs.
+      MakesIfRead IsOf result (inputs_table inputs tables required rows))
+  pub known : IfErr result IsKnown
+  pub read_fault : result ≡ Err ReadFault → SomeFileRose olds news
+  pub kept : AllKeep olds news

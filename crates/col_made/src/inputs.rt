@@ -1,65 +1,98 @@
-//! The inputs of a run, which are read whole.
-ghost use Rattle.std.specs.Prelude.{◌≡◌, map, IfOk, IfErr, IfSome, Err};
-ghost use Rattle.std.specs.List.{AllZip};
-ghost use Rattle.col_common.specs.Causes.{HasReadCause, Rose};
-ghost use Rattle.col_made.specs.Inputs.{IsOpenedFrom, IsOpened, IsKept, IsRead, RefusesInputs, rows_in};
-ghost use Rattle.col_made.specs.HandedBack.{HandedBack, SomeRose};
+//! The inputs of a run, and files in memory, as open files.
+ghost use Rattle.std.specs.Prelude.{◌≡◌, ◌≤◌, ◌+◌, [], ◌∷◌, map, length, reverse, vec_len, vec_capacity, IfOk};
+ghost use Rattle.std.specs.List.{AllByRecursion};
+ghost use Rattle.col_file.specs.Files.{seen_by};
+ghost use Rattle.col_made.specs.Inputs.{IsOpenedFrom, OpensFiles, OpensInputs, rows_in};
+ghost use Rattle.col_made.specs.Parts.{files_in, given_in, handed_in, held, part_seen, IsUnfailed};
 
 use crate::in_memory::in_memory_alone;
+use crate::part::{Part, hand_back_one};
 use bytes::Bytes;
-use col_common::{ColumnarError, FileHandle, HandleError, MemHandle, RowId};
+use col_common::{ColumnarError, FileHandle, MemHandle, RowId};
 use col_file::ColumnarReader;
 use std::alloc::{AllocError, Global};
 
 /// A file in memory that is open.
 pub type Reader = ColumnarReader<MemHandle>;
 
-/// Reads inputs, and opens what was read, in order. It answers InvalidData where an input is no
-/// file.
+/// Opens the inputs that are left, the last one first. It answers InvalidData where one is no
+/// file; that one, and those behind it, are left then.
 pub fn open_inputs<H: FileHandle>(
     alloc: Global,
-    inputs: &mut [H],
-) -> Result<Vec<Reader>, ColumnarError>
-    ensures opened { IfOk result (λ readers.
-        AllZip IsOpened (map H.content inputs.old) readers.items) }
-    ensures refused { IfErr result (RefusesInputs (map H.content inputs.old)) }
-    ensures read_fault { result ≡ Err ColumnarError.ReadFault
-        → SomeRose (map H.faults inputs.old) (map H.faults inputs.new) }
-    ensures handles { HandedBack H.content H.size H.faults inputs.old inputs.new }
+    left: &mut Vec<H>,
+    readers: &mut Vec<ColumnarReader<Part<H>>>,
+) -> Result<(), ColumnarError>
+    requires none { readers.old.items ≡ [] }
+    requires room { vec_len left.old ≤ vec_capacity readers.old }
+    ensures opens { OpensInputs
+        (handed_in (seen_by H.content H.size H.faults H.reads H.mark) (reverse left.old.items))
+        result readers.new.items
+        (held (seen_by H.content H.size H.faults H.reads H.mark) readers.new.items left.new.items) }
+    ensures len { IfOk result (λ _. vec_len left.new ≡ 0) }
+    ensures left_room { vec_capacity left.new ≡ vec_capacity left.old }
+    ensures room { vec_capacity readers.new ≡ vec_capacity readers.old }
 {
-    let mut readers = Vec::new(alloc);
-    for place in 0..inputs.len() {
-        let reader = open_input(alloc, &mut inputs[place])?;
-        readers.push(reader)?;
+    while let Some(input) = left.pop() {
+        match ColumnarReader::open(alloc, Part::Given(input)) {
+            Ok(reader) => readers.push_reserved(reader),
+            Err((file, error)) => {
+                hand_back_one(file, left);
+                return Err(error);
+            }
+        }
     }
-    Ok(readers)
+    Ok(())
 }
 
-// Reads an input, and opens what was read.
-fn open_input<H: FileHandle>(alloc: Global, input: &mut H) -> Result<Reader, ColumnarError>
-    ensures read { IsRead (H.content input.old) result }
-    ensures cause { result ≡ Err ColumnarError.ReadFault
-        → Rose (H.faults input.old) (H.faults input.new) }
-    ensures kept { IsKept (H.content input.old) (H.content input.new) (H.size input.old)
-        (H.size input.new) (H.faults input.old) (H.faults input.new) }
+/// Opens files that were made.
+pub fn open_files<H: FileHandle>(
+    alloc: Global,
+    files: &[Bytes],
+    readers: &mut Vec<ColumnarReader<Part<H>>>,
+) -> Result<(), AllocError>
+    requires { vec_len readers.old + length files.now ≤ vec_capacity readers.old }
+    ensures opened { IfOk result (λ _. OpensFiles files.now readers.old.items readers.new.items) }
+    ensures given { given_in (files_in readers.new.items) ≡ given_in (files_in readers.old.items) }
 {
-    let bytes = read_whole(alloc, input)?;
-    open_file(alloc, bytes)
+    for place in 0..files.len() {
+        let file = Part::Made(MemHandle::new(files[place].clone()?, Vec::new(alloc)));
+        match ColumnarReader::open(alloc, file) {
+            Ok(reader) => readers.push_reserved(reader),
+            // What was written is a file, so that memory alone is wanting.
+            Err((file, _)) => {
+                let_go(file);
+                return Err(AllocError);
+            }
+        }
+    }
+    Ok(())
 }
 
-// The bytes of an input.
-fn read_whole<H: FileHandle>(alloc: Global, input: &mut H) -> Result<Bytes, ColumnarError>
-    ensures bytes { IfOk result (λ bytes. IfSome (H.content input.old) (λ all. all ≡ bytes)) }
-    ensures cause { HasReadCause (H.faults input.old) (H.faults input.new) result }
-    ensures content { H.content input.new ≡ H.content input.old }
-    ensures size { H.size input.new ≡ H.size input.old }
+// Lets a made file go.
+fn let_go<H: FileHandle>(file: Part<H>)
+    requires { given_in (part_seen H.content H.size H.faults H.reads H.mark file ∷ []) ≡ [] }
 {
-    let len = input.len();
-    match input.read(alloc, 0, len) {
-        Ok(bytes) => Ok(bytes),
-        Err(HandleError::Failed) => Err(ColumnarError::ReadFault),
-        Err(HandleError::Memory) => Err(ColumnarError::OutOfMemory),
+    match file {
+        Part::Given(_) => unreachable!(),
+        Part::Made(file) => drop(file),
     }
+}
+
+/// Takes readers apart, and puts the files that were handed in back, in their order, in front of
+/// those that are left.
+pub fn hand_back<H: FileHandle>(readers: Vec<ColumnarReader<Part<H>>>, left: &mut Vec<H>)
+    requires { length (given_in (files_in readers.items)) + vec_len left.old
+        ≤ vec_capacity left.old }
+    ensures handed { handed_in (seen_by H.content H.size H.faults H.reads H.mark) left.new.items
+        ≡ held (seen_by H.content H.size H.faults H.reads H.mark) readers.items left.old.items }
+    ensures unfailed { AllByRecursion IsUnfailed (files_in readers.items) }
+{
+    let mut readers = readers;
+    while let Some(reader) = readers.pop() {
+        hand_back_one(reader.into_file(), left);
+    }
+    readers.destroy_empty();
+    left.reverse();
 }
 
 /// Opens a file in memory.
@@ -74,7 +107,10 @@ pub fn open_file(alloc: Global, bytes: Bytes) -> Result<Reader, ColumnarError>
 }
 
 /// How many rows each file has.
-pub fn row_counts(alloc: Global, readers: &[Reader]) -> Result<Vec<RowId>, AllocError>
+pub fn row_counts<F: FileHandle>(
+    alloc: Global,
+    readers: &[ColumnarReader<F>],
+) -> Result<Vec<RowId>, AllocError>
     ensures { IfOk result (λ counts. counts.items ≡ map rows_in readers.now) }
 {
     let mut counts = Vec::new(alloc);

@@ -6,6 +6,8 @@ mod in_memory;
 mod inputs;
 mod made;
 mod order;
+mod part;
 mod segments;
 
 pub use made::{Made, make};
+pub use part::Part;

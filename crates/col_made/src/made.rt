@@ -1,27 +1,29 @@
 //! The merged file of a script and its inputs, and the report on it.
-ghost use Rattle.std.specs.Prelude.{◌≡◌, map, List, Some, Err, IfOk, IfErr, IfSome, option_map};
-ghost use Rattle.col_model.specs.File.{Part, StandsFor, table_of, for_each};
+ghost use Rattle.std.specs.Prelude.{◌≡◌, ◌≤◌, ◌+◌, [], map, length, reverse, vec_len, vec_capacity, Some, Err, IfOk, IfErr, IfSome, option_map};
+ghost use Rattle.std.specs.List.{AllByRecursion};
+ghost use Rattle.col_file.specs.Files.{seen_by};
+ghost use Rattle.col_model.specs.File.{StandsFor, table_of, for_each};
 ghost use Rattle.col_model.specs.Merge.{merged, row_counts};
 ghost use Rattle.col_model.specs.Outcome.{order_over, script_table};
 ghost use Rattle.col_model.specs.Report.{report_of};
 ghost use Rattle.col_model.specs.Script as model;
 ghost use Rattle.col_find.specs.Finds.{find_of};
-ghost use Rattle.col_merge.specs.Parts.{told_parts};
 ghost use Rattle.col_slots.specs.Slots.{required_of};
 ghost use Rattle.col_model.specs.Table.{Table};
 ghost use Rattle.col_order.specs.Orders.{address_of};
 ghost use Rattle.col_order.specs.RowOrders.{order_of};
 ghost use Rattle.col_script.specs.Scripts.{IsScript};
-ghost use Rattle.col_made.specs.Making.{Makes, MakesIfRead, IsMade, IsKnown};
+ghost use Rattle.col_made.specs.Making.{MakesIfRead, MergesInputs, MergesReaders, IsMade, IsKnown};
 ghost use Rattle.col_made.specs.HandedBack.{HandedBack, SomeRose};
+ghost use Rattle.col_made.specs.Parts.{files_in, handed_in, held, AllKeep, IsUnfailed};
 
-use crate::in_memory::in_memory_alone;
-use crate::inputs::{Reader, open_file, open_inputs, row_counts};
+use crate::inputs::{hand_back, open_file, open_files, open_inputs, row_counts};
 use crate::order::merge_row_order;
+use crate::part::Part;
 use crate::segments::segment_files;
 use bytes::Bytes;
 use col_common::{Buffer, ColumnarError, FileHandle, RowAddr};
-use col_file::files_are_read;
+use col_file::{ColumnarReader, files_are_read};
 use col_find::Find;
 use col_merge::merge_columnar;
 use col_order::MergeRowOrder;
@@ -38,20 +40,23 @@ pub struct Made {
 }
 
 /// Merges inputs, and behind them the segments of a script, and reports on what the merged file
-/// says. A short report has no rows, and counts what lookups find.
+/// says. A short report has no rows, and counts what lookups find. The inputs are handed back in
+/// order.
 pub fn make<H: FileHandle>(
     alloc: Global,
     script: Script,
-    inputs: &mut [H],
+    inputs: &mut Vec<H>,
     short: bool,
 ) -> Result<Made, ColumnarError>
     ensures made { (s : model.Script) → IsScript s script →
-        IfSome (for_each H.content inputs.old) (λ files.
+        IfSome (for_each H.content inputs.old.items) (λ files.
         MakesIfRead (IsMade short s.finds) result (script_table files s)) }
     ensures known { (s : model.Script) → IsScript s script → IfErr result IsKnown }
-    ensures read_fault { (s : model.Script) → IsScript s script → result ≡ Err ColumnarError.ReadFault
-        → SomeRose (map H.faults inputs.old) (map H.faults inputs.new) }
-    ensures handles { HandedBack H.content H.size H.faults inputs.old inputs.new }
+    ensures read_fault { (s : model.Script) → IsScript s script
+        → result ≡ Err ColumnarError.ReadFault
+        → SomeRose (map H.faults inputs.old.items) (map H.faults inputs.new.items) }
+    ensures handles { HandedBack H.content H.size H.faults inputs.old.items inputs.new.items }
+    ensures marks { map H.mark inputs.new.items ≡ map H.mark inputs.old.items }
 {
     let Script {
         segments,
@@ -59,26 +64,88 @@ pub fn make<H: FileHandle>(
         order,
         finds,
     } = script;
-    let mut made = segment_files(alloc, &segments)?;
+    let files = segment_files(alloc, &segments)?;
     drop(segments);
-    let mut readers = open_inputs(alloc, inputs)?;
-    readers.append(&mut made)?;
-    merge_readers(alloc, &mut readers, &required, order, &finds, short)
+    merge_inputs(alloc, inputs, &files, &required, order, &finds, short)
 }
 
-// Merges files, and reports on what the merged file says.
-fn merge_readers(
+// Merges inputs, and files that were made behind them; the inputs come back in order.
+fn merge_inputs<H: FileHandle>(
     alloc: Global,
-    readers: &mut [Reader],
+    inputs: &mut Vec<H>,
+    files: &[Bytes],
     required: &[(String, ColumnType)],
     rows: Option<Vec<RowAddr>>,
     finds: &[Find],
     short: bool,
 ) -> Result<Made, ColumnarError>
-    ensures { (parts : List Part) → told_parts readers.old ≡ Some parts →
-        let order = order_over (option_map (λ v. map address_of v.items) rows) (row_counts parts) in
-        Makes (IsMade short (map find_of finds.now)) result
-        (merged parts (required_of required.now) order) }
+    ensures { MergesInputs (IsMade short (map find_of finds.now))
+        (handed_in (seen_by H.content H.size H.faults H.reads H.mark) inputs.old.items)
+        (handed_in (seen_by H.content H.size H.faults H.reads H.mark) inputs.new.items)
+        files.now (required_of required.now)
+        (option_map (λ v. map address_of v.items) rows) result }
+{
+    let Some(room) = inputs.len().checked_add(files.len()) else {
+        return Err(ColumnarError::OutOfMemory);
+    };
+    let mut readers = Vec::with_capacity(alloc, room)?;
+    inputs.reverse();
+    let made = merge_opened(
+        alloc,
+        inputs,
+        files,
+        &mut readers,
+        required,
+        rows,
+        finds,
+        short,
+    );
+    hand_back(readers, inputs);
+    made
+}
+
+// Moves inputs into readers, the last one first, puts readers of the files behind them, and merges.
+fn merge_opened<H: FileHandle>(
+    alloc: Global,
+    left: &mut Vec<H>,
+    files: &[Bytes],
+    readers: &mut Vec<ColumnarReader<Part<H>>>,
+    required: &[(String, ColumnType)],
+    rows: Option<Vec<RowAddr>>,
+    finds: &[Find],
+    short: bool,
+) -> Result<Made, ColumnarError>
+    requires none { readers.old.items ≡ [] }
+    requires room { vec_len left.old + length files.now ≤ vec_capacity readers.old }
+    ensures merges { AllByRecursion IsUnfailed (files_in readers.new.items)
+        → MergesInputs (IsMade short (map find_of finds.now))
+        (handed_in (seen_by H.content H.size H.faults H.reads H.mark) (reverse left.old.items))
+        (held (seen_by H.content H.size H.faults H.reads H.mark) readers.new.items left.new.items)
+        files.now (required_of required.now)
+        (option_map (λ v. map address_of v.items) rows) result }
+    ensures kept { AllKeep
+        (handed_in (seen_by H.content H.size H.faults H.reads H.mark) (reverse left.old.items))
+        (held (seen_by H.content H.size H.faults H.reads H.mark)
+        readers.new.items left.new.items) }
+    ensures room { vec_capacity left.new ≡ vec_capacity left.old }
+{
+    open_inputs(alloc, left, readers)?;
+    open_files(alloc, files, readers)?;
+    merge_readers(alloc, readers, required, rows, finds, short)
+}
+
+// Merges files, and reports on what the merged file says.
+fn merge_readers<F: FileHandle>(
+    alloc: Global,
+    readers: &mut [ColumnarReader<F>],
+    required: &[(String, ColumnType)],
+    rows: Option<Vec<RowAddr>>,
+    finds: &[Find],
+    short: bool,
+) -> Result<Made, ColumnarError>
+    ensures { MergesReaders (IsMade short (map find_of finds.now)) readers.old readers.new result
+        (λ parts. merged parts (required_of required.now)
+        (order_over (option_map (λ v. map address_of v.items) rows) (row_counts parts))) }
 {
     files_are_read(readers);
     let counts = row_counts(alloc, readers)?;
@@ -89,19 +156,17 @@ fn merge_readers(
 }
 
 // The merged file.
-fn merged_file(
+fn merged_file<F: FileHandle>(
     alloc: Global,
-    readers: &mut [Reader],
+    readers: &mut [ColumnarReader<F>],
     required: &[(String, ColumnType)],
     order: MergeRowOrder,
 ) -> Result<Bytes, ColumnarError>
-    ensures { (parts : List Part) → told_parts readers.old ≡ Some parts →
-        Makes StandsFor result (merged parts (required_of required.now) (order_of order)) }
+    ensures { MergesReaders StandsFor readers.old readers.new result
+        (λ parts. merged parts (required_of required.now) (order_of order)) }
 {
     let mut file = Buffer::new(alloc);
-    if let Err(error) = merge_columnar(alloc, readers, required, order, &mut file) {
-        return Err(in_memory_alone(error));
-    }
+    merge_columnar(alloc, readers, required, order, &mut file)?;
     let bytes = Bytes::from_vec(file.into_bytes())?;
     Ok(bytes)
 }

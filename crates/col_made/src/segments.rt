@@ -1,14 +1,14 @@
 //! The files of a script's segments.
 ghost use Rattle.std.specs.Prelude.{◌≡◌, map, List, None};
+ghost use Rattle.std.specs.List.{AllZip};
 ghost use Rattle.col_model.specs.File.{StandsFor};
 ghost use Rattle.col_model.specs.Outcome.{segment_table};
 ghost use Rattle.col_model.specs.Refusal.{each_ok};
 ghost use Rattle.col_model.specs.Script as model;
 ghost use Rattle.col_model.specs.Written.{written};
 ghost use Rattle.col_script.specs.Segments.{filled, segment_of};
-ghost use Rattle.col_made.specs.Making.{Makes, IsFileOf, AreFilesOf};
+ghost use Rattle.col_made.specs.Making.{Makes};
 
-use crate::inputs::{Reader, open_file};
 use bytes::Bytes;
 use col_common::{Buffer, ColumnarError, RowId};
 use col_script::Segment;
@@ -16,34 +16,21 @@ use col_writer::ColumnarWriter;
 use std::alloc::Global;
 
 /// The files of segments, in order, or the first refusal.
-pub fn segment_files(alloc: Global, segments: &[Segment]) -> Result<Vec<Reader>, ColumnarError>
+pub fn segment_files(alloc: Global, segments: &[Segment]) -> Result<Vec<Bytes>, ColumnarError>
     ensures { (ss : List model.Segment) → map filled ss ≡ map segment_of segments.now →
-        Makes (λ tables readers. AreFilesOf tables readers.items) result
+        Makes (λ tables files. AllZip StandsFor tables files.items) result
         (each_ok segment_table ss) }
 {
-    let mut readers = Vec::new(alloc);
+    let mut files = Vec::new(alloc);
     for place in 0..segments.len() {
-        let reader = segment_file(alloc, &segments[place])?;
-        readers.push(reader)?;
+        let file = segment_file(alloc, &segments[place])?;
+        files.push(file)?;
     }
-    Ok(readers)
+    Ok(files)
 }
 
 // The file of a segment, or its first refusal.
-fn segment_file(alloc: Global, segment: &Segment) -> Result<Reader, ColumnarError>
-    ensures { (s : model.Segment) → filled s ≡ segment_of segment.now →
-        Makes IsFileOf result (segment_table s) }
-{
-    let bytes = segment_bytes(alloc, segment)?;
-    match open_file(alloc, bytes) {
-        Ok(reader) => Ok(reader),
-        // What was written is a file, so that memory alone is wanting.
-        Err(_) => Err(ColumnarError::OutOfMemory),
-    }
-}
-
-// The bytes of a segment's file, or its first refusal.
-fn segment_bytes(alloc: Global, segment: &Segment) -> Result<Bytes, ColumnarError>
+fn segment_file(alloc: Global, segment: &Segment) -> Result<Bytes, ColumnarError>
     ensures { (s : model.Segment) → filled s ≡ segment_of segment.now →
         Makes StandsFor result (segment_table s) }
 {

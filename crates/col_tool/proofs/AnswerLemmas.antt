@@ -1,5 +1,5 @@
 -- What a script that was read, and what was made of it, say of the answer.
-use Rattle.std.proofs.Common.{◌≡◌, ◌⊎◌, ℕ, Option, Some, None, Ok, Err, IfSome, List, [], ◌∷◌, Result, IfErr, map, true, Contains, refl, zero, suc, arith}
+use Rattle.std.proofs.Common.{◌≡◌, ℕ, Option, Some, None, Ok, Err, IfSome, List, [], ◌∷◌, Result, IfErr, map, true, Contains, refl, zero, suc, arith}
 use Rattle.col_common.specs.Outside.{Told, SeenSink}
 use Rattle.col_model.specs.File.{for_each}
 use Rattle.col_model.specs.GenScript.{gen_script}
@@ -32,10 +32,6 @@ pub delivered-leaves : (files : Option (List (List ℕ))) (told : Told) (output 
 delivered-leaves None told output output' report report' made status h d = tt
 delivered-leaves (Some fs) None output output' report report' made status h d = tt
 delivered-leaves (Some fs) (Some bytes) output output' report report' made status h d = leaves_delivered output output' report report' made status (script_answer fs bytes) h d
-
--- inputs that came back through a list that was lent, of which a count may have risen
-pub fault-lent : {H : Type 0} (faults : H → ℕ) (lent lent' old new : List H) (Read : Type 0) → new ≡ lent' → lent ≡ old → Read ⊎ SomeRose (map faults lent) (map faults lent') → Read ⊎ SomeRose (map faults old) (map faults new)
-fault-lent faults lent lent' old new Read same was h = rw (same, ← was) h
 
 -- what the script of a number comes to, without inputs
 pub without-inputs : {H : Type 0} (content : H → Told) (inputs : List H) (script : List ℕ) (n : ℕ) (result : Result Made Refusal) → inputs ≡ [] → script ≡ gen_script n → IfSome (for_each content inputs) (λ files. IsAnswer (script_outcome true files (script_of script)) result) → IsAnswer (generated_answer n) result

@@ -80,10 +80,13 @@ const REFUSED: [(&str, u8); 9] = [
 ];
 
 // The words of a run, the digits of its one input, the reads of it that fail, and the status.
-const INPUTS: [(&[&str], &str, &[u64], u8); 5] = [
+const INPUTS: [(&[&str], &str, &[u64], u8); 7] = [
     (&["merge", "out", "in"], TWO_VALUES_FILE, &[], 0),
     (&["merge", "out"], TWO_VALUES_FILE, &[], 2),
     (&["merge", "out", "in"], TWO_VALUES_FILE, &[0], 4),
+    // Two reads of its end, and one of its column.
+    (&["merge", "out", "in"], TWO_VALUES_FILE, &[2], 4),
+    (&["merge", "out", "in"], TWO_VALUES_FILE, &[3], 0),
     (&["merge", "out", "in"], "", &[], 6),
     (&["gen", "out", "7"], TWO_VALUES_FILE, &[], 2),
 ];

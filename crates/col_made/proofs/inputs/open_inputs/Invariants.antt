@@ -1,10 +1,16 @@
-use Rattle.std.proofs.Common.{map, take}
-use Rattle.std.specs.List.{AllZip}
-use Rattle.col_made.proofs.HandleLemmas.{AllStay}
-use Rattle.col_made.specs.Inputs.{IsOpened}
+use Rattle.std.proofs.Common.{◌≡◌, ◌+◌, ◌≤◌, reverse}
+use Rattle.std.specs.Vec.{vec_len, vec_capacity}
+use Rattle.col_file.specs.Files.{seen_by}
+use Rattle.col_made.proofs.OpeningLemmas.{Opening}
 use Rattle.col_made.proofs.inputs.open_inputs.Given as goal
 
-abbrev pub invariant-loop-place : goal.invariant-loop-place
-invariant-loop-place g l =
-    AllStay g.H.FileHandle.content g.H.FileHandle.size g.H.FileHandle.faults l.fn.inputs l.inputs
-    × AllZip IsOpened (take l.place (map g.H.FileHandle.content l.fn.inputs)) l.readers.items
+abbrev pub invariant-loop-input : goal.invariant-loop-input
+invariant-loop-input g l = record {
+  opening : Opening (seen_by g.H.FileHandle.content g.H.FileHandle.size g.H.FileHandle.faults g.H.FileHandle.reads g.H.FileHandle.mark) (reverse l.fn.left.items) l.readers.items l.left.items;
+  fits : vec_len l.readers + vec_len l.left ≤ vec_capacity l.readers;
+  left_room : vec_capacity l.left ≡ vec_capacity l.fn.left;
+  room : vec_capacity l.readers ≡ vec_capacity l.fn.readers;
+}
+
+abbrev pub decreases-loop-input : goal.decreases-loop-input
+decreases-loop-input g l = vec_len l.left

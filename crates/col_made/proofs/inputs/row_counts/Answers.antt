@@ -5,7 +5,7 @@ use Rattle.col_made.proofs.InputLemmas.{counts-more}
 use Rattle.col_made.proofs.inputs.row_counts.Goals as goal
 
 pub loop-place-preserved : goal.loop-place-preserved
-loop-place-preserved c = counts-more c.args.readers.now c.loop-place.place _ c.index-readers-place.result c.loop-place.counts.items _ c.num_docs.result c.loop-place.invariant (omega (arith, c.loop-place-test.true)) (omega arith) (c.num_docs.ensures ∙ ap rows_in c.index-readers-place.is) c.in_ok-push.ensures.items
+loop-place-preserved g c = counts-more c.args.readers.now c.loop-place.place _ c.index-readers-place.result c.loop-place.counts.items _ c.num_docs.result c.loop-place.invariant (omega (arith, c.loop-place-test.true)) (omega arith) (c.num_docs.ensures ∙ ap rows_in c.index-readers-place.is) c.in_ok-push.ensures.items
 
 pub returns : goal.returns
-returns c = c.loop-place.invariant ∙ ap (map rows_in) (take_all c.loop-place.place c.args.readers.now (omega (arith, c.loop-place-test.false)))
+returns g c = c.loop-place.invariant ∙ ap (map rows_in) (take_all c.loop-place.place c.args.readers.now (omega (arith, c.loop-place-test.false)))

@@ -3,4 +3,4 @@ use Rattle.col_made.specs.Inputs.{rows_in}
 use Rattle.col_made.proofs.inputs.row_counts.Given as goal
 
 abbrev pub invariant-loop-place : goal.invariant-loop-place
-invariant-loop-place l = l.counts.items ≡ map rows_in (take l.place l.readers)
+invariant-loop-place g l = l.counts.items ≡ map rows_in (take l.place l.readers)
