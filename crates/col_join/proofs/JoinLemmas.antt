@@ -1,20 +1,19 @@
 -- What calls leave that write a joined column.
-use Rattle.std.proofs.Common.{◌≡◌, ◌⊎◌, inl, inr, ℕ, ◌<◌, ◌≤◌, ◌^◌, ◌-◌, not, Bool, true, false, List, [], ◌∷◌, ◌++◌, length, map, Option, Result, Ok, Err, Some, None, refl, sym, ap, ap₂, subst, ◌∙◌, arith}
-use Rattle.std.specs.Prelude.{OnOk, ◌||◌, nat_le, is_some, pos, filter_map}
+use Rattle.std.proofs.Common.{◌≡◌, ◌⊎◌, inl, inr, ℕ, ◌<◌, ◌^◌, ◌-◌, not, Bool, true, false, List, [], ◌∷◌, ◌++◌, length, map, Option, Result, Ok, Err, Some, None, refl, sym, ap, ap₂, subst, ◌∙◌, arith}
+use Rattle.std.specs.Prelude.{OnOk, ◌||◌, nat_le, filter_map}
 use Rattle.std.specs.List.{AllByRecursion, cons_option}
 use Rattle.std.proofs.lemmas.Bool.{true≢false, leb-true, leb-false}
-use Rattle.std.proofs.lemmas.List.{length-map, map-id}
+use Rattle.std.proofs.lemmas.List.{map-id}
 use Rattle.col_common.proofs.SerializingLemmas.{appends_none}
 use Rattle.col_common.specs.Outside.{SeenSink}
 use Rattle.col_common.specs.Serializing.{Serializes}
 use Rattle.col_common.specs.declared.error.ColumnarError.{ColumnarError}
 use Rattle.col_common.specs.declared.error.ColumnarError.TheVariants.{TooLarge, OutOfMemory, WriteFault}
-use Rattle.col_column.specs.Columns.{row_count, IsCounted}
+use Rattle.col_column.specs.Columns.{IsCounted}
 use Rattle.col_column.specs.Written.{Refused, SerializesRows, Stores64, StandForRows}
 use Rattle.col_compact.specs.Covers.{IsTooLarge}
 use Rattle.col_indexer.specs.Merged.{merged_counts}
 use Rattle.col_indexer.specs.Spelling.{Index, index_shape}
-use Rattle.col_model.proofs.StatsLaws.{mapped_all}
 use Rattle.col_model.specs.AddressList.{least_codes, values128}
 use Rattle.col_model.specs.ColumnType as types
 use Rattle.col_model.specs.Column.{column}

@@ -1,7 +1,6 @@
 -- The limits of a column of picked rows.
-use Rattle.std.proofs.Common.{◌≡◌, ℕ, zero, suc, ◌+◌, ◌<◌, ◌≤◌, ◌^◌, ◌-◌, ◌==◌, not, Bool, true, false, cond, List, [], ◌∷◌, length, map, Some, None, Option, refl, sym, ap, ap₂, ◌∙◌, arith}
-use Rattle.std.specs.Prelude.{nat_le, ◌&&◌, ◌||◌, sum, count_by, sum_by, unwrap_or, is_some, IfSome}
-use Rattle.std.specs.List.{list_all}
+use Rattle.std.proofs.Common.{◌≡◌, ℕ, suc, ◌+◌, ◌^◌, ◌-◌, ◌==◌, not, Bool, true, false, cond, List, [], ◌∷◌, length, map, Some, Option, refl, sym, ap, ap₂, ◌∙◌, arith}
+use Rattle.std.specs.Prelude.{nat_le, ◌&&◌, ◌||◌, sum, count_by, sum_by, unwrap_or}
 use Rattle.std.proofs.lemmas.Bool.{eqb-true, leb-false}
 use Rattle.std.proofs.lemmas.List.{length-map}
 use Rattle.std.proofs.lemmas.List.Sums.{sum_by-cons}
@@ -11,12 +10,12 @@ use Rattle.col_index.proofs.CountLaws.{offset_counts-rows}
 use Rattle.col_index.proofs.RowsLaws.{rows_from, rows_with_value-from}
 use Rattle.col_index.specs.Offsets.{cardinality_in}
 use Rattle.col_indexer.specs.Merged.{merged_cardinality, merged_counts, IsMerged}
-use Rattle.col_indexer.specs.Spelling.{Index, full_index, optional_index, multivalued_index, index_shape, IsIndex, is_past_limit}
+use Rattle.col_indexer.specs.Spelling.{Index, full_index, optional_index, multivalued_index, IsIndex, is_past_limit}
 use Rattle.col_model.specs.ColumnType.{ColumnType}
 use Rattle.col_model.specs.Index.{Counts, Shape, empty_shape, full_shape, optional_shape, multivalued_shape, counts_over, set_counts, offset_counts}
-use Rattle.col_model.specs.Limits.{cell_count, is_multivalued, dictionary_length, has_many_codes, is_too_large}
-use Rattle.col_model.specs.Order.{Order, has_row}
-use Rattle.col_model.specs.Positions.{picked_counts, rows_with_value}
+use Rattle.col_model.specs.Limits.{cell_count, is_multivalued, has_many_codes, is_too_large}
+use Rattle.col_model.specs.Order.{Order}
+use Rattle.col_model.specs.Positions.{rows_with_value}
 use Rattle.col_model.specs.Table.{Cell, Cardinality}
 use Rattle.col_model.specs.Table as tables
 use Rattle.col_order.specs.Orders.{counts_of, picks_of}

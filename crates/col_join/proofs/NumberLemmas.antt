@@ -1,14 +1,13 @@
 -- The bytes of joined numbers stand for the cells of the picked rows.
-use Rattle.std.proofs.Common.{◌≡◌, ℕ, zero, suc, ◌^◌, Bool, true, false, cond, List, [], ◌∷◌, ◌++◌, length, map, take, drop, get_or, slice_get, unwrap_or, Option, Some, None, refl, sym, ap, ap₂, ◌∙◌}
+use Rattle.std.proofs.Common.{◌≡◌, ℕ, zero, suc, Bool, true, cond, List, [], ◌∷◌, ◌++◌, length, map, take, drop, get_or, Option, Some, refl, sym, ap, ap₂, ◌∙◌}
 use Rattle.std.specs.List.{list_all, All, AllByRecursion}
 use Rattle.std.proofs.lemmas.Bool.{and_from}
 use Rattle.std.proofs.lemmas.List.{length-map}
 use Rattle.std.proofs.lemmas.List.Elements.{recursion_from_All}
 use Rattle.col_common.specs.Reading.{◌>>=◌}
 use Rattle.col_model.specs.Column.{number_rows, number_cell, is_stored, term_column, content_of, column}
-use Rattle.col_model.specs.ColumnType.{ColumnType, has_terms}
+use Rattle.col_model.specs.ColumnType.{ColumnType}
 use Rattle.col_model.specs.Dictionary.{cut}
-use Rattle.col_model.specs.Index.{Shape}
 use Rattle.col_model.specs.Table.{Cell}
 use Rattle.col_model.specs.U64List.{joined_lists}
 use Rattle.col_model.proofs.StatsLaws.{mapped_all, all_by}
@@ -20,13 +19,12 @@ use Rattle.col_numbers.specs.NumValues.{num_values_of}
 use Rattle.col_numbers.specs.declared.num_values.NumValues.{NumValues}
 use Rattle.col_indexer.specs.Merged.{IsMerged, merged_counts}
 use Rattle.col_indexer.specs.Spelling.{Index, index_shape}
-use Rattle.col_column.specs.Columns.{row_count, counts_by, rows_by, row_at}
+use Rattle.col_column.specs.Columns.{row_count, rows_by, row_at}
 use Rattle.col_column.specs.Opened.{counted_rows}
-use Rattle.col_column.specs.Written.{Stores64}
 use Rattle.col_value_merge.proofs.MergedCellLemmas.{rows-map, merged-counts}
 use Rattle.col_value_merge.proofs.MergedRowLemmas.{merged-rows}
 use Rattle.col_value_merge.specs.Laws.{IsOrdered}
-use Rattle.col_value_merge.specs.Merges.{Columns, segment_values, picked_row, merged_rows, merged_values, Merge, IsMerge, values_of}
+use Rattle.col_value_merge.specs.Merges.{Columns, segment_values, merged_rows, merged_values, Merge, IsMerge, values_of}
 use Rattle.col_join.specs.Joins.{picked_content}
 use Rattle.col_join.proofs.LimitLemmas.{counts-are}
 

@@ -14,23 +14,20 @@ use Rattle.col_model.specs.File.{Part}
 use Rattle.col_model.specs.Index.{Shape, empty_shape}
 use Rattle.col_model.specs.Limits.{tightest}
 use Rattle.col_model.specs.Lookup.{row_of}
-use Rattle.col_model.specs.Merge.{cells_in, whole_column_in, kept_column, kept_columns, segment_cardinality, stacked_cardinality, greater_cardinality, all_terms, joined_content, row_counts}
+use Rattle.col_model.specs.Merge.{cells_in, whole_column_in, kept_column, kept_columns, segment_cardinality, greater_cardinality, joined_content, row_counts}
 use Rattle.col_model.specs.Order.{Order, stack, shuffle, has_row, all_rows, picks}
-use Rattle.col_model.specs.Positions.{picked_counts}
 use Rattle.col_model.specs.Table.{Cell, Cardinality, Column, Content}
 use Rattle.col_model.specs.Table as tables
 use Rattle.col_model.specs.U64List.{joined_lists}
-use Rattle.col_model.specs.Written.{text_of, texts_of}
+use Rattle.col_model.specs.Written.{text_of}
 use Rattle.col_order.specs.Orders.{counts_of, picks_of}
 use Rattle.col_index.specs.Offsets.{cardinality_in}
 use Rattle.col_indexer.specs.Counted.{tightest_of}
-use Rattle.col_indexer.specs.Merged.{merged_cardinality, stacked_cardinality_of}
 use Rattle.col_column.proofs.RowLemmas.{row-empty}
-use Rattle.col_column.specs.Columns.{rows_by, row_at, content_seen}
+use Rattle.col_column.specs.Columns.{rows_by, row_at}
 use Rattle.col_value_merge.proofs.MergedCellLemmas.{row-map}
 use Rattle.col_value_merge.proofs.MergedRowLemmas.{picked-lengths, picks-there}
-use Rattle.col_value_merge.specs.Laws.{IsOrdered}
-use Rattle.col_value_merge.specs.Merges.{Columns, segment_shape, segment_values, merged_rows, merge_of, AreColumns, Merge, IsMerge}
+use Rattle.col_value_merge.specs.Merges.{Columns, segment_shape, segment_values, merged_rows, merge_of, AreColumns}
 use Rattle.col_join.proofs.LimitLemmas.{lengths-map}
 use Rattle.col_join.specs.Joins.{picked_content}
 use Rattle.col_join.specs.Slots.{AreNumbers, IsKeptAs, AreKeptAs, PickedContentIsJoined}

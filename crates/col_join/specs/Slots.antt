@@ -1,5 +1,5 @@
 -- What the columns of segments under a slot are for a merge. States docs/RULES.md, Merged tables.
-use Rattle.std.specs.Prelude.{◌≡◌, ℕ, List, [], length, slice_get, Option, Some, None}
+use Rattle.std.specs.Prelude.{◌≡◌, ℕ, List, [], slice_get, Option, Some, None}
 use Rattle.col_model.specs.Category.{Slot}
 use Rattle.col_model.specs.File.{Part}
 use Rattle.col_model.specs.Index.{Shape, empty_shape}

@@ -1,6 +1,6 @@
 -- Inputs, read and opened one by one.
-use Rattle.std.proofs.Common.{◌≡◌, ◌<◌, ℕ, suc, List, [], ◌∷◌, ◌++◌, map, take, get_or, length, Bool, true, false, Option, Some, None, option_and_then, Result, Ok, Err, IfSome, refl, sym, ap, ap₂, ◌∙◌, subst, arith, inl, inr, zero, ◌||◌}
-use Rattle.std.specs.List.{AllZip, list_any}
+use Rattle.std.proofs.Common.{◌≡◌, ◌<◌, ℕ, suc, List, [], ◌∷◌, ◌++◌, map, take, get_or, length, Bool, true, false, Option, Some, None, option_and_then, Result, Err, IfSome, refl, sym, ap, ap₂, ◌∙◌, inl, inr, ◌||◌}
+use Rattle.std.specs.List.{list_any}
 use Rattle.std.proofs.Math.Seq.{take-suc}
 use Rattle.std.proofs.lemmas.List.{map-append}
 use Rattle.col_common.specs.Memory.{Scheduled}

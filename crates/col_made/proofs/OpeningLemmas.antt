@@ -1,5 +1,5 @@
 -- Inputs that are opened one by one, and readers that are taken apart one by one.
-use Rattle.std.proofs.Common.{◌≡◌, ◌≤◌, ◌<◌, ◌+◌, ℕ, suc, List, [], ◌∷◌, ◌++◌, map, take, reverse, length, get_or, Result, Ok, Err, IfSome, Some, refl, sym, ap, ap₂, ◌∙◌, subst, arith}
+use Rattle.std.proofs.Common.{◌≡◌, ◌≤◌, ◌<◌, ◌+◌, ℕ, suc, List, [], ◌∷◌, ◌++◌, take, reverse, length, get_or, Ok, Err, Some, refl, sym, ap, ap₂, ◌∙◌, subst, arith}
 use Rattle.std.specs.List.{AllZip, AllByRecursion}
 use Rattle.std.proofs.Math.Seq.{take-suc}
 use Rattle.std.proofs.lemmas.List.{map-append, reverse-append, append-nil, append_assoc, length-append, take_all}
@@ -9,7 +9,7 @@ use Rattle.col_file.specs.Files.{SeenFile, ReadsFile, RefusesFile}
 use Rattle.col_file.specs.Readers.{SeenReader}
 use Rattle.col_model.specs.Keys.{keys}
 use Rattle.col_made.specs.Inputs.{IsOpened, OpensInputs, OpensFiles}
-use Rattle.col_made.specs.Parts.{given, handed_in, given_in, files_in, held, IsUnfailed, AllKeep, SomeFileRose}
+use Rattle.col_made.specs.Parts.{given, handed_in, given_in, files_in, held, IsUnfailed, AllKeep}
 use Rattle.col_made.proofs.InputLemmas.{inputs-refused, fault-rose, same-error}
 use Rattle.col_made.proofs.MadeFileLemmas.{zip-more}
 use Rattle.col_made.proofs.PartLemmas.{keeps-read, all_keep-none, all_keep-append, some_rose-behind, given-first, given-one, made-one, given-pushed, handed-pushed}

@@ -1,14 +1,13 @@
 -- Files that were handed in, among others and in lists.
-use Rattle.std.proofs.Common.{◌≡◌, ◌≤◌, ◌<◌, ◌+◌, ℕ, zero, suc, List, [], ◌∷◌, ◌++◌, map, reverse, length, get_or, cond, Bool, true, false, refl, sym, ap, ap₂, ◌∙◌, subst, arith, inl, inr}
-use Rattle.std.specs.List.{AllZip, AllByRecursion}
-use Rattle.std.proofs.lemmas.List.{map-append, reverse-append, append-nil, append_assoc}
+use Rattle.std.proofs.Common.{◌≡◌, ◌≤◌, ℕ, zero, suc, List, [], ◌∷◌, ◌++◌, map, reverse, length, get_or, cond, refl, ap, ap₂, ◌∙◌, arith, inl, inr}
+use Rattle.std.proofs.lemmas.List.{map-append, reverse-append}
 use Rattle.std.proofs.lemmas.List.Elements.{filter-append}
 use Rattle.col_common.specs.Causes.{Rose}
 use Rattle.col_common.specs.Outside.{Told}
 use Rattle.col_file.specs.Files.{SeenFile, seen_by, ReadsFile}
 use Rattle.col_file.specs.Readers.{SeenReader}
 use Rattle.col_made.specs.HandedBack.{HandedBack, SomeRose}
-use Rattle.col_made.specs.Parts.{given, handed_in, is_given, is_above_zero, given_in, files_in, held, IsUnfailed, Keeps, AllKeep, SomeFileRose}
+use Rattle.col_made.specs.Parts.{given, handed_in, is_given, is_above_zero, given_in, files_in, Keeps, AllKeep, SomeFileRose}
 
 -- ---- files that stay
 

@@ -1,13 +1,9 @@
 -- Files of tables that are opened.
-use Rattle.std.proofs.Common.{◌≡◌, ◌<◌, ℕ, zero, suc, List, [], ◌∷◌, map, length, get_or, Option, Some, None, Result, Ok, refl, ap, ap₂, ◌∙◌, arith}
+use Rattle.std.proofs.Common.{◌≡◌, ◌<◌, ℕ, zero, suc, List, [], ◌∷◌, map, length, get_or, Option, Some, None, refl, ap, ap₂, ◌∙◌, arith}
 use Rattle.std.proofs.lemmas.Option.{same_Some}
 use Rattle.col_common.specs.Reading.{◌>>=◌}
-use Rattle.col_file.specs.Readers.{SeenReader}
-use Rattle.col_model.specs.File.{Part, PartColumn, parts_of, whole_column, for_each, table_of, table_of_part, part_of_column, part_of_table, StandsFor}
-use Rattle.col_model.specs.Refusal.{Refusal}
+use Rattle.col_model.specs.File.{Part, PartColumn, parts_of, whole_column, for_each, table_of, table_of_part, part_of_column, part_of_table}
 use Rattle.col_model.specs.Table.{Content, Column, Table}
-use Rattle.col_made.specs.Inputs.{IsOpenedFrom}
-use Rattle.col_made.specs.Making.{Makes, IsFileOf}
 
 -- columns that are whole, as a part has them
 whole-columns : (ps : List PartColumn) (cs : List Column) → for_each whole_column ps ≡ Some cs → ps ≡ map part_of_column cs

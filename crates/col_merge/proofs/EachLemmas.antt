@@ -1,7 +1,7 @@
 -- Steps over a list, item by item.
 use Rattle.std.proofs.Common.{◌≡◌, List, [], ◌∷◌, ◌++◌, Result, Ok, Err, refl, ap}
 use Rattle.col_model.specs.Refusal.{Refusal, ◌>>=◌, each_ok}
-use Rattle.col_model.proofs.RefusalLaws.{bind-ok, same_Ok, err_not_ok}
+use Rattle.col_model.proofs.RefusalLaws.{bind-ok, same_Ok}
 
 -- one more item
 pub each-more : {A B : Type 0} (f : A → Result B Refusal) (xs : List A) (x : A) (ys : List B) (y : B) → each_ok f xs ≡ Ok ys → f x ≡ Ok y → each_ok f (xs ++ x ∷ []) ≡ Ok (ys ++ y ∷ [])

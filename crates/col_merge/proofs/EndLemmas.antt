@@ -1,5 +1,5 @@
 -- The file of the columns that were put stands for the merged table.
-use Rattle.std.proofs.Common.{◌≡◌, ◌⊎◌, inl, inr, ℕ, ◌<◌, ◌^◌, Bool, true, ◌&&◌, List, [], ◌∷◌, map, filter_map, length, Option, Some, None, IfSome, Result, Ok, Err, refl, sym, ap, ap₂, ◌∙◌, subst, T}
+use Rattle.std.proofs.Common.{◌≡◌, ◌⊎◌, inl, inr, ℕ, ◌<◌, ◌^◌, true, ◌&&◌, List, [], ◌∷◌, map, filter_map, length, Option, Some, None, IfSome, Result, Ok, Err, refl, sym, ap, ap₂, ◌∙◌, subst, T}
 use Rattle.std.specs.List.{AllByRecursion}
 use Rattle.std.specs.FinMap.Entries.{is_sorted, below_all}
 use Rattle.std.specs.Ordering.{is_lt}
@@ -9,19 +9,17 @@ use Rattle.col_common.specs.Serializing.{Serializes}
 use Rattle.col_common.specs.declared.error.ColumnarError.{ColumnarError}
 use Rattle.col_common.specs.declared.error.ColumnarError.TheVariants.{OutOfMemory, WriteFault}
 use Rattle.col_model.specs.Category.{Slot, slot_cmp}
-use Rattle.col_model.specs.File.{Part, PartColumn, parts_of, table_of, table_of_part, for_each, whole_column, part_of_column, file_version, StandsFor}
-use Rattle.col_model.specs.Keys.{Key, is_name, are_keys, FileKeys, keys}
+use Rattle.col_model.specs.File.{Part, PartColumn, parts_of, table_of, table_of_part, for_each, whole_column, part_of_column, StandsFor}
+use Rattle.col_model.specs.Keys.{Key, is_name, FileKeys}
 use Rattle.col_model.specs.Merge.{Required, joined_column, all_slots, required_refusal, row_counts, merged}
 use Rattle.col_model.specs.Order.{Order, picks}
 use Rattle.col_model.specs.Refusal.{Refusal, each_ok}
-use Rattle.col_model.specs.Sorted.{distinct_items}
 use Rattle.col_model.specs.Sound.{key_of_column}
 use Rattle.col_model.specs.Spelling.{file_bytes}
 use Rattle.col_model.specs.Table.{Column, Table}
-use Rattle.col_model.specs.Version.{current_version}
 use Rattle.col_model.proofs.DistinctLaws.{rises}
 use Rattle.col_model.proofs.OrderedColumns.{entries, EachIs, each-is, sorted-each}
-use Rattle.col_model.proofs.SlotLaws.{column_slot, slots_total}
+use Rattle.col_model.proofs.SlotLaws.{column_slot}
 use Rattle.col_keys.specs.Put.{AreKeys, HasColumns, part_put}
 use Rattle.col_order.specs.Orders.{picks_of}
 use Rattle.col_file.specs.Readers.{SeenReader, IsRead}

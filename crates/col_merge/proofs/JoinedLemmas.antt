@@ -1,5 +1,5 @@
 -- A joined column is of its slot.
-use Rattle.std.proofs.Common.{◌≡◌, ℕ, ◌+◌, ◌==◌, ◌&&◌, Bool, true, false, cond, not, List, [], ◌∷◌, map, filter_map, find, length, Some, None, is_none, refl, sym, ◌∙◌, ap, subst, option_map, option_and_then, nat_lt}
+use Rattle.std.proofs.Common.{◌≡◌, ℕ, ◌+◌, ◌==◌, ◌&&◌, Bool, true, false, cond, not, List, [], ◌∷◌, filter_map, find, length, Some, None, is_none, refl, sym, ◌∙◌, ap, option_map, option_and_then, nat_lt}
 use Rattle.std.specs.Prelude.{Option, Result, Ok, if◌then◌else◌}
 use Rattle.std.specs.List.{list_all, list_any, enumerate_from, cons_option, AllByRecursion}
 use Rattle.col_common.specs.Reading.{only_if}

@@ -1,20 +1,18 @@
 -- Keys in the order of their slots are keys of one file.
-use Rattle.std.proofs.Common.{◌≡◌, ℕ, ◌<◌, ◌^◌, Bool, true, false, ◌&&◌, cond, List, [], ◌∷◌, map, filter, length, refl, sym, ◌∙◌, ap, T, subst, arith}
+use Rattle.std.proofs.Common.{◌≡◌, Bool, true, false, cond, List, [], ◌∷◌, map, filter, refl, sym, ◌∙◌, ap, T, arith}
 use Rattle.std.specs.List.{AllByRecursion}
 use Rattle.std.specs.FinMap.Entries.{is_sorted}
 use Rattle.std.proofs.lemmas.Bool.{and_from}
 use Rattle.col_model.specs.Ascending.{is_ascending}
-use Rattle.col_model.specs.Category.{Slot, slot_of, slot_cmp}
+use Rattle.col_model.specs.Category.{slot_cmp}
 use Rattle.col_model.specs.ColumnType.{ColumnType, is_numerical}
 use Rattle.col_model.specs.ColumnType as types
 use Rattle.col_model.specs.Keys.{Key, key_bytes, is_name, are_keys}
 use Rattle.col_model.specs.Limits.{is_too_large}
 use Rattle.col_model.specs.Sorted.{distinct_items}
 use Rattle.col_model.specs.Sound.{key_of_column, IsSoundColumn}
-use Rattle.col_model.specs.Table.{full, Content, Column}
-use Rattle.col_model.proofs.DistinctLaws.{rises}
+use Rattle.col_model.specs.Table.{full, Column}
 use Rattle.col_model.proofs.OrderedColumns.{entries}
-use Rattle.col_model.proofs.SlotLaws.{column_slot}
 use Rattle.col_model.proofs.SoundTables.{sound-table}
 
 -- a column without rows

@@ -1,15 +1,14 @@
 -- The steps of the definition of a merged table.
-use Rattle.std.proofs.Common.{◌≡◌, ℕ, ◌<◌, ◌^◌, Bool, true, false, List, [], sym, map, filter_map, length, Option, Some, None, Result, Ok, Err, refl, ap, ◌∙◌}
+use Rattle.std.proofs.Common.{◌≡◌, ℕ, ◌<◌, ◌^◌, false, List, [], sym, filter_map, length, Option, Some, None, Ok, Err, refl, ap, ◌∙◌}
 use Rattle.std.specs.Prelude.{nat_le}
 use Rattle.std.specs.Bool.{nat_eq}
 use Rattle.std.specs.Cmp.Lexicographic.{pointwise}
 use Rattle.std.proofs.lemmas.Bool.{lt-leb}
-use Rattle.col_model.specs.Category.{Slot}
 use Rattle.col_model.specs.File.{Part}
 use Rattle.col_model.specs.Merge.{Required, joined_column, all_slots, required_refusal, row_counts, merged}
 use Rattle.col_model.specs.Order.{Order, stack, shuffle, picks}
 use Rattle.col_model.specs.Refusal.{Refusal, each_ok, bad_order}
-use Rattle.col_model.specs.Table.{Column, Table}
+use Rattle.col_model.specs.Table.{Column}
 use Rattle.col_order.specs.Orders.{counts_of}
 
 -- an order of other row counts picks nothing

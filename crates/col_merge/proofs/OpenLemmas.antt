@@ -1,5 +1,5 @@
 -- Columns that are opened by the handle that a reader has under a slot.
-use Rattle.std.proofs.Common.{◌≡◌, ℕ, ◌==◌, ◌&&◌, ◌||◌, Bool, true, false, cond, List, [], ◌∷◌, ◌++◌, map, filter, find, Option, Some, None, IfSome, option_map, option_and_then, is_some, is_none, bytes_eq, Result, Ok, Err, refl, sym, ap, ap₂, ◌∙◌, subst, nat_eq}
+use Rattle.std.proofs.Common.{◌≡◌, ℕ, ◌&&◌, ◌||◌, Bool, true, false, cond, List, [], ◌∷◌, map, find, Option, Some, None, IfSome, option_map, bytes_eq, refl, sym, ap, ap₂, ◌∙◌, subst}
 use Rattle.std.specs.List.{AllByRecursion, list_any}
 use Rattle.std.specs.Prelude.{if◌then◌else◌}
 use Rattle.std.specs.Cmp.{unsigned_ties}
@@ -11,18 +11,16 @@ use Rattle.std.proofs.lemmas.Map.Text.{is_eq-slice_cmp}
 use Rattle.col_common.specs.Reading.{◌>>=◌}
 use Rattle.col_common.specs.declared.error.ColumnarError.{ColumnarError}
 use Rattle.col_common.specs.declared.error.ColumnarError.TheVariants.{OutOfMemory, ReadFault, InvalidData}
-use Rattle.col_model.specs.Category.{Category, category_of, category_place, Slot, same_slot}
-use Rattle.col_model.specs.ColumnType.{ColumnType}
-use Rattle.col_model.specs.File.{Part, PartColumn, part_column, parts_of, whole_column}
+use Rattle.col_model.specs.Category.{category_of, category_place, Slot, same_slot}
+use Rattle.col_model.specs.File.{Part, part_column, parts_of}
 use Rattle.col_model.specs.Keys.{Entry, FileKeys, keys}
-use Rattle.col_model.specs.Merge.{part_slot, column_in, whole_column_in}
-use Rattle.col_model.specs.Table.{Content, Column}
+use Rattle.col_model.specs.Merge.{part_slot, column_in}
+use Rattle.col_model.specs.Table.{Content}
 use Rattle.col_model.proofs.OrderedColumns.{same-slots}
 use Rattle.col_model.proofs.SharedTypes.{some≢none, same-some}
-use Rattle.col_dynamic.specs.Dynamic.{type_of, content_of}
 use Rattle.col_dynamic.specs.declared.dynamic_column.DynamicColumn.{DynamicColumn}
 use Rattle.col_file.specs.Columns.{content_at, IsColumn, IsTyped}
-use Rattle.col_file.specs.Files.{IsExpected, Answers, RefusesFile, SeenFile}
+use Rattle.col_file.specs.Files.{IsExpected, RefusesFile}
 use Rattle.col_file.specs.Handles.{Handle, handle_of, is_entry, entries_named}
 use Rattle.col_file.specs.Readers.{SeenReader, IsRead, Reads}
 use Rattle.col_file.proofs.PartLemmas.{own-handles, content-of_entry}

@@ -1,36 +1,32 @@
 -- Columns that are opened reader by reader.
-use Rattle.std.proofs.Common.{◌≡◌, ◌⊎◌, inl, inr, ℕ, zero, suc, ◌+◌, ◌<◌, Bool, true, List, [], ◌∷◌, ◌++◌, length, take, get_or, slice_index, Option, Some, None, IfSome, IfOk, IfErr, option_map, slice_get, Result, Ok, Err, refl, sym, ap, ◌∙◌, subst, arith, add-one}
+use Rattle.std.proofs.Common.{◌≡◌, ◌⊎◌, inl, inr, ℕ, zero, suc, ◌+◌, true, List, [], ◌∷◌, ◌++◌, length, take, slice_index, Option, Some, None, IfSome, option_map, slice_get, Result, Ok, Err, refl, sym, ap, ◌∙◌, subst, arith, add-one}
 use Rattle.std.specs.Prelude.{slice_index_or}
-use Rattle.std.specs.List.{AllZip, list_any}
+use Rattle.std.specs.List.{AllZip}
 use Rattle.std.proofs.Math.ListN.{set}
 use Rattle.col_common.specs.Reading.{◌>>=◌}
 use Rattle.col_common.specs.Outside.{SeenSink, in_memory}
 use Rattle.col_common.specs.declared.error.ColumnarError.{ColumnarError}
 use Rattle.col_common.specs.declared.error.ColumnarError.TheVariants.{OutOfMemory, ReadFault, WriteFault, InvalidData, BadOrder, BadName, RequiredConflict, CannotCoerce, NumericalConflict, TooLarge, NoCodec, ForcedType, DocOrder, DocOutOfRange, TieBreakerStart, NotUtf8}
 use Rattle.col_model.specs.Category.{Slot}
-use Rattle.col_model.specs.ColumnType as types
-use Rattle.col_model.specs.File.{Part, parts_of, for_each}
-use Rattle.col_model.specs.Merge.{Required, column_in, has_bad_column, joined_column, required_type, row_counts}
+use Rattle.col_model.specs.File.{Part}
+use Rattle.col_model.specs.Merge.{Required, column_in, has_bad_column, joined_column}
 use Rattle.col_model.specs.Order.{Order}
 use Rattle.col_model.specs.Refusal.{Refusal, invalid_data, cannot_coerce, numerical_conflict, too_large}
 use Rattle.col_model.specs.Table.{Column}
 use Rattle.col_model.proofs.DecodedNumbers.{step-of}
 use Rattle.col_model.proofs.SharedTypes.{some≢none, same-some}
-use Rattle.col_types.specs.Kinds.{kind_of}
 use Rattle.col_types.specs.declared.column_type.ColumnType.{ColumnType}
-use Rattle.col_order.specs.Orders.{counts_of, picks_of}
 use Rattle.col_column.specs.Columns.{row_count}
 use Rattle.col_dynamic.specs.Dynamic.{dynamic_shape, value_count}
 use Rattle.col_dynamic.specs.declared.dynamic_column.DynamicColumn.{DynamicColumn}
 use Rattle.col_file.specs.Readers.{SeenReader}
 use Rattle.col_merge.specs.Joined.{joined_by, StandsAs, HasJoinCause, JoinsBytes, JoinsColumns}
-use Rattle.col_slot.specs.JoinedSlots.{part_seen, AreOpened, HasSlotCause, IsJoined, AddsJoined, IsRefusedAs, IsSlotRefusal}
+use Rattle.col_slot.specs.JoinedSlots.{part_seen, AreOpened, HasSlotCause, IsRefusedAs, IsSlotRefusal}
 use Rattle.col_slot.specs.Segments.{HaveRows}
 use Rattle.col_merge.specs.Opened.{IsOpenedAs, AllOpenedAs, is_bad, RefusesColumn, RefusesColumns}
 use Rattle.col_merge.specs.Parts.{told_part, told_parts}
-use Rattle.col_merge.specs.Readings.{SomeReaderRose}
 use Rattle.col_slots.specs.Slots.{counts_read}
-use Rattle.col_merge.specs.Turns.{refusal_of, RefusesParts, RefusesMerge}
+use Rattle.col_merge.specs.Turns.{refusal_of, RefusesMerge}
 use Rattle.col_slots.proofs.CountLemmas.{length-counts}
 use Rattle.col_merge.proofs.PartLemmas.{some-part}
 use Rattle.col_merge.proofs.ReadingLemmas.{rose-set}

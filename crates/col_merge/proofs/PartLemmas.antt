@@ -7,7 +7,7 @@ use Rattle.std.specs.declared.cmp.Ordering.TheVariants.{Less, Equal, Greater}
 use Rattle.std.proofs.lemmas.Bool.{or_right}
 use Rattle.col_common.specs.Reading.{◌>>=◌}
 use Rattle.col_model.specs.Category.{Slot, slot_cmp}
-use Rattle.col_model.specs.File.{Part, part_column, parts_of, for_each}
+use Rattle.col_model.specs.File.{Part, part_column, parts_of}
 use Rattle.col_model.specs.Keys.{Entry, FileKeys, is_name, keys}
 use Rattle.col_model.specs.Merge.{Required, required_slot, part_slot, all_slots, row_counts}
 use Rattle.col_model.specs.Sorted.{with_item, distinct_items}

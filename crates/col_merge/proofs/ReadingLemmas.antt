@@ -1,9 +1,7 @@
 -- What reading leaves of readers, one after another.
-use Rattle.std.proofs.Common.{◌≡◌, ℕ, zero, suc, ◌+◌, ◌-◌, ◌≤◌, ◌<◌, ◌^◌, min, List, [], ◌∷◌, map, length, drop, Option, Some, None, slice_get, refl, sym, ap, ap₂, ◌∙◌, subst, arith, add-one}
-use Rattle.std.specs.List.{AllZip}
+use Rattle.std.proofs.Common.{◌≡◌, ℕ, zero, suc, ◌+◌, ◌≤◌, List, [], ◌∷◌, drop, Some, slice_get, refl, sym, ap, ap₂, ◌∙◌, subst, arith, add-one}
 use Rattle.std.proofs.Math.ListN.{set}
-use Rattle.col_common.specs.Causes.{Rose, counted}
-use Rattle.col_model.specs.File.{Part, for_each}
+use Rattle.col_common.specs.Causes.{Rose}
 use Rattle.col_model.specs.Keys.{FileKeys}
 use Rattle.col_model.proofs.SharedTypes.{some≢none, same-some}
 use Rattle.col_common.specs.Reading.{◌>>=◌}
@@ -11,7 +9,7 @@ use Rattle.col_file.specs.Readers.{SeenReader, Reads}
 use Rattle.col_model.specs.File.{parts_of}
 use Rattle.col_merge.specs.Parts.{told_part, told_parts}
 use Rattle.col_merge.specs.Readings.{Stays, AllRead, SomeReaderRose}
-use Rattle.col_slots.specs.Slots.{keys_read, counts_read}
+use Rattle.col_slots.specs.Slots.{counts_read}
 
 pub stays-itself : (times : ℕ) (r : SeenReader) → Stays times r r
 stays-itself times r = record { told = refl; size = refl; later = omega arith; reads = omega arith; keys = refl; mark = refl }

@@ -1,21 +1,21 @@
 -- One slot after another.
-use Rattle.std.proofs.Common.{◌≡◌, ℕ, ◌+◌, ◌≤◌, ◌^◌, min, ◌<◌, List, [], ◌∷◌, ◌++◌, map, filter_map, length, take, drop, get_or, zero, suc, add-one, Option, Some, None, IfSome, option_map, Result, Ok, Err, refl, sym, ap, ap₂, ◌∙◌, subst, arith, append-nil, append_assoc}
+use Rattle.std.proofs.Common.{◌≡◌, ℕ, ◌+◌, ◌≤◌, ◌<◌, List, [], ◌∷◌, ◌++◌, map, filter_map, length, take, drop, get_or, zero, suc, add-one, Option, Some, None, IfSome, option_map, Result, Ok, Err, refl, sym, ap, ap₂, ◌∙◌, subst, arith, append-nil, append_assoc}
 use Rattle.std.proofs.lemmas.List.{map-append}
 use Rattle.std.proofs.lemmas.List.Elements.{filter_map-append}
-use Rattle.col_common.specs.Outside.{SeenSink, Grows, Faulted}
+use Rattle.col_common.specs.Outside.{SeenSink}
 use Rattle.col_common.specs.declared.error.ColumnarError.{ColumnarError}
 use Rattle.col_common.specs.declared.error.ColumnarError.TheVariants.{OutOfMemory, ReadFault, WriteFault, InvalidData, BadOrder, BadName, RequiredConflict, CannotCoerce, NumericalConflict, TooLarge, NoCodec, ForcedType, DocOrder, DocOutOfRange, TieBreakerStart, NotUtf8}
 use Rattle.col_model.specs.Category.{Slot}
 use Rattle.col_model.specs.File.{Part, part_of_column}
 use Rattle.col_model.specs.Keys.{Key, FileKeys}
-use Rattle.col_model.specs.Refusal.{Refusal, ◌>>=◌, each_ok}
+use Rattle.col_model.specs.Refusal.{Refusal, each_ok}
 use Rattle.col_model.specs.Table.{Column}
-use Rattle.col_keys.specs.Put.{Columns, no_columns, Puts, HavePut, part_put}
+use Rattle.col_keys.specs.Put.{Columns, no_columns, HavePut, part_put}
 use Rattle.col_keys.proofs.PutLemmas.{have-none, have-more}
 use Rattle.col_file.specs.Readers.{SeenReader}
 use Rattle.col_merge.specs.Parts.{told_parts}
-use Rattle.col_merge.specs.Readings.{AllRead, SomeReaderRose}
-use Rattle.col_merge.specs.Turns.{refusal_of, RefusesParts, RefusesMerge, GoesOn, PutsOne, IsPutAs, MergedOne, MergesOne, ArePutAs, MergedSoFar, MergesSlots}
+use Rattle.col_merge.specs.Readings.{AllRead}
+use Rattle.col_merge.specs.Turns.{RefusesParts, RefusesMerge, GoesOn, PutsOne, IsPutAs, MergedOne, ArePutAs, MergedSoFar}
 use Rattle.col_merge.proofs.EachLemmas.{each-more, each-stops}
 use Rattle.col_merge.proofs.ReadingLemmas.{rose-before, parts-stay, rose-later}
 

@@ -1,18 +1,16 @@
 -- The columns of slots are put one after another, and the end of the file behind them.
-use Rattle.std.proofs.Common.{◌≡◌, ℕ, ◌<◌, ◌^◌, Bool, true, false, List, [], map, length, Option, Some, None, IfSome, OnOk, Result, Ok, Err, refl, sym, ap, ◌∙◌, subst}
+use Rattle.std.proofs.Common.{◌≡◌, ℕ, ◌<◌, ◌^◌, true, false, List, map, length, Option, Some, None, IfSome, OnOk, Result, Ok, Err, refl, sym, ap, ◌∙◌, subst}
 use Rattle.std.specs.Bool.{nat_eq}
-use Rattle.std.specs.BTreeMap.{BTreeMap}
 use Rattle.std.specs.List.{AllByRecursion}
 use Rattle.std.specs.Cmp.Lexicographic.{pointwise}
 use Rattle.col_common.specs.Outside.{SeenSink}
 use Rattle.col_common.specs.Serializing.{Serializes}
 use Rattle.col_common.specs.declared.error.ColumnarError.{ColumnarError}
-use Rattle.col_common.specs.declared.error.ColumnarError.TheVariants.{OutOfMemory, ReadFault, WriteFault, InvalidData, BadOrder, BadName, RequiredConflict}
+use Rattle.col_common.specs.declared.error.ColumnarError.TheVariants.{OutOfMemory, BadOrder, BadName, RequiredConflict}
 use Rattle.col_model.specs.Category.{Slot}
-use Rattle.col_model.specs.Column.{column}
-use Rattle.col_model.specs.File.{Part, PartColumn, part_of_column}
+use Rattle.col_model.specs.File.{Part, PartColumn}
 use Rattle.col_model.specs.Keys.{Key}
-use Rattle.col_model.specs.Merge.{Required, row_counts, merged}
+use Rattle.col_model.specs.Merge.{Required, merged}
 use Rattle.col_model.specs.Order.{Order, picks}
 use Rattle.col_model.specs.Refusal.{Refusal, each_ok, bad_order, bad_name, required_conflict}
 use Rattle.col_model.specs.Spelling.{file_bytes}
@@ -20,16 +18,16 @@ use Rattle.col_model.specs.Table.{Column, Content}
 use Rattle.col_types.specs.Kinds.{kind_of}
 use Rattle.col_types.specs.declared.column_type.ColumnType.{ColumnType}
 use Rattle.col_keys.specs.KeyTables.{key_at}
-use Rattle.col_keys.specs.Put.{Columns, Puts, HavePut, AreKeys, HasColumns, part_put}
+use Rattle.col_keys.specs.Put.{Columns, Puts, HavePut, AreKeys, HasColumns}
 use Rattle.col_order.specs.Orders.{counts_of, picks_of}
 use Rattle.col_file.specs.Readers.{SeenReader, IsRead}
 use Rattle.col_merge.specs.Joined.{joined_by, JoinsColumns}
 use Rattle.col_slot.specs.JoinedSlots.{IsJoined}
-use Rattle.col_merge.specs.Merges.{AddsSlots, WritesSlots, MergesFiles}
+use Rattle.col_merge.specs.Merges.{WritesSlots, MergesFiles}
 use Rattle.col_merge.specs.Parts.{told_parts}
 use Rattle.col_slots.specs.RequiredTypes.{RequiresTypes}
-use Rattle.col_slots.specs.Slots.{keys_read, counts_read, slots_by_keys}
-use Rattle.col_merge.specs.Turns.{RefusesMerge, GoesOn, IsPutAs, MergedOne, MergesOne, MergedSoFar, MergesSlots}
+use Rattle.col_slots.specs.Slots.{counts_read}
+use Rattle.col_merge.specs.Turns.{RefusesMerge, IsPutAs, MergesOne, MergedSoFar}
 use Rattle.col_slots.proofs.CountLemmas.{alike-same}
 use Rattle.col_merge.proofs.EndLemmas.{IsMergeOf, told-each, table-added, table-refused, end-refused}
 use Rattle.col_merge.proofs.MergedLemmas.{other-order, merged-bad_order, merged-required}

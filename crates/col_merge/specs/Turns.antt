@@ -1,5 +1,5 @@
 -- What merging one slot, and slot after slot, leaves.
-use Rattle.std.specs.Prelude.{◌≡◌, ◌≤◌, ℕ, List, [], ◌∷◌, map, filter_map, Option, Some, None, Result, Ok, Err, IfSome}
+use Rattle.std.specs.Prelude.{◌≡◌, ◌≤◌, ℕ, List, map, filter_map, Option, Some, None, Result, Ok, Err, IfSome}
 use Rattle.col_common.specs.Outside.{SeenSink, Grows, Faulted}
 use Rattle.col_common.specs.declared.error.ColumnarError.{ColumnarError}
 use Rattle.col_common.specs.declared.error.ColumnarError.TheVariants.{OutOfMemory, ReadFault, WriteFault, InvalidData, BadOrder, BadName, RequiredConflict, CannotCoerce, NumericalConflict, TooLarge}

@@ -1,6 +1,5 @@
 -- What decoders make, by what is expected.
-use Rattle.std.proofs.Common.{◌≡◌, Option, Some, Ok, Result, sym, subst}
-use Rattle.col_common.specs.declared.error.ColumnarError.{ColumnarError}
+use Rattle.std.proofs.Common.{◌≡◌, Option, Some, Ok, sym, subst}
 use Rattle.col_open.specs.Contents.{DecodesTo}
 
 -- what was made of the value that is expected

@@ -25,7 +25,7 @@ use Rattle.col_model.specs.ColumnType as types
 use Rattle.col_model.specs.Dictionary.{cut, terms}
 use Rattle.col_model.specs.Images.{is_image_of_bool}
 use Rattle.col_model.specs.Index.{Counts, Shape, empty_shape, full_shape, optional_shape, multivalued_shape, counts}
-use Rattle.col_model.specs.Table.{Cell, Content}
+use Rattle.col_model.specs.Table.{Content}
 use Rattle.col_model.specs.U64List.{values64}
 use Rattle.col_numbers.specs.NumValues.{num_values_of}
 use Rattle.col_numbers.specs.declared.num_values.NumValues.{NumValues}

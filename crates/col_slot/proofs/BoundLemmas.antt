@@ -1,5 +1,5 @@
 -- Whether numbers may be of a type, by their bounds.
-use Rattle.std.proofs.Common.{◌≡◌, ◌∙◌, ℕ, ℤ, zero, suc, ◌+◌, ◌-◌, ◌<◌, ◌≤◌, ◌^◌, ◌&&◌, not, nat_le, get_or, pos, negsuc, w64, to_z, of_z, int_le, int_lt, Bool, true, false, List, [], ◌∷◌, length, map, filter_map, All, Contains, Option, Some, None, refl, sym, ap, ap₂, arith}
+use Rattle.std.proofs.Common.{◌≡◌, ◌∙◌, ℕ, ℤ, ◌-◌, ◌<◌, ◌^◌, ◌&&◌, not, nat_le, get_or, pos, w64, to_z, of_z, int_le, int_lt, Bool, true, false, List, [], ◌∷◌, length, map, filter_map, All, Contains, Some, refl, sym, ap, arith}
 use Rattle.std.specs.List.{list_all}
 use Rattle.std.specs.Ordering.{int_cmp, partial_le}
 use Rattle.std.proofs.lemmas.Bool.{true≢false}

@@ -1,42 +1,38 @@
 -- The column of a slot is the one that the definition joins.
-use Rattle.std.proofs.Common.{◌≡◌, ◌⊎◌, inl, inr, ℕ, zero, suc, ◌<◌, ◌==◌, not, Bool, true, false, cond, List, [], ◌∷◌, length, map, get_or, slice_get, unwrap_or, option_map, Some, None, Ok, Err, refl, sym, ap, ap₂, ◌∙◌, subst, arith}
-use Rattle.std.specs.Prelude.{Option, Result, ◌&&◌, ◌||◌, is_none, is_some, is_ok, filter_map, OnOk, IfErr}
-use Rattle.std.specs.List.{list_all, list_any, range_with_len, AllByRecursion}
+use Rattle.std.proofs.Common.{◌≡◌, ◌⊎◌, inl, inr, ℕ, zero, suc, ◌<◌, ◌==◌, Bool, true, false, cond, List, [], ◌∷◌, length, map, get_or, slice_get, unwrap_or, option_map, Some, None, Ok, Err, refl, sym, ap, ap₂, ◌∙◌, subst, arith}
+use Rattle.std.specs.Prelude.{Option, Result, ◌&&◌, ◌||◌, is_none, is_some, IfErr}
+use Rattle.std.specs.List.{list_all, list_any, AllByRecursion}
 use Rattle.std.proofs.lemmas.Bool.{true≢false, false≢true, ne_eqb, cases_lt}
 use Rattle.std.proofs.lemmas.List.{length-map, get_or_past}
 use Rattle.std.proofs.lemmas.List.FromFn.{get_or-map-range_with_len, length-map-range_with_len}
 use Rattle.std.proofs.lemmas.Option.{none-some}
-use Rattle.col_common.specs.Outside.{SeenSink, Appends, Faulted, Grows}
-use Rattle.col_common.specs.Serializing.{Serializes}
+use Rattle.col_common.specs.Outside.{SeenSink}
 use Rattle.col_common.specs.Refused.{code_of}
 use Rattle.col_common.specs.declared.error.ColumnarError.{ColumnarError}
 use Rattle.col_common.specs.declared.error.ColumnarError.TheVariants.{OutOfMemory, WriteFault, CannotCoerce, NumericalConflict, TooLarge}
 use Rattle.col_common.proofs.SerializingLemmas.{appends_none}
 use Rattle.col_model.proofs.SharedTypes.{some≢none}
-use Rattle.col_model.specs.Category.{Category, Slot, category_of}
-use Rattle.col_model.specs.Column.{column}
+use Rattle.col_model.specs.Category.{Slot}
 use Rattle.col_model.specs.ColumnType as types
 use Rattle.col_model.specs.File.{Part}
 use Rattle.col_model.specs.Index.{Shape, empty_shape}
 use Rattle.col_model.specs.Limits.{is_too_large, is_of_type}
-use Rattle.col_model.specs.Merge.{Required, required_type, kept_column, kept_columns, joined_content, joined_column, joined_type, shared_type, row_counts, has_bad_column, all_cells}
+use Rattle.col_model.specs.Merge.{Required, required_type, kept_columns, joined_content, joined_column, joined_type, shared_type, row_counts, has_bad_column, all_cells}
 use Rattle.col_model.specs.Order.{Order, picks, has_row}
 use Rattle.col_model.specs.Refusal.{Refusal, ◌>>=◌, refuse_if, or_refuse, invalid_data, cannot_coerce, numerical_conflict, too_large}
 use Rattle.col_model.specs.Table.{Cell, Column, Content}
 use Rattle.col_order.specs.Orders.{counts_of, picks_of, error_of}
 use Rattle.col_column.specs.Columns.{content_seen}
-use Rattle.col_column.specs.Written.{Refused}
-use Rattle.col_types.specs.Kinds.{kind_of}
 use Rattle.col_types.specs.declared.column_type.ColumnType.{ColumnType}
 use Rattle.col_dynamic.specs.declared.dynamic_column.DynamicColumn.{DynamicColumn}
 use Rattle.col_value_merge.proofs.MergedRowLemmas.{picks-there}
 use Rattle.col_value_merge.specs.Merges.{Columns, segment_shape, segment_values, merge_of}
 use Rattle.col_join.specs.Joins.{picked_content, JoinsColumn}
 use Rattle.col_join.specs.Slots.{AreNumbers, IsKeptAs, AreKeptAs, PickedContentIsJoined}
-use Rattle.col_slot.specs.JoinedSlots.{AreOpened, IsSlotRefusal, HasSlotCause, IsJoined, AddsJoined, IsRefusedAs, JoinsSlot, AreKept, IsJoinedContent, WritesJoined, WritesSlot, AreFlags, IsTypeFor, IsSlotJoined}
+use Rattle.col_slot.specs.JoinedSlots.{AreOpened, IsSlotRefusal, HasSlotCause, AddsJoined, IsRefusedAs, AreKept, IsJoinedContent, WritesJoined, WritesSlot, AreFlags, IsTypeFor}
 use Rattle.col_slot.specs.Kept.{has_value, keeps, kept_flags, IsCountedIn, IsOwn, IsOwnIn}
 use Rattle.col_slot.specs.Segments.{where_set, kept_of, column_seen, IsIn, HaveRows, IsSegmentAs, AreSegments, is_read_as}
-use Rattle.col_slot.proofs.PartLemmas.{kept-part, are-kept, kept-columns, kept-category, not-bad, required-category, kept-each, within-some}
+use Rattle.col_slot.proofs.PartLemmas.{are-kept, kept-columns, kept-category, not-bad, required-category, kept-each, within-some}
 use Rattle.col_slot.proofs.SegmentLemmas.{all-read}
 use Rattle.col_slot.proofs.SharedLemmas.{shared-read, wanted-type}
 

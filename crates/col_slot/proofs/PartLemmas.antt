@@ -1,15 +1,15 @@
 -- The columns that parts keep under a slot are those of which the flags are set.
-use Rattle.std.proofs.Common.{◌≡◌, ◌⊎◌, inl, inr, ℕ, zero, suc, ◌+◌, ◌<◌, ◌==◌, nat_lt, not, Bool, true, false, cond, List, [], ◌∷◌, length, map, find, get_or, slice_get, unwrap_or, option_map, Option, Some, None, refl, sym, ap, ap₂, ◌∙◌, subst, arith}
+use Rattle.std.proofs.Common.{◌≡◌, inl, inr, ℕ, zero, suc, ◌+◌, ◌<◌, ◌==◌, nat_lt, not, Bool, true, false, cond, List, [], ◌∷◌, length, map, find, get_or, slice_get, unwrap_or, option_map, Option, Some, None, refl, sym, ap, ap₂, ◌∙◌, subst, arith}
 use Rattle.std.specs.Prelude.{◌&&◌, ◌||◌, option_and_then, is_some, is_none}
-use Rattle.std.specs.List.{list_all, list_any, enumerate_from, filter_map, cons_option, range_with_len, AllByRecursion}
-use Rattle.std.proofs.lemmas.Bool.{and_parts, cases_eq, ne_eqb, lt-ltb, true≢false}
+use Rattle.std.specs.List.{list_all, list_any, enumerate_from, filter_map, cons_option, AllByRecursion}
+use Rattle.std.proofs.lemmas.Bool.{and_parts, cases_eq, ne_eqb, lt-ltb}
 use Rattle.std.proofs.lemmas.Grind.{common_steps}
 use Rattle.std.proofs.lemmas.List.{length-map}
 use Rattle.std.proofs.lemmas.List.FromFn.{get_or-map-range_with_len}
 use Rattle.std.proofs.lemmas.Option.{none-some, gets, slice_get_cases}
 use Rattle.col_common.specs.Reading.{only_if}
 use Rattle.col_model.proofs.OrderedColumns.{same-slots}
-use Rattle.col_model.specs.Category.{Slot, Category, category_of, slot_of, same_slot}
+use Rattle.col_model.specs.Category.{Slot, category_of, same_slot}
 use Rattle.col_model.specs.Column.{term_cell}
 use Rattle.col_model.specs.ColumnType.{ColumnType}
 use Rattle.col_model.specs.File.{Part, PartColumn, whole_column}
@@ -18,12 +18,12 @@ use Rattle.col_model.specs.Lookup.{row_of}
 use Rattle.col_model.specs.Merge.{Required, required_slot, required_type, part_slot, column_in, whole_column_in, kept_column, kept_columns, has_bad_column, row_counts}
 use Rattle.col_model.specs.Order.{has_row}
 use Rattle.col_model.specs.Positions.{count_in}
-use Rattle.col_model.specs.Table.{Cell, number, Column, Content}
+use Rattle.col_model.specs.Table.{Cell, number, Column}
 use Rattle.col_types.specs.Cells.{unsigned_cell, bool_cell}
 use Rattle.col_numbers.specs.NumValues.{num_values_of}
 use Rattle.col_column.specs.Columns.{row_count, rows_by, row_at, content_seen}
 use Rattle.col_column.specs.IpValues.{ip_values_of}
-use Rattle.col_dynamic.specs.Dynamic.{type_of, content_of, dynamic_shape, value_count}
+use Rattle.col_dynamic.specs.Dynamic.{content_of, dynamic_shape, value_count}
 use Rattle.col_dynamic.specs.declared.dynamic_column.DynamicColumn.{DynamicColumn}
 use Rattle.col_dynamic.specs.declared.dynamic_column.DynamicColumn.TheVariants as columns
 use Rattle.col_value_merge.proofs.MergedCellLemmas.{row-map}

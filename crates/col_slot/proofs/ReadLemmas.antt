@@ -1,5 +1,5 @@
 -- Columns that are read as numbers of a type, or as addresses.
-use Rattle.std.proofs.Common.{◌≡◌, ◌∙◌, ℕ, ℤ, ◌<◌, ◌≤◌, ◌^◌, ◌==◌, ◌&&◌, pos, negsuc, int_le, int_lt, nat_lt, Bool, true, false, List, [], ◌∷◌, length, map, get_or, All, Option, Some, None, is_some, IfSome, refl, sym, ap, ap₂, subst, arith}
+use Rattle.std.proofs.Common.{◌≡◌, ◌∙◌, ℕ, ℤ, ◌<◌, ◌^◌, ◌&&◌, Bool, true, false, List, [], ◌∷◌, length, map, get_or, All, Some, is_some, IfSome, refl, sym, ap, ap₂, arith}
 use Rattle.std.specs.List.{list_all}
 use Rattle.std.specs.Ordering.{partial_le}
 use Rattle.std.proofs.lemmas.Bool.{true≢false}
@@ -23,7 +23,6 @@ use Rattle.col_column.proofs.FirstLemmas.{length-rows}
 use Rattle.col_numbers.specs.declared.num_values.NumValues.{NumValues}
 use Rattle.col_column.specs.declared.ip_values.IpValues.{IpValues}
 use Rattle.col_column.specs.Columns.{Seen, IsCounted, row_count, rows_by, content_seen}
-use Rattle.col_column.specs.IpValues.{ip_values_of}
 use Rattle.col_dynamic.proofs.CoercionLemmas.{all-rows}
 use Rattle.col_dynamic.specs.Dynamic.{type_of, content_of, dynamic_shape, value_count, is_of, fits_type, as_bool, as_i64, as_u64, as_datetime, as_ip_addr}
 use Rattle.col_dynamic.specs.declared.dynamic_column.DynamicColumn.{DynamicColumn}

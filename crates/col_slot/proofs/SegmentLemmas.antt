@@ -5,19 +5,19 @@ use Rattle.std.proofs.lemmas.Bool.{eq-eqb}
 use Rattle.std.proofs.lemmas.List.{get_or-drop, get_or_default, drop-drop, drop-set-lt, length_push, length-map, take_all}
 use Rattle.std.proofs.lemmas.List.Folds.{list_all_more, list_all_at}
 use Rattle.std.proofs.lemmas.Option.{none-some, slice_get-map, slice_get-get_or, slice_get_within, get_or_from_slice_get}
-use Rattle.col_model.specs.Category.{Category, category_of, category_place}
+use Rattle.col_model.specs.Category.{category_of, category_place}
 use Rattle.col_model.specs.ColumnType.{ColumnType}
 use Rattle.col_model.specs.Index.{Shape, empty_shape}
 use Rattle.col_model.specs.Limits.{is_of_type}
 use Rattle.col_model.specs.Merge.{all_cells}
 use Rattle.col_model.specs.Table.{Cell, Content}
 use Rattle.col_model.specs.U64List.{joined_lists}
-use Rattle.col_column.specs.Columns.{IsCounted, row_count, content_seen}
+use Rattle.col_column.specs.Columns.{row_count, content_seen}
 use Rattle.col_dynamic.specs.Dynamic.{type_of, content_of, dynamic_shape, value_count}
 use Rattle.col_dynamic.specs.declared.dynamic_column.DynamicColumn.{DynamicColumn}
 use Rattle.col_values.specs.Values.{passes}
-use Rattle.col_value_merge.specs.Merges.{columns_by, AreColumns}
-use Rattle.col_slot.specs.Segments.{where_set, kept_of, column_seen, IsIn, HaveRows, same_category, is_read_as, is_none_or, IsSegmentAs, IsPart, AreParts, AreSegments}
+use Rattle.col_value_merge.specs.Merges.{columns_by}
+use Rattle.col_slot.specs.Segments.{where_set, column_seen, IsIn, HaveRows, same_category, is_read_as, is_none_or, IsPart, AreParts, AreSegments}
 
 -- ---- what is kept
 

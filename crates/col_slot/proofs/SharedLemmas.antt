@@ -1,6 +1,6 @@
 -- Each cell of columns is of the type that they share.
-use Rattle.std.proofs.Common.{◌≡◌, ℕ, Bool, true, false, not, ◌&&◌, ◌||◌, List, [], ◌∷◌, map, Some, None, Ok, Err, refl, sym, ◌∙◌, ap, ap₂, subst}
-use Rattle.std.specs.Prelude.{Option, Result}
+use Rattle.std.proofs.Common.{◌≡◌, ℕ, Bool, true, false, not, List, [], ◌∷◌, map, Some, None, Ok, refl, sym, ◌∙◌, ap, subst}
+use Rattle.std.specs.Prelude.{Option}
 use Rattle.std.specs.List.{list_all, list_any, AllByRecursion}
 use Rattle.std.proofs.lemmas.Bool.{true≢false, and_parts, and_from, or_parts}
 use Rattle.col_model.specs.ColumnType.{ColumnType, same_type}
@@ -8,13 +8,12 @@ use Rattle.col_model.specs.ColumnType as types
 use Rattle.col_model.specs.Category.{Category, category_of, only_type}
 use Rattle.col_model.specs.Limits.{is_of_type}
 use Rattle.col_model.specs.Merge.{all_cells, shared_type, joined_type}
-use Rattle.col_model.specs.Refusal.{Refusal, ◌>>=◌, refuse_if, or_refuse, cannot_coerce}
+use Rattle.col_model.specs.Refusal.{◌>>=◌, refuse_if, cannot_coerce}
 use Rattle.col_model.specs.Table.{Column}
 use Rattle.col_model.proofs.SharedTypes.{low, high, is_i64, number_type, type_by, some≢none, same-some, IsNumber, an_i64, a_u64, numbers-in, only-type, shared-type}
 use Rattle.col_model.proofs.SharedTypes as shared
 use Rattle.col_model.proofs.JoinedTypes.{category-type_by}
 use Rattle.col_model.proofs.CellRanges.{cells-i64, cells-u64}
-use Rattle.col_dynamic.specs.Dynamic.{type_of}
 use Rattle.col_dynamic.specs.declared.dynamic_column.DynamicColumn.{DynamicColumn}
 use Rattle.col_slot.specs.Segments.{column_seen, IsIn, is_read_as}
 use Rattle.col_slot.proofs.SegmentLemmas.{all-read}

@@ -1,5 +1,5 @@
 -- The type that the columns of a slot share, by what is seen of them.
-use Rattle.std.proofs.Common.{◌≡◌, ◌∙◌, ℕ, zero, suc, ◌+◌, ◌<◌, ◌≤◌, ◌&&◌, ◌||◌, not, Bool, true, false, if◌then◌else◌, List, [], ◌∷◌, length, take, drop, map, filter_map, get_or, slice_get, option_map, Option, Some, None, refl, sym, ap, ap₂, arith}
+use Rattle.std.proofs.Common.{◌≡◌, ◌∙◌, ℕ, ◌+◌, ◌<◌, ◌≤◌, ◌||◌, Bool, true, false, List, [], ◌∷◌, length, take, drop, map, filter_map, get_or, slice_get, option_map, Option, Some, None, refl, sym, ap}
 use Rattle.std.specs.List.{list_any, AllByRecursion}
 use Rattle.std.proofs.lemmas.Bool.{true≢false}
 use Rattle.std.proofs.lemmas.List.{drop_more, drop_all}
@@ -14,7 +14,7 @@ use Rattle.col_model.specs.Table.{Column}
 use Rattle.col_values.specs.Values.{passes}
 use Rattle.col_dynamic.specs.Dynamic.{type_of}
 use Rattle.col_dynamic.specs.declared.dynamic_column.DynamicColumn.{DynamicColumn}
-use Rattle.col_slot.specs.Segments.{where_set, kept_of, column_seen, IsIn}
+use Rattle.col_slot.specs.Segments.{column_seen, IsIn}
 use Rattle.col_slot.specs.SlotTypes.{HaveSeen, is_signed, is_low, is_high, type_seen}
 use Rattle.col_slot.specs.declared.shared_type.NumbersSeen.{NumbersSeen}
 use Rattle.col_slot.proofs.SegmentLemmas.{any-kept}

@@ -1,10 +1,10 @@
 -- What stands in a joined column of terms is what the definition of merged tables joins.
-use Rattle.std.proofs.Common.{◌≡◌, ◌⊎◌, inl, inr, ℕ, zero, suc, ◌+◌, ◌-◌, ◌<◌, ◌^◌, ◌==◌, ◌&&◌, ◌||◌, not, nat_lt, nat_le, Bool, true, false, cond, List, [], ◌∷◌, ◌++◌, length, map, drop, get_or, slice_get, unwrap_or, option_map, Option, Some, None, Result, Ok, Err, refl, sym, ap, ap₂, ◌∙◌, subst, arith}
-use Rattle.std.specs.Prelude.{option_and_then, filter_map, sum, count_by, OnOk}
+use Rattle.std.proofs.Common.{◌≡◌, inr, ℕ, zero, suc, ◌+◌, ◌<◌, ◌==◌, ◌&&◌, nat_lt, nat_le, Bool, true, false, cond, List, [], ◌∷◌, ◌++◌, length, map, drop, get_or, slice_get, unwrap_or, option_map, Option, Some, None, Result, refl, sym, ap, ap₂, ◌∙◌, subst, arith}
+use Rattle.std.specs.Prelude.{option_and_then, filter_map}
 use Rattle.std.specs.List.{list_all, list_any, enumerate_from, cons_option, fold, AllByRecursion}
 use Rattle.std.specs.Ordering.{nat_cmp}
 use Rattle.std.specs.Cmp.Lexicographic.{slice_cmp}
-use Rattle.std.proofs.lemmas.Bool.{and_parts, or_parts, eq-eqb, true≢false, false≢true, lt-ltb}
+use Rattle.std.proofs.lemmas.Bool.{and_parts, or_parts, eq-eqb, true≢false, lt-ltb}
 use Rattle.std.proofs.lemmas.Grind.{common_steps}
 use Rattle.std.proofs.lemmas.List.{drop-drop, length-map}
 use Rattle.std.proofs.lemmas.List.Folds.{list_all-map}
@@ -16,10 +16,10 @@ use Rattle.col_model.specs.Category.{Slot}
 use Rattle.col_model.specs.Column.{term_cell}
 use Rattle.col_model.specs.ColumnType.{ColumnType, has_terms}
 use Rattle.col_model.specs.File.{Part}
-use Rattle.col_model.specs.Index.{Shape, empty_shape}
+use Rattle.col_model.specs.Index.{empty_shape}
 use Rattle.col_model.specs.Limits.{tightest}
 use Rattle.col_model.specs.Lookup.{row_of}
-use Rattle.col_model.specs.Merge.{cells_in, whole_column_in, kept_column, kept_columns, segment_cardinality, greater_cardinality, all_terms, joined_content, row_counts}
+use Rattle.col_model.specs.Merge.{cells_in, whole_column_in, kept_column, segment_cardinality, greater_cardinality, row_counts}
 use Rattle.col_model.specs.Order.{Order, stack, shuffle, has_row, picks, all_rows}
 use Rattle.col_model.specs.Positions.{count_in, picked_counts}
 use Rattle.col_model.specs.Sorted.{distinct_items}
@@ -31,11 +31,9 @@ use Rattle.col_order.specs.Orders.{counts_of, picks_of}
 use Rattle.col_numbers.specs.NumValues.{num_values_of}
 use Rattle.col_index.specs.Offsets.{cardinality_in}
 use Rattle.col_indexer.specs.Counted.{tightest_of}
-use Rattle.col_indexer.specs.Merged.{merged_cardinality}
 use Rattle.col_column.proofs.RowLemmas.{row-empty}
 use Rattle.col_column.specs.Columns.{rows_by, row_at, docs_in}
 use Rattle.col_text.specs.Texts.{Texts, texts_content}
-use Rattle.col_dynamic.specs.Dynamic.{content_of}
 use Rattle.col_dynamic.specs.declared.dynamic_column.DynamicColumn.{DynamicColumn}
 use Rattle.col_term_merge.specs.Numbering.{terms_of}
 use Rattle.col_value_merge.proofs.MergedCellLemmas.{row-map}

@@ -1,8 +1,7 @@
 -- Columns of terms of segments, one after another.
-use Rattle.std.proofs.Common.{◌≡◌, ◌⊎◌, inl, inr, ℕ, zero, suc, ◌+◌, ◌<◌, ◌≤◌, ◌&&◌, Bool, true, false, List, [], ◌∷◌, ◌++◌, length, map, take, get_or, slice_get, unwrap_or, Option, Some, None, refl, sym, ap, ap₂, ◌∙◌, subst, arith}
-use Rattle.std.specs.Prelude.{filter_map, is_some, IfSome}
+use Rattle.std.proofs.Common.{◌≡◌, ◌⊎◌, inl, inr, ℕ, suc, ◌+◌, ◌<◌, ◌≤◌, ◌&&◌, true, false, List, [], ◌∷◌, ◌++◌, length, map, take, get_or, slice_get, unwrap_or, Option, Some, None, refl, sym, ap, ap₂, ◌∙◌, subst, arith}
+use Rattle.std.specs.Prelude.{filter_map}
 use Rattle.std.specs.List.{list_all}
-use Rattle.std.proofs.lemmas.Bool.{true≢false}
 use Rattle.std.proofs.lemmas.List.{take_all, length_push}
 use Rattle.std.proofs.lemmas.List.Folds.{list_all_more, list_all_at}
 use Rattle.std.proofs.lemmas.Option.{none-some}
@@ -12,7 +11,7 @@ use Rattle.col_model.specs.Index.{empty_shape}
 use Rattle.col_numbers.specs.NumValues.{num_values_of}
 use Rattle.col_column.specs.Columns.{docs_in, row_count}
 use Rattle.col_text.specs.Texts.{Texts}
-use Rattle.col_dynamic.specs.Dynamic.{type_of, dynamic_shape, value_count, as_bytes, as_str}
+use Rattle.col_dynamic.specs.Dynamic.{dynamic_shape, value_count, as_bytes, as_str}
 use Rattle.col_dynamic.specs.declared.dynamic_column.DynamicColumn.{DynamicColumn}
 use Rattle.col_dynamic.specs.declared.dynamic_column.DynamicColumn.TheVariants as columns
 use Rattle.col_slot.specs.Segments.{is_read_as, is_none_or}

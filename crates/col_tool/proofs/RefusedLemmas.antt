@@ -1,5 +1,5 @@
 -- The statuses of refusals.
-use Rattle.std.proofs.Common.{◌≡◌, ◌⊎◌, ◌==◌, ℕ, suc, zero, Bool, true, false, [], ◌∷◌, Contains, inl, inr, refl, arith}
+use Rattle.std.proofs.Common.{◌≡◌, ◌==◌, ℕ, suc, zero, Bool, true, false, [], ◌∷◌, Contains, inl, inr, refl, arith}
 use Rattle.std.specs.Prelude.{◌||◌}
 use Rattle.std.proofs.lemmas.List.Elements.{All-contains, All-from_recursion}
 use Rattle.col_common.specs.Refused.{code_of}

@@ -1,4 +1,4 @@
-use Rattle.std.proofs.Common.{◌≡◌, ◌+◌, map, refl, ap, ◌∙◌, arith}
+use Rattle.std.proofs.Common.{◌+◌, map, refl, ap, ◌∙◌, arith}
 use Rattle.std.specs.List.{list_all}
 use Rattle.col_index.specs.Indexes.{shape_of}
 use Rattle.col_model.specs.Order.{has_row}

@@ -1,4 +1,4 @@
-use Rattle.std.proofs.Common.{List, map, option_map, arith, ◌∙◌, sym}
+use Rattle.std.proofs.Common.{map, option_map, arith}
 use Rattle.std.proofs.lemmas.Result.{err_from_is_err_and}
 use Rattle.col_file.specs.Files.{seen_by}
 use Rattle.col_find.specs.Finds.{find_of}
@@ -6,7 +6,7 @@ use Rattle.col_order.specs.Orders.{address_of}
 use Rattle.col_slots.specs.Slots.{required_of}
 use Rattle.col_made.specs.Making.{IsMade}
 use Rattle.col_made.specs.Parts.{handed_in}
-use Rattle.col_made.proofs.MakeLemmas.{inputs-memory, inputs-handed, held-long}
+use Rattle.col_made.proofs.MakeLemmas.{inputs-memory, held-long}
 use Rattle.col_made.proofs.PartLemmas.{all_keep-none}
 use Rattle.col_made.proofs.made.merge_inputs.Goals as goal
 

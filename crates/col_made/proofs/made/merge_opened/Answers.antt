@@ -1,4 +1,4 @@
-use Rattle.std.proofs.Common.{List, map, option_map, reverse, drop, length, sym, ap, ◌∙◌, subst, arith}
+use Rattle.std.proofs.Common.{map, option_map, reverse, drop, length, ◌∙◌, arith}
 use Rattle.std.proofs.lemmas.List.{take_at}
 use Rattle.std.proofs.lemmas.Result.{err_from_is_err_and}
 use Rattle.col_file.specs.Files.{seen_by}

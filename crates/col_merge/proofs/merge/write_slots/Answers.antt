@@ -1,5 +1,4 @@
 use Rattle.std.proofs.Common.{length}
-use Rattle.std.proofs.lemmas.Result.{err_from_is_err_and}
 use Rattle.col_order.specs.Orders.{picks_of}
 use Rattle.col_order.specs.RowOrders.{order_of}
 use Rattle.col_merge.specs.Joined.{joined_by}

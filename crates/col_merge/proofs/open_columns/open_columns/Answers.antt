@@ -1,4 +1,4 @@
-use Rattle.std.proofs.Common.{◌≡◌, Some, [], get_or, refl, subst, sym, arith, slice_get}
+use Rattle.std.proofs.Common.{[], get_or, refl, subst, sym, arith}
 use Rattle.std.proofs.lemmas.Option.{slice_get-get_or}
 use Rattle.std.proofs.lemmas.Result.{err_from_is_err_and}
 use Rattle.col_merge.specs.Opened.{AllOpenedAs}

@@ -1,4 +1,4 @@
-use Rattle.std.proofs.Common.{length, take}
+use Rattle.std.proofs.Common.{take}
 use Rattle.col_merge.specs.Opened.{AllOpenedAs}
 use Rattle.col_merge.specs.Readings.{AllRead, slot_reads}
 use Rattle.col_merge.proofs.ReadingLemmas.{AreLeft}

@@ -1,4 +1,4 @@
-use Rattle.std.proofs.Common.{◌≡◌, ℕ, List, length, take}
+use Rattle.std.proofs.Common.{◌≡◌, List, length, take}
 use Rattle.col_model.specs.Category.{Slot}
 use Rattle.col_model.specs.Merge.{Required, required_type}
 use Rattle.col_order.specs.Orders.{picks_of}

@@ -1,4 +1,4 @@
-use Rattle.std.proofs.Common.{ℕ, length, nat_lt, Bool, arith, ap}
+use Rattle.std.proofs.Common.{length, nat_lt, arith, ap}
 use Rattle.col_numbers.proofs.CoercionLemmas.{bound_tells}
 use Rattle.col_numbers.specs.NumValues.{num_values_of}
 use Rattle.col_open.proofs.LenientLemmas.{below_greatest}

@@ -1,4 +1,4 @@
-use Rattle.std.proofs.Common.{◌≡◌, map, ap, ◌∙◌, subst}
+use Rattle.std.proofs.Common.{map, ap, ◌∙◌, subst}
 use Rattle.std.specs.List.{AllByRecursion}
 use Rattle.col_order.specs.RowOrders.{order_of}
 use Rattle.col_column.specs.Columns.{docs_in}

@@ -1,4 +1,4 @@
-use Rattle.std.proofs.Common.{◌≡◌, ◌∙◌, All, true, sym, subst}
+use Rattle.std.proofs.Common.{◌≡◌, All, true, sym, subst}
 use Rattle.col_model.specs.ColumnType as types
 use Rattle.col_numbers.specs.NumValues.{num_values_of}
 use Rattle.col_values.specs.Codes.{is_i64}

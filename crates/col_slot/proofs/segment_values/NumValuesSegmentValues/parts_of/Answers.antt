@@ -1,6 +1,4 @@
-use Rattle.std.proofs.Common.{◌≡◌, ◌∙◌, sym, ap, ap₂}
 use Rattle.col_numbers.specs.NumValues.{num_values_of}
-use Rattle.col_column.specs.Columns.{content_seen}
 use Rattle.col_slot.proofs.ReadLemmas.{same-part}
 use Rattle.col_slot.proofs.segment_values.NumValuesSegmentValues.parts_of.Goals as goal
 

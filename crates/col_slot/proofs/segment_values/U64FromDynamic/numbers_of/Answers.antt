@@ -1,4 +1,4 @@
-use Rattle.std.proofs.Common.{◌∙◌, sym, ap, is_some}
+use Rattle.std.proofs.Common.{◌∙◌, ap, is_some}
 use Rattle.col_dynamic.specs.Dynamic.{content_of}
 use Rattle.col_slot.proofs.ReadLemmas.{fits-u64, is-u64}
 use Rattle.col_slot.proofs.segment_values.U64FromDynamic.numbers_of.Goals as goal
