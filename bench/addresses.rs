@@ -2,7 +2,7 @@
 mod compact;
 mod shared;
 
-use compact::{train, write};
+use compact::{Codes, train, write};
 use std::time::Instant;
 
 const RUNS: usize = 3;
@@ -39,6 +39,27 @@ fn measure(name: &str, vals: &[u128]) {
     });
     let sum = |sum: u64, byte: &u8| sum.wrapping_mul(31).wrapping_add(u64::from(*byte));
     println!("{name} write {nanos} {}", bytes.iter().fold(0, sum));
+    read(name, bytes.leak(), vals.to_vec());
+}
+
+fn read(name: &str, bytes: &'static [u8], mut sorted: Vec<u128>) {
+    let (nanos, codes) = best(|| {
+        let codes = Codes::open(bytes);
+        assert!(codes.are_whole());
+        codes
+    });
+    println!("{name} open {nanos} {}", bytes.len());
+    let (nanos, sum) = best(|| (0..codes.count()).fold(0u128, |sum, at| sum.wrapping_add(codes.get(at))));
+    println!("{name} get_val {nanos} {sum}");
+    sorted.sort_unstable();
+    let mut hits = Vec::new();
+    for percent in [1, 10] {
+        let first = sorted.len() / 4;
+        let (low, high) = (sorted[first], sorted[first + sorted.len() * percent / 100]);
+        let (nanos, ()) = best(|| codes.lookup(low, high, &mut hits));
+        let sum = |sum: u64, row: &u32| sum.wrapping_mul(31).wrapping_add(u64::from(*row));
+        println!("{name} lookup_{percent} {nanos} {}", hits.iter().fold(0, sum));
+    }
 }
 
 fn main() {

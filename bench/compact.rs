@@ -4,6 +4,7 @@
 use crate::shared::Packed;
 
 const COST: u64 = 36;
+const BLOCK_LEN: usize = 1024;
 
 pub fn bits(n: u128) -> u64 { u64::from(128 - n.leading_zeros()) }
 
@@ -105,28 +106,76 @@ fn take_vint(data: &mut &[u8]) -> u128 {
     }
 }
 
-pub fn read(mut bytes: &'static [u8]) -> Vec<u128> {
-    let count = take_vint(&mut bytes) as usize;
-    let (parts, len) = bytes[1..].split_last_chunk().unwrap();
-    let (codes, footer) = parts.split_at(parts.len() - u64::from_le_bytes(*len) as usize);
-    let mut footer = &footer[8..];
-    let _bounds_and_count = [(); 3].map(|_| take_vint(&mut footer));
-    let width = footer[0] as usize;
-    footer = &footer[1..];
-    let (mut end, mut code) = (0, 1);
-    let num_ranges = take_vint(&mut footer);
-    let ranges = (0..num_ranges).map(|_| {
-        let start = end + take_vint(&mut footer);
-        end = start + take_vint(&mut footer);
-        let range = (start, end, code);
-        code += (end - start) as u32 + 1;
-        range
-    });
-    let ranges: Vec<Range> = ranges.collect();
-    let mut vals = Vec::with_capacity(count);
-    Packed::new(codes, width).each(0..count, |_, code| {
-        let range = ranges[ranges.partition_point(|range| u64::from(range.2) <= code) - 1];
-        vals.push(range.0 + u128::from(code - u64::from(range.2)));
-    });
+// A list of codes, read in place, with its ranges.
+pub struct Codes { packed: Packed, ranges: Vec<Range>, count: usize }
+
+impl Codes {
+    pub fn open(mut bytes: &'static [u8]) -> Codes {
+        let count = take_vint(&mut bytes) as usize;
+        let (parts, len) = bytes[1..].split_last_chunk().unwrap();
+        let (codes, footer) = parts.split_at(parts.len() - u64::from_le_bytes(*len) as usize);
+        let mut footer = &footer[8..];
+        let _bounds_and_count = [(); 3].map(|_| take_vint(&mut footer));
+        let width = footer[0] as usize;
+        footer = &footer[1..];
+        let (mut end, mut code) = (0, 1);
+        let num_ranges = take_vint(&mut footer);
+        let ranges = (0..num_ranges).map(|_| {
+            let start = end + take_vint(&mut footer);
+            end = start + take_vint(&mut footer);
+            let range = (start, end, code);
+            code += (end - start) as u32 + 1;
+            range
+        });
+        let ranges = ranges.collect();
+        Codes { packed: Packed::new(codes, width), ranges, count }
+    }
+
+    // Whether all codes are of numbers in the ranges, and the first and the last of these are there.
+    pub fn are_whole(&self) -> bool {
+        let last = self.ranges[self.ranges.len() - 1];
+        let (mut least, mut greatest) = (u64::MAX, 0);
+        self.packed.each(0..self.count, |_, code| {
+            least = least.min(code);
+            greatest = greatest.max(code);
+        });
+        least == 1 && greatest == u64::from(last.2) + (last.1 - last.0) as u64
+    }
+
+    #[inline(always)]
+    fn number(&self, code: u64) -> u128 {
+        let range = self.ranges[self.ranges.partition_point(|range| u64::from(range.2) <= code) - 1];
+        range.0 + u128::from(code - u64::from(range.2))
+    }
+
+    #[inline(always)]
+    pub fn get(&self, at: usize) -> u128 { self.number(self.packed.get(at)) }
+
+    pub fn count(&self) -> usize { self.count }
+
+    // The positions of the numbers from one to another, both of which are in ranges, in place of what was there.
+    pub fn lookup(&self, low: u128, high: u128, hits: &mut Vec<u32>) {
+        let code = |val| {
+            let (start, _, code) = self.ranges[self.ranges.partition_point(|range| range.0 <= val) - 1];
+            u64::from(code) + (val - start) as u64
+        };
+        let (low, high) = (code(low), code(high));
+        hits.clear();
+        let mut block = [0; BLOCK_LEN];
+        for start in (0..self.count).step_by(BLOCK_LEN) {
+            let mut found = 0;
+            self.packed.each(start..self.count.min(start + BLOCK_LEN), |row, code| {
+                unsafe { *block.get_unchecked_mut(found) = row as u32 }
+                found += usize::from(low <= code && code <= high);
+            });
+            hits.extend_from_slice(&block[..found]);
+        }
+    }
+}
+
+pub fn read(bytes: &'static [u8]) -> Vec<u128> {
+    let codes = Codes::open(bytes);
+    let mut vals = Vec::with_capacity(codes.count);
+    codes.packed.each(0..codes.count, |_, code| vals.push(codes.number(code)));
     vals
 }

@@ -57,7 +57,7 @@ impl Packed {
     }
 
     #[inline(always)]
-    fn get(&self, at: usize) -> u64 {
+    pub fn get(&self, at: usize) -> u64 {
         let from = at * self.bits;
         if from / 8 + 8 > self.data.len() { return self.get_last(at); }
         unsafe { self.get_padded(at) }
