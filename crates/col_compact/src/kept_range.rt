@@ -75,4 +75,9 @@ impl KeptRange {
     {
         self.compact_start
     }
+
+    /// The code of its last number, as far as one has 32 bits. No promise is made of it.
+    pub(crate) fn last_code(&self) -> u32 {
+        self.compact_start.saturating_add(self.span)
+    }
 }

@@ -109,7 +109,7 @@ pub(crate) fn read_space(
         return Err(ColumnarError::InvalidData);
     }
     match read_ranges(alloc, count, rest) {
-        Ok((ranges_mapping, rest)) => Ok((CompactSpace { ranges_mapping }, rest)),
+        Ok((ranges_mapping, rest)) => Ok((CompactSpace::with_hints(alloc, ranges_mapping)?, rest)),
         Err(refusal) => Err(refusal),
     }
 }
