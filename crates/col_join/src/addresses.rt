@@ -10,11 +10,11 @@ ghost use Rattle.col_value_merge.specs.Merges.{IsMerge};
 ghost use Rattle.col_join.specs.Joins.{address_merge, picked_content, JoinsColumn};
 
 use crate::merged_index::index_within_limits;
-use col_column::{IpValues, serialize_column_mappable_to_u128};
+use col_column::IpValues;
 use col_common::{ColumnarError, Sink};
 use col_index::ColumnIndex;
 use col_order::{MergeRowOrder, orders_are_picks};
-use col_value_merge::MergedColumnValues;
+use col_value_merge::{MergedColumnValues, serialize_collected_u128};
 use std::alloc::Global;
 
 /// Writes the column of the rows that an order picks from columns of addresses: an index and a list
@@ -37,5 +37,5 @@ pub fn join_addresses<K: Sink>(
         return Err(ColumnarError::TooLarge);
     };
     let values = MergedColumnValues::new(column_indexes, column_values, merge_row_order);
-    serialize_column_mappable_to_u128(alloc, index, &values, sink)
+    serialize_collected_u128(alloc, index, &values, sink)
 }

@@ -12,13 +12,12 @@ ghost use Rattle.col_join.specs.Limits.{HasNoCodes, IsMergedWithin};
 ghost use Rattle.col_join.specs.Joins.{number_merge, picked_content, JoinsColumn};
 
 use crate::merged_index::index_within_limits;
-use col_column::serialize_column_mappable_to_u64;
 use col_common::{ColumnarError, Sink};
 use col_index::ColumnIndex;
 use col_numbers::NumValues;
 use col_order::{MergeRowOrder, orders_are_picks};
 use col_types::StoredAsU64;
-use col_value_merge::MergedColumnValues;
+use col_value_merge::{MergedColumnValues, serialize_collected_u64};
 use std::alloc::Global;
 
 /// Writes the column of the rows that an order picks from columns: an index and a list for each
@@ -46,7 +45,7 @@ where
         return Err(ColumnarError::TooLarge);
     };
     let values = MergedColumnValues::new(column_indexes, column_values, merge_row_order);
-    serialize_column_mappable_to_u64(alloc, index, &values, sink)
+    serialize_collected_u64(alloc, index, &values, sink)
 }
 
 // Each value is one of its type.

@@ -17,13 +17,12 @@ ghost use Rattle.col_term_merge.specs.Numbering.{lists_of};
 
 use crate::noted_terms::NotedTerms;
 use crate::take_terms::take_terms;
-use col_column::serialize_column_mappable_to_u64;
 use col_common::{ColumnarError, Sink, serialize_bytes};
 use col_indexer::SerializableColumnIndex;
 use col_order::{MergeRowOrder, orders_are_picks};
 use col_terms::{dictionaries_are_read_back, terms_are_those_given};
 use col_text::BytesColumn;
-use col_value_merge::{RemappedTermOrdinalsValues, merged_values_are_rows};
+use col_value_merge::{RemappedTermOrdinalsValues, merged_values_are_rows, serialize_collected_u64};
 use std::alloc::Global;
 
 /// Writes the column of the rows that an order picks from columns of terms, behind the index of
@@ -139,6 +138,6 @@ fn write_ords<K: Sink>(
     orders_are_picks(merge_row_order);
     merged_values_are_rows::<u64>();
     let values = RemappedTermOrdinalsValues::new(bytes_columns, term_ord_mapping, merge_row_order);
-    serialize_column_mappable_to_u64(alloc, column_index, &values, sink)?;
+    serialize_collected_u64(alloc, column_index, &values, sink)?;
     serialize_bytes(sink, &dictionary_len.to_le_bytes())
 }

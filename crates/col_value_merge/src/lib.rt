@@ -2,12 +2,14 @@
 //! Contracts see the columns of segments, and the order that picks their rows.
 #![tactic(auto)]
 
+mod in_memory;
 mod laws;
 mod merged_column_values;
 mod remapped_term_ordinals;
 mod runs;
 mod segments;
 
+pub use in_memory::{collected, serialize_collected_u64, serialize_collected_u128};
 pub use laws::{merged_cells_are_picked, merged_values_are_rows};
 pub use merged_column_values::MergedColumnValues;
 pub use remapped_term_ordinals::RemappedTermOrdinalsValues;

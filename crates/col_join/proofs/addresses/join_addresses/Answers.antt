@@ -20,12 +20,12 @@ returns-in_default g c =
     let m = address_merge c.args.column_indexes.now c.args.column_values.now c.args.merge_row_order.now in
     joins-refused _ types.ip _ _ (large-none types.ip unsigned_cell m c.requires c.orders_are_picks.ensures c.in_default.ensures.some)
 
-pub serialize_column_mappable_to_u128-requires-clause-counted : goal.serialize_column_mappable_to_u128-requires-clause-counted
-serialize_column_mappable_to_u128-requires-clause-counted g c =
+pub serialize_collected_u128-requires-clause-counted : goal.serialize_collected_u128-requires-clause-counted
+serialize_collected_u128-requires-clause-counted g c =
     let m = address_merge c.args.column_indexes.now c.args.column_values.now c.args.merge_row_order.now in
     (counted-seen c.new-values.result m (index_of c.in-Some.index) c.new-values.ensures c.requires c.orders_are_picks.ensures c.in-Some.ensures.index).counted
 
 pub returns : goal.returns
 returns g c =
     let m = address_merge c.args.column_indexes.now c.args.column_values.now c.args.merge_row_order.now in
-    addresses-seen c.new-values.result m (index_of c.in-Some.index) c.new-values.ensures c.requires c.orders_are_picks.ensures c.in-Some.ensures.index c.in-Some.ensures.some _ _ _ c.serialize_column_mappable_to_u128.ensures.ok c.serialize_column_mappable_to_u128.ensures.too_large
+    addresses-seen c.new-values.result m (index_of c.in-Some.index) c.new-values.ensures c.requires c.orders_are_picks.ensures c.in-Some.ensures.index c.in-Some.ensures.some _ _ _ c.serialize_collected_u128.ensures.ok c.serialize_collected_u128.ensures.too_large

@@ -1,0 +1,12 @@
+use Rattle.std.proofs.Common.{◌≡◌, ◌++◌, length}
+use Rattle.col_value_merge.proofs.in_memory.collected.Given as goal
+
+-- what was collected and what is left are the list
+abbrev pub invariant-loop-item : goal.invariant-loop-item
+invariant-loop-item g l = record {
+  stands : g.I.Iterable.stands l.list l.at;
+  whole : l.items.items ++ g.I.Iterable.left l.list l.at ≡ g.I.Iterable.items l.list;
+}
+
+abbrev pub decreases-loop-item : goal.decreases-loop-item
+decreases-loop-item g l = length (g.I.Iterable.left l.list l.at)

@@ -1,0 +1,90 @@
+//! Merged values that are walked once, and written from memory.
+ghost use Rattle.std.specs.Prelude.{◌≡◌, ◌<◌, ◌^◌, false, length, map, OnOk, IfOk};
+ghost use Rattle.col_common.specs.Serializing.{Serializes};
+ghost use Rattle.col_common.specs.declared.error.ColumnarError.TheVariants as refusals;
+ghost use Rattle.col_compact.specs.Covers.{IsTooLarge};
+ghost use Rattle.col_model.specs.AddressList.{least_codes};
+ghost use Rattle.col_model.specs.ColumnType as types;
+ghost use Rattle.col_indexer.specs.Spelling.{IsIndex, index_shape, is_past_limit};
+ghost use Rattle.col_indexer.specs.Written.{index_of};
+ghost use Rattle.col_column.specs.Columns.{IsCounted};
+ghost use Rattle.col_column.specs.Written.{number_column_bytes, column_codecs, StandForRows, SerializesRows, Refused};
+
+use col_column::{serialize_column_mappable_to_u64, serialize_column_mappable_to_u128};
+use col_common::{ColumnarError, Iterable, Sink};
+use col_indexer::SerializableColumnIndex;
+use col_values::{MonotonicallyMappableToU64, MonotonicallyMappableToU128};
+use std::alloc::{AllocError, Global};
+
+/// The items of a list, in memory.
+pub fn collected<T, I>(alloc: Global, list: &I) -> Result<Vec<T>, AllocError>
+where
+    T: Copy,
+    I: Iterable<T>,
+    ensures { IfOk result (λ v. v.items ≡ I.items list.now) }
+{
+    let mut items = Vec::new(alloc);
+    let mut at = list.walk();
+    while let Some(item) = list.next(&mut at) {
+        items.push(item)?;
+    }
+    Ok(items)
+}
+
+/// Writes a column of an index and the values that it counts, as numbers of 64 bits. The values are
+/// walked once.
+pub fn serialize_collected_u64<T, I, K>(
+    alloc: Global,
+    column_index: SerializableColumnIndex<'_>,
+    column_values: &I,
+    sink: &mut K,
+) -> Result<(), ColumnarError>
+where
+    T: MonotonicallyMappableToU64,
+    I: Iterable<T>,
+    K: Sink,
+    requires index { IsIndex (index_of column_index) }
+    requires limit { is_past_limit (index_of column_index) ≡ false }
+    requires counted { IsCounted (index_shape (index_of column_index))
+        (length (I.items column_values.now)) }
+    requires few { length (I.items column_values.now) < 2 ^ 32 }
+    ensures ok { Serializes (K.seen sink.old) (K.seen sink.new) result
+        (number_column_bytes column_codecs (index_of column_index.entry)
+        (map T.code (I.items column_values.now))) }
+    // What was written stands for the rows.
+    ensures again { OnOk result (StandForRows
+        (number_column_bytes column_codecs (index_of column_index.entry)
+        (map T.code (I.items column_values.now)))
+        (index_shape (index_of column_index.entry)) (map T.code (I.items column_values.now))) }
+{
+    let values = collected(alloc, column_values)?;
+    serialize_column_mappable_to_u64(alloc, column_index, &values.as_slice(), sink)
+}
+
+/// The same of numbers of 128 bits. It answers TooLarge where there are more values, or more codes
+/// are needed, than 32 bits count; then the index may have been written.
+pub fn serialize_collected_u128<T, I, K>(
+    alloc: Global,
+    column_index: SerializableColumnIndex<'_>,
+    column_values: &I,
+    sink: &mut K,
+) -> Result<(), ColumnarError>
+where
+    T: MonotonicallyMappableToU128,
+    I: Iterable<T>,
+    K: Sink,
+    requires index { IsIndex (index_of column_index) }
+    requires limit { is_past_limit (index_of column_index) ≡ false }
+    requires counted { IsCounted (index_shape (index_of column_index))
+        (length (I.items column_values.now)) }
+    // What is added stands for the rows.
+    ensures ok { least_codes (map T.code (I.items column_values.now)) < 2 ^ 32 →
+        length (I.items column_values.now) < 2 ^ 32 →
+        SerializesRows (K.seen sink.old) (K.seen sink.new) result types.ip
+        (index_shape (index_of column_index.entry)) (map T.code (I.items column_values.now)) }
+    ensures too_large { IsTooLarge (map T.code (I.items column_values.now)) u32.MAX →
+        Refused (K.seen sink.old) (K.seen sink.new) result refusals.TooLarge }
+{
+    let values = collected(alloc, column_values)?;
+    serialize_column_mappable_to_u128(alloc, column_index, &values.as_slice(), sink)
+}
