@@ -71,8 +71,7 @@ fn note_named(kept: &mut [bool], columns: &[Option<DynamicColumn>], order: &Shuf
 {
     order.rows_are_there();
     for addr in order.iter_new_to_old_row_addrs() {
-        let found = has_value_at(columns, *addr);
-        note(kept, addr.segment_ord as usize, found);
+        note(kept, columns, *addr);
     }
 }
 
@@ -87,11 +86,15 @@ fn has_value_at(columns: &[Option<DynamicColumn>], addr: RowAddr) -> bool
     }
 }
 
-// Sets a flag where something was found.
-fn note(kept: &mut [bool], segment: usize, found: bool)
-    requires { segment < length kept.old }
-    ensures { kept.new ≡ slice_set kept.old segment
-        (slice_index_or kept.old segment false || found) }
+// Sets the flag of the segment of a row that has a value. Where it is set, the row isn't looked at.
+fn note(kept: &mut [bool], columns: &[Option<DynamicColumn>], addr: RowAddr)
+    requires columns { addr.segment_ord < length columns.now }
+    requires flags { addr.segment_ord < length kept.old }
+    ensures { let found = has_value (slice_index_or columns.now addr.segment_ord None) addr.row_id in
+        kept.new ≡ slice_set kept.old addr.segment_ord
+        (slice_index_or kept.old addr.segment_ord false || found) }
 {
-    kept[segment] = kept[segment] || found;
+    let segment = addr.segment_ord as usize;
+    let found = kept[segment] || has_value_at(columns, addr);
+    kept[segment] = found;
 }

@@ -1,4 +1,4 @@
-use Rattle.std.proofs.Common.{length, take, ap, ◌∙◌, arith}
+use Rattle.std.proofs.Common.{length, take, ap, refl, ◌∙◌, arith}
 use Rattle.std.proofs.lemmas.List.FromFn.{length-map-range_with_len}
 use Rattle.col_slot.specs.Kept.{keeps}
 use Rattle.col_slot.proofs.KeptLemmas.{none-found, named-there, walked, all-walked}
@@ -7,14 +7,14 @@ use Rattle.col_slot.proofs.kept.note_named.Goals as goal
 pub loop-addr-init : goal.loop-addr-init
 loop-addr-init c = c.requires.flags ∙ none-found 0 (length c.args.columns.now)
 
-pub has_value_at-found-requires : goal.has_value_at-found-requires
-has_value_at-found-requires c =
+pub note-requires-clause-columns : goal.note-requires-clause-columns
+note-requires-clause-columns c =
     let addrs = c.iter_new_to_old_row_addrs-addr-items in
     let order = c.args.order.now in
     named-there order.counts addrs.result.now order.addresses c.loop-addr.addr-index (length c.args.columns.now) (record { segment_ord = 0; row_id = 0 }) addrs.ensures c.rows_are_there.ensures c.loop-addr-test.true c.requires.segments
 
-pub note-requires : goal.note-requires
-note-requires c =
+pub note-requires-clause-flags : goal.note-requires-clause-flags
+note-requires-clause-flags c =
     let addrs = c.iter_new_to_old_row_addrs-addr-items in
     let order = c.args.order.now in
     let there = named-there order.counts addrs.result.now order.addresses c.loop-addr.addr-index (length c.args.columns.now) (record { segment_ord = 0; row_id = 0 }) addrs.ensures c.rows_are_there.ensures c.loop-addr-test.true c.requires.segments in
@@ -24,7 +24,7 @@ pub loop-addr-preserved : goal.loop-addr-preserved
 loop-addr-preserved c =
     let addrs = c.iter_new_to_old_row_addrs-addr-items in
     let order = c.args.order.now in
-    walked c.args.columns.now addrs.result.now order.addresses order.counts c.loop-addr.addr-index (record { segment_ord = 0; row_id = 0 }) c.loop-addr.kept c.note.new.kept c.has_value_at-found.result addrs.ensures c.rows_are_there.ensures c.loop-addr-test.true c.requires.segments c.loop-addr.invariant c.has_value_at-found.ensures c.note.ensures
+    walked c.args.columns.now addrs.result.now order.addresses order.counts c.loop-addr.addr-index (record { segment_ord = 0; row_id = 0 }) c.loop-addr.kept c.note.new.kept _ addrs.ensures c.rows_are_there.ensures c.loop-addr-test.true c.requires.segments c.loop-addr.invariant refl c.note.ensures
 
 pub returns : goal.returns
 returns c =
