@@ -15,7 +15,7 @@ mod writing_laws;
 pub use merge::{merge_column_index, merge_column_index_shuffled, merge_column_index_stacked};
 pub use row_ids::RowIds;
 pub use serialize::{
-    SerializableColumnIndex, SerializableMultivalueIndex, SerializableOptionalIndex,
+    SerializableColumnIndex, SerializableMultivalueIndex, SerializableOptionalIndex, collected,
     serialize_optional_index,
 };
 pub use serialize_index::{serialize_column_index, serialize_multivalued_index};

@@ -12,7 +12,7 @@ use crate::{RowIds, StartOffsets, indexes_are_read_back};
 use col_common::{ColumnarError, Iterable, RowId, Sink, VInt};
 use col_index::{Cardinality, OptionalIndex};
 use col_numbers::{CodecType, serialize_estimated_values};
-use std::alloc::Global;
+use std::alloc::{AllocError, Global};
 
 // The codecs that the lists of an index are offered.
 const CODEC_TYPES: [CodecType; 2] = [CodecType::Bitpacked, CodecType::Linear];
@@ -151,8 +151,39 @@ pub(crate) fn serialize_row_set<I: Iterable<RowId>, K: Sink>(
     Ok(count.num_bytes() + len)
 }
 
-/// Writes a list under the codec that takes the fewest bytes, and tells how many.
+/// The items of a list, in memory.
+pub fn collected<T, I>(alloc: Global, list: &I) -> Result<Vec<T>, AllocError>
+where
+    T: Copy,
+    I: Iterable<T>,
+    ensures { IfOk result (λ v. v.items ≡ I.items list.now) }
+{
+    let mut items = Vec::new(alloc);
+    let mut at = list.walk();
+    while let Some(item) = list.next(&mut at) {
+        items.push(item)?;
+    }
+    Ok(items)
+}
+
+/// Writes a list under the codec that takes the fewest bytes, and tells how many. The list is walked
+/// once.
 pub(crate) fn serialize_list<I: Iterable<RowId>, K: Sink>(
+    alloc: Global,
+    list: &I,
+    sink: &mut K,
+) -> Result<u64, ColumnarError>
+    requires { length (I.items list.now) < 2 ^ 32 }
+    ensures ok { Serializes (K.seen sink.old) (K.seen sink.new) (done result)
+        (list_bytes (I.items list.now)) }
+    ensures length { IfOk result (λ n. n ≡ length (list_bytes (I.items list.now))) }
+{
+    let items: Vec<RowId> = collected(alloc, list)?;
+    serialize_items(alloc, &items.as_slice(), sink)
+}
+
+// The same of a list that is cheap to walk.
+fn serialize_items<I: Iterable<RowId>, K: Sink>(
     alloc: Global,
     list: &I,
     sink: &mut K,

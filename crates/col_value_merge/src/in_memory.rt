@@ -1,5 +1,5 @@
 //! Merged values that are walked once, and written from memory.
-ghost use Rattle.std.specs.Prelude.{◌≡◌, ◌<◌, ◌^◌, false, length, map, OnOk, IfOk};
+ghost use Rattle.std.specs.Prelude.{◌≡◌, ◌<◌, ◌^◌, false, length, map, OnOk};
 ghost use Rattle.col_common.specs.Serializing.{Serializes};
 ghost use Rattle.col_common.specs.declared.error.ColumnarError.TheVariants as refusals;
 ghost use Rattle.col_compact.specs.Covers.{IsTooLarge};
@@ -12,24 +12,9 @@ ghost use Rattle.col_column.specs.Written.{number_column_bytes, column_codecs, S
 
 use col_column::{serialize_column_mappable_to_u64, serialize_column_mappable_to_u128};
 use col_common::{ColumnarError, Iterable, Sink};
-use col_indexer::SerializableColumnIndex;
+use col_indexer::{SerializableColumnIndex, collected};
 use col_values::{MonotonicallyMappableToU64, MonotonicallyMappableToU128};
-use std::alloc::{AllocError, Global};
-
-/// The items of a list, in memory.
-pub fn collected<T, I>(alloc: Global, list: &I) -> Result<Vec<T>, AllocError>
-where
-    T: Copy,
-    I: Iterable<T>,
-    ensures { IfOk result (λ v. v.items ≡ I.items list.now) }
-{
-    let mut items = Vec::new(alloc);
-    let mut at = list.walk();
-    while let Some(item) = list.next(&mut at) {
-        items.push(item)?;
-    }
-    Ok(items)
-}
+use std::alloc::Global;
 
 /// Writes a column of an index and the values that it counts, as numbers of 64 bits. The values are
 /// walked once.

@@ -1,4 +1,5 @@
-//! The values of columns in a merged order, as lists that are walked and never stand in memory.
+//! The values of columns in a merged order, as lists that are walked. A column of
+//! them is written from memory, so that they are walked once.
 //! Contracts see the columns of segments, and the order that picks their rows.
 #![tactic(auto)]
 
@@ -9,7 +10,7 @@ mod remapped_term_ordinals;
 mod runs;
 mod segments;
 
-pub use in_memory::{collected, serialize_collected_u64, serialize_collected_u128};
+pub use in_memory::{serialize_collected_u64, serialize_collected_u128};
 pub use laws::{merged_cells_are_picked, merged_values_are_rows};
 pub use merged_column_values::MergedColumnValues;
 pub use remapped_term_ordinals::RemappedTermOrdinalsValues;

@@ -1,5 +1,5 @@
 use Rattle.std.proofs.Common.{◌≡◌, ◌++◌, length}
-use Rattle.col_value_merge.proofs.in_memory.collected.Given as goal
+use Rattle.col_indexer.proofs.serialize.collected.Given as goal
 
 -- what was collected and what is left are the list
 abbrev pub invariant-loop-item : goal.invariant-loop-item
