@@ -22,7 +22,7 @@ rows_moved b a m (suc c ∷ cs) e =
     ∙ sym (rows_from-some m c cs)
 
 -- rows behind others are counted from there on
-rows_behind-from : (b : ℕ) (cs : List ℕ) → rows_behind b cs ≡ rows_from b cs
+pub rows_behind-from : (b : ℕ) (cs : List ℕ) → rows_behind b cs ≡ rows_from b cs
 rows_behind-from b cs = ap (λ rows. map (λ row. b + row) rows) (rows_with_value-from cs) ∙ rows_moved b 0 b cs (omega arith)
 
 -- a row without a value counts, and is not among them
@@ -95,7 +95,7 @@ unfolding ends_behind
 ends_behind-some b c cs = ap (λ test. cond test (ends_behind (b + suc c) cs) ((b + suc c) ∷ ends_behind (b + suc c) cs)) (ne_eqb (suc c) 0 (λ e. omega arith))
 
 -- starts are the first and the ends
-starts_after-ends : (b : ℕ) (cs : List ℕ) → starts_after b cs ≡ b ∷ ends_behind b cs
+pub starts_after-ends : (b : ℕ) (cs : List ℕ) → starts_after b cs ≡ b ∷ ends_behind b cs
 unfolding ends_behind
 starts_after-ends b [] = refl
 starts_after-ends b (zero ∷ cs) = starts_after-ends (b + 0) cs ∙ ap (λ n. n ∷ ends_behind (b + 0) cs) (omega arith)

@@ -6,6 +6,7 @@ mod StackedStartLemmas
 mod StackedWalkLemmas
 mod StackedOffsetLemmas
 mod StackedMergeLemmas
+mod CollectedLemmas
 mod ShuffleLemmas
 mod ValueCountLemmas
 mod ByteCountLemmas

@@ -1,8 +1,8 @@
 -- Rows with a value and start offsets, from the counts of rows.
-use Rattle.std.specs.Prelude.{ℕ, ◌+◌, ◌==◌, nat_le, List, [], ◌∷◌, map, if◌then◌else◌}
+use Rattle.std.specs.Prelude.{ℕ, ◌≤◌, ◌+◌, ◌==◌, nat_le, List, [], ◌∷◌, map, if◌then◌else◌}
 use Rattle.std.specs.List.{list_all, range_with_len}
 use Rattle.col_model.specs.Index.{Shape, empty_shape, full_shape, optional_shape, multivalued_shape}
-use Rattle.col_model.specs.Positions.{rows_with_value}
+use Rattle.col_model.specs.Positions.{rows_with_value, count_in}
 use Rattle.col_model.specs.Table.{Cardinality, full, optional, multivalued}
 
 -- the rows with a value of rows behind so many others
@@ -28,3 +28,7 @@ counts_in n (empty_shape m) = map (λ row. 0) (range_with_len 0 n)
 counts_in n full_shape = map (λ row. 1) (range_with_len 0 n)
 counts_in n (optional_shape cs) = cs
 counts_in n (multivalued_shape cs) = cs
+
+-- no row has more than one value
+abbrev pub HasFew : Shape → Type 0
+HasFew s = (row : ℕ) → count_in s row ≤ 1

@@ -8,6 +8,7 @@ mod serialize;
 mod serialize_index;
 mod shuffled;
 mod stacked;
+mod stacked_lists;
 mod start_offsets;
 mod value_index;
 mod writing_laws;
@@ -16,7 +17,7 @@ pub use merge::{merge_column_index, merge_column_index_shuffled, merge_column_in
 pub use row_ids::RowIds;
 pub use serialize::{
     SerializableColumnIndex, SerializableMultivalueIndex, SerializableOptionalIndex, collected,
-    serialize_optional_index,
+    collected_with_capacity, serialize_optional_index,
 };
 pub use serialize_index::{serialize_column_index, serialize_multivalued_index};
 pub use shuffled::{ShuffledRowIds, ShuffledStartOffsets};

@@ -1,5 +1,7 @@
 //! Merged indexes.
-ghost use Rattle.std.specs.Prelude.{◌≡◌, map};
+ghost use Rattle.std.specs.Prelude.{◌≡◌, true, map};
+ghost use Rattle.std.specs.List.{AllByRecursion};
+ghost use Rattle.col_model.specs.Index.{full_shape};
 ghost use Rattle.col_model.specs.Merge.{greater_cardinality};
 ghost use Rattle.col_model.specs.Order.{stack, shuffle};
 ghost use Rattle.col_order.specs.RowOrders.{order_of};
@@ -8,14 +10,14 @@ ghost use Rattle.col_index.specs.Indexes.{shape_of};
 ghost use Rattle.col_indexer.specs.Spelling.{IsIndex};
 ghost use Rattle.col_indexer.specs.Merged.{FitOrder, IsMerged};
 ghost use Rattle.col_indexer.specs.Merged.{merged_cardinality, stacked_cardinality_of};
-ghost use Rattle.col_indexer.specs.Counted.{tightest_of};
+ghost use Rattle.col_indexer.specs.Counted.{tightest_of, HasFew};
 ghost use Rattle.col_indexer.specs.Written.{index_of};
 ghost use Rattle.col_model.specs.Positions.{picked_counts};
 
 use crate::serialize::{
     SerializableColumnIndex, SerializableMultivalueIndex, SerializableOptionalIndex,
 };
-use crate::shuffled::values_at;
+use crate::shuffled::{has_value_at, values_at};
 use crate::{
     RowIds, ShuffledRowIds, ShuffledStartOffsets, StackedRowIds, StackedStartOffsets, StartOffsets,
 };
@@ -149,8 +151,95 @@ fn greater(a: Cardinality, b: Cardinality) -> Cardinality
     if a.to_code() < b.to_code() { b } else { a }
 }
 
-// The tightest cardinality of the rows that are named.
+// The tightest cardinality of the rows that are named. No more rows are looked at than tell it.
 fn shuffled_cardinality(
+    column_indexes: &[ColumnIndex],
+    shuffle_merge_order: &ShuffleMergeOrder,
+) -> Cardinality
+    requires { let s = shuffle_merge_order.now in
+        FitOrder (shuffle s.counts s.addresses) (map shape_of column_indexes.now) }
+    ensures { cardinality_of result ≡ tightest_of
+        (picked_counts (map shape_of column_indexes.now) shuffle_merge_order.now.addresses) }
+{
+    shuffle_merge_order.rows_are_there();
+    if are_full(column_indexes) {
+        return Cardinality::Full;
+    }
+    if are_sets(column_indexes) {
+        return cardinality_of_sets(column_indexes, shuffle_merge_order);
+    }
+    cardinality_of_counts(column_indexes, shuffle_merge_order)
+}
+
+// Whether each index is Full, so that each row has one value.
+fn are_full(column_indexes: &[ColumnIndex]) -> bool
+    ensures { result ≡ true →
+        AllByRecursion (λ index. shape_of index ≡ full_shape) column_indexes.now }
+{
+    for index in column_indexes {
+        if !is_full(index) {
+            return false;
+        }
+    }
+    true
+}
+
+// Whether an index is Full.
+fn is_full(column_index: &ColumnIndex) -> bool
+    ensures { result ≡ true → shape_of column_index.now ≡ full_shape }
+{
+    matches!(column_index, ColumnIndex::Full)
+}
+
+// Whether no index is Multivalued, so that no row has more than one value.
+fn are_sets(column_indexes: &[ColumnIndex]) -> bool
+    ensures { result ≡ true →
+        AllByRecursion (λ index. HasFew (shape_of index)) column_indexes.now }
+{
+    for index in column_indexes {
+        if !is_set(index) {
+            return false;
+        }
+    }
+    true
+}
+
+// Whether an index isn't Multivalued.
+fn is_set(column_index: &ColumnIndex) -> bool
+    ensures { result ≡ true → HasFew (shape_of column_index.now) }
+{
+    match column_index {
+        ColumnIndex::Empty { .. } | ColumnIndex::Full => true,
+        ColumnIndex::Optional(index) => {
+            index.rows_rise();
+            true
+        }
+        ColumnIndex::Multivalued(_) => false,
+    }
+}
+
+// The tightest cardinality of the rows that are named, none of which has more than one value.
+fn cardinality_of_sets(
+    column_indexes: &[ColumnIndex],
+    shuffle_merge_order: &ShuffleMergeOrder,
+) -> Cardinality
+    requires fit { let s = shuffle_merge_order.now in
+        FitOrder (shuffle s.counts s.addresses) (map shape_of column_indexes.now) }
+    requires few { AllByRecursion (λ index. HasFew (shape_of index)) column_indexes.now }
+    ensures { cardinality_of result ≡ tightest_of
+        (picked_counts (map shape_of column_indexes.now) shuffle_merge_order.now.addresses) }
+{
+    shuffle_merge_order.rows_are_there();
+    for addr in shuffle_merge_order.iter_new_to_old_row_addrs() {
+        if !has_value_at(column_indexes, *addr) {
+            return Cardinality::Optional;
+        }
+    }
+    Cardinality::Full
+}
+
+// The tightest cardinality of the rows that are named.
+fn cardinality_of_counts(
     column_indexes: &[ColumnIndex],
     shuffle_merge_order: &ShuffleMergeOrder,
 ) -> Cardinality

@@ -2,16 +2,20 @@
 ghost use Rattle.std.specs.Prelude.{◌≡◌, ◌^◌, ◌<◌, nat_le, length, Some, IfOk};
 ghost use Rattle.col_common.specs.Serializing.{Serializes};
 ghost use Rattle.col_model.specs.Index.{row_set};
+ghost use Rattle.col_model.specs.Positions.{rows_with_value, starts_of};
 ghost use Rattle.col_numbers.specs.Written.{done};
 ghost use Rattle.col_index.specs.Versions.{cardinality_of};
 ghost use Rattle.col_indexer.specs.RowViews.{rows_of};
+ghost use Rattle.col_indexer.specs.OffsetViews.{offsets_of};
+ghost use Rattle.col_indexer.specs.Stacks.{stacked_counts};
 ghost use Rattle.col_indexer.specs.Spelling.{list_bytes, row_set_bytes, AreRowsOf32};
 ghost use Rattle.col_indexer.specs.Spelling.{optional_index, IsIndex};
 
-use crate::{RowIds, StartOffsets, indexes_are_read_back};
+use crate::{RowIds, StackedRowIds, StackedStartOffsets, StartOffsets, indexes_are_read_back};
 use col_common::{ColumnarError, Iterable, RowId, Sink, VInt};
 use col_index::{Cardinality, OptionalIndex};
 use col_numbers::{CodecType, serialize_estimated_values};
+use col_values::ColumnValues;
 use std::alloc::{AllocError, Global};
 
 // The codecs that the lists of an index are offered.
@@ -133,22 +137,101 @@ pub fn serialize_optional_index<K: Sink>(
 }
 
 /// Writes rows that rise, of so many rows, and tells how many bytes they take.
-pub(crate) fn serialize_row_set<I: Iterable<RowId>, K: Sink>(
+pub(crate) fn serialize_row_set<K: Sink>(
     alloc: Global,
-    rows: &I,
+    rows: &RowIds<'_>,
     num_rows: RowId,
     sink: &mut K,
 ) -> Result<u64, ColumnarError>
-    requires { AreRowsOf32 (record { num_rows = num_rows; rows = I.items rows.now }) }
+    requires { AreRowsOf32 (record { num_rows = num_rows; rows = rows_of rows.now }) }
     ensures ok { Serializes (K.seen sink.old) (K.seen sink.new) (done result)
-        (row_set_bytes (record { num_rows = num_rows; rows = I.items rows.now })) }
+        (row_set_bytes (record { num_rows = num_rows; rows = rows_of rows.now })) }
     ensures length { IfOk result (λ n.
-        n ≡ length (row_set_bytes (record { num_rows = num_rows; rows = I.items rows.now }))) }
+        n ≡ length (row_set_bytes (record { num_rows = num_rows; rows = rows_of rows.now }))) }
 {
     let count = VInt(u64::from(num_rows));
     count.serialize(sink)?;
-    let len = serialize_list(alloc, rows, sink)?;
+    let len = serialize_rows(alloc, rows, sink)?;
     Ok(count.num_bytes() + len)
+}
+
+// Writes a list of rows, and tells how many bytes it takes. One that is in memory is written from
+// there.
+fn serialize_rows<K: Sink>(
+    alloc: Global,
+    rows: &RowIds<'_>,
+    sink: &mut K,
+) -> Result<u64, ColumnarError>
+    requires { length (rows_of rows.now) < 2 ^ 32 }
+    ensures ok { Serializes (K.seen sink.old) (K.seen sink.new) (done result)
+        (list_bytes (rows_of rows.now)) }
+    ensures length { IfOk result (λ n. n ≡ length (list_bytes (rows_of rows.now))) }
+{
+    match rows {
+        RowIds::Slice(rows) => serialize_list(alloc, rows, sink),
+        RowIds::Index(index) => {
+            serialize_collected(alloc, rows, index.num_non_nulls() as usize, sink)
+        }
+        RowIds::Stacked(rows) => serialize_stacked_rows(alloc, rows, sink),
+        RowIds::Shuffled(rows) => serialize_collected(alloc, rows, rows.max_len(), sink),
+    }
+}
+
+/// Writes a list of start offsets, and tells how many bytes it takes. One that is in memory is
+/// written from there.
+pub(crate) fn serialize_starts<K: Sink>(
+    alloc: Global,
+    starts: &StartOffsets<'_>,
+    sink: &mut K,
+) -> Result<u64, ColumnarError>
+    requires { length (offsets_of starts.now) < 2 ^ 32 }
+    ensures ok { Serializes (K.seen sink.old) (K.seen sink.new) (done result)
+        (list_bytes (offsets_of starts.now)) }
+    ensures length { IfOk result (λ n. n ≡ length (list_bytes (offsets_of starts.now))) }
+{
+    match starts {
+        StartOffsets::Slice(starts) => serialize_list(alloc, starts, sink),
+        StartOffsets::Index(index) => {
+            let len = index.get_start_index_column().num_vals();
+            serialize_collected(alloc, starts, len as usize, sink)
+        }
+        StartOffsets::Stacked(starts) => serialize_stacked_starts(alloc, starts, sink),
+        StartOffsets::Shuffled(starts) => {
+            serialize_collected(alloc, starts, starts.max_len(), sink)
+        }
+    }
+}
+
+// Writes the rows of indexes one behind another, and tells how many bytes they take.
+fn serialize_stacked_rows<K: Sink>(
+    alloc: Global,
+    rows: &StackedRowIds<'_>,
+    sink: &mut K,
+) -> Result<u64, ColumnarError>
+    requires { length (rows_with_value (stacked_counts rows.now)) < 2 ^ 32 }
+    ensures ok { Serializes (K.seen sink.old) (K.seen sink.new) (done result)
+        (list_bytes (rows_with_value (stacked_counts rows.now))) }
+    ensures length { IfOk result (λ n.
+        n ≡ length (list_bytes (rows_with_value (stacked_counts rows.now)))) }
+{
+    let items = rows.collected(alloc)?;
+    serialize_list(alloc, &items.as_slice(), sink)
+}
+
+// Writes the start offsets of indexes one behind another, and tells how many bytes they take.
+fn serialize_stacked_starts<K: Sink>(
+    alloc: Global,
+    starts: &StackedStartOffsets<'_>,
+    sink: &mut K,
+) -> Result<u64, ColumnarError>
+    requires { length (starts_of (stacked_counts starts.now)) < 2 ^ 32 }
+    ensures ok { Serializes (K.seen sink.old) (K.seen sink.new) (done result)
+        (list_bytes (starts_of (stacked_counts starts.now))) }
+    ensures length { IfOk result (λ n.
+        n ≡ length (list_bytes (starts_of (stacked_counts starts.now)))) }
+{
+    let items = starts.collected(alloc)?;
+    serialize_list(alloc, &items.as_slice(), sink)
 }
 
 /// The items of a list, in memory.
@@ -158,7 +241,21 @@ where
     I: Iterable<T>,
     ensures { IfOk result (λ v. v.items ≡ I.items list.now) }
 {
-    let mut items = Vec::new(alloc);
+    collected_with_capacity(alloc, list, 0)
+}
+
+/// The same, with room for so many items from the start.
+pub fn collected_with_capacity<T, I>(
+    alloc: Global,
+    list: &I,
+    capacity: usize,
+) -> Result<Vec<T>, AllocError>
+where
+    T: Copy,
+    I: Iterable<T>,
+    ensures { IfOk result (λ v. v.items ≡ I.items list.now) }
+{
+    let mut items = Vec::with_capacity(alloc, capacity)?;
     let mut at = list.walk();
     while let Some(item) = list.next(&mut at) {
         items.push(item)?;
@@ -166,11 +263,12 @@ where
     Ok(items)
 }
 
-/// Writes a list under the codec that takes the fewest bytes, and tells how many. The list is walked
-/// once.
-pub(crate) fn serialize_list<I: Iterable<RowId>, K: Sink>(
+// Writes a list that is walked once, with room for so many items, and tells how many bytes it
+// takes.
+fn serialize_collected<I: Iterable<RowId>, K: Sink>(
     alloc: Global,
     list: &I,
+    capacity: usize,
     sink: &mut K,
 ) -> Result<u64, ColumnarError>
     requires { length (I.items list.now) < 2 ^ 32 }
@@ -178,12 +276,13 @@ pub(crate) fn serialize_list<I: Iterable<RowId>, K: Sink>(
         (list_bytes (I.items list.now)) }
     ensures length { IfOk result (λ n. n ≡ length (list_bytes (I.items list.now))) }
 {
-    let items: Vec<RowId> = collected(alloc, list)?;
-    serialize_items(alloc, &items.as_slice(), sink)
+    let items: Vec<RowId> = collected_with_capacity(alloc, list, capacity)?;
+    serialize_list(alloc, &items.as_slice(), sink)
 }
 
-// The same of a list that is cheap to walk.
-fn serialize_items<I: Iterable<RowId>, K: Sink>(
+// Writes a list under the codec that takes the fewest bytes, and tells how many. The list is walked
+// several times.
+fn serialize_list<I: Iterable<RowId>, K: Sink>(
     alloc: Global,
     list: &I,
     sink: &mut K,

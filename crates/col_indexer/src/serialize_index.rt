@@ -11,7 +11,7 @@ ghost use Rattle.col_indexer.specs.Written.{row_offsets_of, index_of};
 
 use crate::indexes_are_read_back;
 use crate::serialize::{
-    SerializableColumnIndex, SerializableMultivalueIndex, serialize_list, serialize_row_set,
+    SerializableColumnIndex, SerializableMultivalueIndex, serialize_row_set, serialize_starts,
 };
 use col_common::{ColumnarError, Iterable, RowId, Sink, serialize_bytes};
 use std::alloc::Global;
@@ -32,36 +32,25 @@ pub fn serialize_multivalued_index<K: Sink>(
         ≡ Some (row_offsets_of multivalued_index.now) }
 {
     indexes_are_read_back();
-    let rows = &multivalued_index.doc_ids_with_values;
-    serialize_row_offsets(
-        alloc,
-        &rows.non_null_row_ids,
-        rows.num_rows,
-        &multivalued_index.start_offsets,
-        sink,
-    )?;
+    serialize_row_offsets(alloc, multivalued_index, sink)?;
     Ok(())
 }
 
-// Writes rows that rise, of so many rows, and start offsets, and tells how many bytes they take.
-fn serialize_row_offsets<R: Iterable<RowId>, S: Iterable<RowId>, K: Sink>(
+// Writes rows with a value and their start offsets, and tells how many bytes they take.
+fn serialize_row_offsets<K: Sink>(
     alloc: Global,
-    rows: &R,
-    num_rows: RowId,
-    starts: &S,
+    index: &SerializableMultivalueIndex<'_>,
     sink: &mut K,
 ) -> Result<u64, ColumnarError>
-    requires index { IsIndex (spelled.multivalued_index
-        (offsets_by_rows num_rows (R.items rows.now) (S.items starts.now))) }
-    requires limit { nat_le (2 ^ 32 - 1) (length (R.items rows.now)) ≡ false }
+    requires index { IsIndex (spelled.multivalued_index (row_offsets_of index.now)) }
+    requires limit { is_past_limit (spelled.multivalued_index (row_offsets_of index.now)) ≡ false }
     ensures ok { Serializes (K.seen sink.old) (K.seen sink.new) (done result)
-        (row_offsets_bytes (offsets_by_rows num_rows (R.items rows.now) (S.items starts.now))) }
-    ensures length { IfOk result (λ n.
-        n ≡ length
-        (row_offsets_bytes (offsets_by_rows num_rows (R.items rows.now) (S.items starts.now)))) }
+        (row_offsets_bytes (row_offsets_of index.now)) }
+    ensures length { IfOk result (λ n. n ≡ length (row_offsets_bytes (row_offsets_of index.now))) }
 {
-    let rows_len = serialize_row_set(alloc, rows, num_rows, sink)?;
-    let starts_len = serialize_list(alloc, starts, sink)?;
+    let rows = &index.doc_ids_with_values;
+    let rows_len = serialize_row_set(alloc, &rows.non_null_row_ids, rows.num_rows, sink)?;
+    let starts_len = serialize_starts(alloc, &index.start_offsets, sink)?;
     let end = rows_len.to_le_bytes();
     serialize_bytes(sink, &end)?;
     Ok(rows_len + starts_len + end.len() as u64)
@@ -105,12 +94,6 @@ fn serialize_body<K: Sink>(
         SerializableColumnIndex::Optional(rows) => {
             serialize_row_set(alloc, &rows.non_null_row_ids, rows.num_rows, sink)
         }
-        SerializableColumnIndex::Multivalued(index) => serialize_row_offsets(
-            alloc,
-            &index.doc_ids_with_values.non_null_row_ids,
-            index.doc_ids_with_values.num_rows,
-            &index.start_offsets,
-            sink,
-        ),
+        SerializableColumnIndex::Multivalued(index) => serialize_row_offsets(alloc, index, sink),
     }
 }

@@ -1,11 +1,12 @@
 //! Rows that are picked one by one from indexes.
-ghost use Rattle.std.specs.Prelude.{◌≡◌, ◌<◌, ◌==◌, not, length, map, slice_index_or};
-ghost use Rattle.col_model.specs.Index.{empty_shape};
+ghost use Rattle.std.specs.Prelude.{◌≡◌, ◌<◌, ◌==◌, not, length, map, slice_index, slice_index_or};
+ghost use Rattle.col_model.specs.Index.{empty_shape, set_counts};
 ghost use Rattle.col_model.specs.Positions.{count_in};
 ghost use Rattle.col_index.specs.Indexes.{shape_of};
+ghost use Rattle.col_index.specs.MultiValues.{counts_of};
 
 use col_common::{Iterable, RowAddr, RowId, Walk};
-use col_index::ColumnIndex;
+use col_index::{ColumnIndex, MultiValueIndex, OptionalIndex, Set};
 use col_order::ShuffleMergeOrder;
 use std::marker::Model;
 
@@ -66,6 +67,11 @@ impl<'a> ShuffledRowIds<'a> {
             order,
         }
     }
+
+    /// There are at most so many rows.
+    pub(crate) fn max_len(&self) -> usize {
+        self.order.num_rows() as usize
+    }
 }
 
 impl<'a> ShuffledStartOffsets<'a> {
@@ -83,6 +89,11 @@ impl<'a> ShuffledStartOffsets<'a> {
             column_indexes,
             order,
         }
+    }
+
+    /// There are at most so many offsets.
+    pub(crate) fn max_len(&self) -> usize {
+        self.order.num_rows() as usize + 1
     }
 }
 
@@ -147,8 +158,9 @@ impl Iterable<RowId> for ShuffledStartOffsets<'_> {
     }
 }
 
-// Whether the row that an address names has a value.
-fn has_value_at(column_indexes: &[ColumnIndex], addr: RowAddr) -> bool
+/// Whether the row that an address names has a value.
+#[inline(always)]
+pub(crate) fn has_value_at(column_indexes: &[ColumnIndex], addr: RowAddr) -> bool
     requires { addr.segment_ord < length column_indexes.now }
     ensures { let shapes = map shape_of column_indexes.now in
         let shape = slice_index_or shapes addr.segment_ord (empty_shape 0) in
@@ -158,6 +170,7 @@ fn has_value_at(column_indexes: &[ColumnIndex], addr: RowAddr) -> bool
 }
 
 /// How many values the row has that an address names.
+#[inline(always)]
 pub(crate) fn values_at(column_indexes: &[ColumnIndex], addr: RowAddr) -> RowId
     requires { addr.segment_ord < length column_indexes.now }
     ensures { let shapes = map shape_of column_indexes.now in
@@ -168,18 +181,35 @@ pub(crate) fn values_at(column_indexes: &[ColumnIndex], addr: RowAddr) -> RowId
 }
 
 // How many values a row has.
+#[inline(always)]
 fn num_values(column_index: &ColumnIndex, row: RowId) -> RowId
     ensures { result ≡ count_in (shape_of column_index.now) row }
 {
     match column_index {
         ColumnIndex::Empty { .. } => 0,
         ColumnIndex::Full => 1,
-        ColumnIndex::Optional(_) | ColumnIndex::Multivalued(_) => {
-            if !column_index.has_value(row) {
-                return 0;
-            }
-            let positions = column_index.value_row_ids(row);
-            positions.end - positions.start
-        }
+        ColumnIndex::Optional(index) => num_values_in_set(index, row),
+        ColumnIndex::Multivalued(index) => num_values_in_rows(index, row),
     }
+}
+
+// The same where a row has at most one.
+#[inline(always)]
+fn num_values_in_set(index: &OptionalIndex, row: RowId) -> RowId
+    ensures { result ≡ slice_index (set_counts index.now) row }
+{
+    index.rows_rise();
+    if index.contains(row) { 1 } else { 0 }
+}
+
+// The same where a row may have several. Only one with a value is ranked.
+#[inline(always)]
+fn num_values_in_rows(index: &MultiValueIndex, row: RowId) -> RowId
+    ensures { result ≡ slice_index (counts_of index.now) row }
+{
+    if !index.has_value(row) {
+        return 0;
+    }
+    let positions = index.range(row);
+    positions.end - positions.start
 }

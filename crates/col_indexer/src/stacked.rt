@@ -1,5 +1,5 @@
 //! Indexes one behind another.
-ghost use Rattle.std.specs.Prelude.{◌≡◌, ◌≤◌, ◌<◌, ◌^◌, length, sum, slice_get};
+ghost use Rattle.std.specs.Prelude.{◌≡◌, ◌≤◌, ◌<◌, ◌^◌, length, sum, slice_get, IfOk};
 ghost use Rattle.std.specs.List.{range_with_len};
 ghost use Rattle.col_model.specs.Positions.{rows_with_value, starts_of};
 ghost use Rattle.col_numbers.specs.Readers.{list_of};
@@ -7,14 +7,16 @@ ghost use Rattle.col_indexer.specs.Counted.{counts_in};
 ghost use Rattle.col_index.specs.Indexes.{shape_of};
 ghost use Rattle.col_common.specs.Walks.{IsNext};
 ghost use Rattle.col_values.specs.Values.{AreBelow};
-ghost use Rattle.col_indexer.specs.Stacks.{AreSegments, segments_of};
+ghost use Rattle.col_indexer.specs.Stacks.{AreSegments, segments_of, stacked_counts};
 ghost use Rattle.col_indexer.specs.Stacks.{StandsAtRow, stacked_rows_to_give, StandsAtOffset, stacked_offsets_to_give};
 
+use crate::stacked_lists::{collected_rows, collected_starts};
 use col_common::{Iterable, RowId, Walk};
 use col_index::{ColumnIndex, NonNullDocs};
 use col_numbers::U64Values;
 use col_order::StackMergeOrder;
 use col_values::ColumnValues;
+use std::alloc::{AllocError, Global};
 use std::marker::Model;
 
 /// The rows with a value of indexes one behind another. Contracts see the indexes' shapes and their
@@ -63,6 +65,13 @@ impl<'a> StackedRowIds<'a> {
             order,
         }
     }
+
+    /// The rows, in memory.
+    pub(crate) fn collected(&self, alloc: Global) -> Result<Vec<RowId>, AllocError>
+        ensures { IfOk result (λ v. v.items ≡ rows_with_value (stacked_counts self.now)) }
+    {
+        collected_rows(alloc, self.column_indexes, self.order)
+    }
 }
 
 impl<'a> StackedStartOffsets<'a> {
@@ -78,6 +87,13 @@ impl<'a> StackedStartOffsets<'a> {
             column_indexes,
             order,
         }
+    }
+
+    /// The offsets, in memory.
+    pub(crate) fn collected(&self, alloc: Global) -> Result<Vec<RowId>, AllocError>
+        ensures { IfOk result (λ v. v.items ≡ starts_of (stacked_counts self.now)) }
+    {
+        collected_starts(alloc, self.column_indexes, self.order)
     }
 }
 
@@ -119,9 +135,9 @@ impl Iterable<RowId> for StackedStartOffsets<'_> {
     }
 }
 
-// The row of a rank among those of a segment that have a value; none past the last.
+/// The row of a rank among those of a segment that have a value; none past the last.
 #[inline(always)]
-fn row_at(column_index: &ColumnIndex, num_rows: RowId, rank: u64) -> Option<RowId>
+pub(crate) fn row_at(column_index: &ColumnIndex, num_rows: RowId, rank: u64) -> Option<RowId>
     requires { rank ≤ length (rows_with_value (counts_in num_rows (shape_of column_index.now))) }
     ensures { let counts = counts_in num_rows (shape_of column_index.now) in
         result ≡ slice_get (rows_with_value counts) rank }
@@ -165,9 +181,9 @@ fn number_below(limit: u64, number: u64) -> Option<RowId>
     }
 }
 
-// The start offset at a place in a segment; none past the last.
+/// The start offset at a place in a segment; none past the last.
 #[inline(always)]
-fn start_at(column_index: &ColumnIndex, num_rows: RowId, place: u64) -> Option<RowId>
+pub(crate) fn start_at(column_index: &ColumnIndex, num_rows: RowId, place: u64) -> Option<RowId>
     requires { sum (counts_in num_rows (shape_of column_index.now)) < 2 ^ 32 }
     ensures { let counts = counts_in num_rows (shape_of column_index.now) in
         result ≡ slice_get (starts_of counts) place }
@@ -196,8 +212,8 @@ fn value_at(values: &U64Values, place: u64) -> Option<RowId>
     }
 }
 
-// How many values a segment has.
-fn num_values(column_index: &ColumnIndex, num_rows: RowId) -> RowId
+/// How many values a segment has.
+pub(crate) fn num_values(column_index: &ColumnIndex, num_rows: RowId) -> RowId
     requires { sum (counts_in num_rows (shape_of column_index.now)) < 2 ^ 32 }
     ensures { result ≡ sum (counts_in num_rows (shape_of column_index.now)) }
 {

@@ -1,13 +1,14 @@
 use Rattle.std.proofs.Common.{Err, arith}
 use Rattle.std.proofs.lemmas.Result.{err_from_is_err_and}
 use Rattle.col_model.specs.Index.{RowSet}
+use Rattle.col_indexer.specs.RowViews.{rows_of}
 use Rattle.col_indexer.proofs.SpellingLemmas.{rows-few, row_set_bytes-few}
 use Rattle.col_indexer.proofs.WritingLemmas.{row_set-written, row_set-long}
 use Rattle.col_indexer.proofs.serialize.serialize_row_set.Goals as goal
 
-pub serialize_list-requires : goal.serialize_list-requires
-serialize_list-requires g c =
-    let s : RowSet = record { num_rows = c.args.num_rows; rows = g.I.Iterable.items c.args.rows.now } in
+pub serialize_rows-requires : goal.serialize_rows-requires
+serialize_rows-requires g c =
+    let s : RowSet = record { num_rows = c.args.num_rows; rows = rows_of c.args.rows.now } in
     omega (arith, rows-few s c.requires.rows, c.requires.fits)
 
 pub returns-in_err-len-clause-ok : goal.returns-in_err-len-clause-ok

@@ -1,5 +1,5 @@
 use Rattle.std.proofs.Common.{◌≡◌, ◌++◌, length}
-use Rattle.col_indexer.proofs.serialize.collected.Given as goal
+use Rattle.col_indexer.proofs.serialize.collected_with_capacity.Given as goal
 
 -- what was collected and what is left are the list
 abbrev pub invariant-loop-item : goal.invariant-loop-item

@@ -4,7 +4,7 @@ use Rattle.col_indexer.specs.Counted.{tightest_of}
 use Rattle.col_index.specs.Indexes.{shape_of}
 use Rattle.col_index.specs.Versions.{cardinality_of}
 use Rattle.col_indexer.proofs.TightestLemmas.{AreFew}
-use Rattle.col_indexer.proofs.merge.shuffled_cardinality.Given as goal
+use Rattle.col_indexer.proofs.merge.cardinality_of_counts.Given as goal
 
 -- none of the rows that were passed has more than one value
 abbrev pub invariant-loop-addr : goal.invariant-loop-addr

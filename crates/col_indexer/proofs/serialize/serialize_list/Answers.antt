@@ -1,7 +1,7 @@
 use Rattle.std.proofs.Common.{arith}
 use Rattle.std.proofs.lemmas.Result.{err_from_is_err_and}
 use Rattle.col_indexer.proofs.WritingLemmas.{list-written, list-long, list-fits}
-use Rattle.col_indexer.proofs.serialize.serialize_items.Goals as goal
+use Rattle.col_indexer.proofs.serialize.serialize_list.Goals as goal
 
 pub returns-in_err-len-clause-ok : goal.returns-in_err-len-clause-ok
 returns-in_err-len-clause-ok g c =
