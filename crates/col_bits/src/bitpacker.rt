@@ -213,8 +213,8 @@ impl BitUnpacker {
         Ok(())
     }
 
-    // Appends which of the ids have a number between the ends.
-    fn push_ids(
+    /// Appends which of the ids have a number between the ends, ascending.
+    pub fn push_ids(
         &self,
         low: u64,
         high: u64,

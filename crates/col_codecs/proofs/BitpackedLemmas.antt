@@ -12,7 +12,7 @@ use Rattle.col_model.specs.U64List.{bitpacked_values}
 use Rattle.col_model.proofs.StatsLaws.{map-map, fold-max}
 use Rattle.col_model.proofs.ItemLaws.{packed-items, only_if-then}
 use Rattle.col_model.proofs.OneFormLaws.{same_stats-equal}
-use Rattle.col_codecs.specs.Header.{list_by}
+use Rattle.col_codecs.specs.Header.{checked, list_by}
 use Rattle.col_codecs.specs.ColumnStats.{Collected, collected_of, IsPossible}
 use Rattle.col_codecs.specs.Bitpacked.{bitpacked_item, bitpacked_items, IsReader}
 use Rattle.col_codecs.proofs.BoundsLemmas.{stats_of-greatest}
@@ -88,9 +88,24 @@ tested s bytes =
 pub list_by-other : (s : Stats) (bytes : List ℕ) → is_packed bytes (bits_of s) ≡ false → list_by 0 s bytes ≡ None
 list_by-other s bytes e = tested s bytes ∙ ap (λ b. only_if b (bitpacked_items s bytes) >>= λ xs. only_if (same_stats (stats_of xs) s) xs) e
 
--- their items, with other statistics or with these
-pub list_by-packed : (s : Stats) (bytes : List ℕ) (exact : Bool) → is_packed bytes (bits_of s) ≡ true → same_stats (stats_of (bitpacked_items s bytes)) s ≡ exact → list_by 0 s bytes ≡ only_if exact (bitpacked_items s bytes)
-list_by-packed s bytes exact e same = tested s bytes ∙ ap (λ b. only_if b (bitpacked_items s bytes) >>= λ xs. only_if (same_stats (stats_of xs) s) xs) e ∙ ap (λ b. only_if b (bitpacked_items s bytes)) same
+-- their items, where the statistics are theirs
+pub list_by-packed : (s : Stats) (bytes : List ℕ) → is_packed bytes (bits_of s) ≡ true → list_by 0 s bytes ≡ checked s (bitpacked_items s bytes)
+list_by-packed s bytes e = tested s bytes ∙ ap (λ b. only_if b (bitpacked_items s bytes) >>= λ xs. only_if (same_stats (stats_of xs) s) xs) e
+
+-- a list whose statistics were tested
+pub checked-by : (s : Stats) (xs : List ℕ) (exact : Bool) → same_stats (stats_of xs) s ≡ exact → checked s xs ≡ only_if exact xs
+checked-by s xs exact e = ap (λ b. only_if b xs) e
+
+-- a list by the statistics of its steps
+pub checked-steps : (s found : Stats) (bytes : List ℕ) (w steps : ℕ) (test exact : Bool) → IsPossible s → w ≡ width (steps_of s) → steps ≡ steps_of s → found ≡ stats_of (items bytes w 0 s.count) → let top : Stats = record { least = 0; greatest = steps; divisor = 1; count = s.count } in test ≡ same_stats found top → test ≡ exact → checked s (bitpacked_items s bytes) ≡ only_if exact (bitpacked_items s bytes)
+checked-steps s found bytes w steps test exact possible wide e stats told is =
+    let top : ℕ → Stats = λ n. record { least = 0; greatest = n; divisor = 1; count = s.count } in
+    checked-by s (bitpacked_items s bytes) exact
+    (sym (told
+    ∙ ap (λ t. same_stats t (top steps)) stats
+    ∙ ap (λ n. same_stats (stats_of (items bytes w 0 s.count)) (top n)) e
+    ∙ same_stats-items s bytes w possible wide)
+    ∙ is)
 
 -- no item lies above the greatest
 item-within : (s : Stats) (bytes : List ℕ) (i : ℕ) → i < s.count → bitpacked_item s bytes i ≤ greatest_of (bitpacked_items s bytes)

@@ -1,20 +1,20 @@
 -- Lookups on packed steps.
-use Rattle.std.proofs.Common.{◌≡◌, ℕ, zero, suc, ◌+◌, ◌-◌, ◌*◌, ◌/◌, ◌%◌, ◌<◌, ◌≤◌, ◌&&◌, ◌^◌, Bool, true, false, List, [], ◌∷◌, length, map, filter, min, slice_get, Option, Some, refl, sym, ◌∙◌, ap, ap₂, inl, inr, arith}
-use Rattle.std.specs.Prelude.{nat_le, ◌⊎◌, ◌↔◌}
+use Rattle.std.proofs.Common.{◌≡◌, ℕ, zero, suc, ◌+◌, ◌-◌, ◌*◌, ◌/◌, ◌<◌, ◌≤◌, ◌&&◌, ◌^◌, Bool, List, [], ◌∷◌, length, map, filter, min, slice_get, Result, Ok, Err, refl, sym, ◌∙◌, ap, ap₂, subst, inl, inr, arith}
+use Rattle.std.specs.Prelude.{nat_le}
 use Rattle.std.specs.Int.{is_in_range, div_ceil}
 use Rattle.std.specs.List.{AllByRecursion, range_with_len}
-use Rattle.std.specs.Ordering.{partial_le}
+use Rattle.std.specs.List.Sorted.{IsStrictlyIncreasing}
 use Rattle.std.proofs.Math.Nat.{le-div_iff_mul-le, mul-le-mul_right}
 use Rattle.std.proofs.lemmas.Grind.{div_ceil_times}
 use Rattle.std.proofs.lemmas.Bool.{cases_lt}
 use Rattle.std.proofs.lemmas.Bool.Decides.{nat_tests}
-use Rattle.std.proofs.lemmas.Option.{slice_get-get_or}
-use Rattle.std.proofs.lemmas.List.FromFn.{get_or-map-range_with_len, length-map-range_with_len}
-use Rattle.col_bits.specs.Packed.{item, ids_between, width}
-use Rattle.col_model.specs.Stats.{Stats, steps_of}
+use Rattle.col_common.specs.declared.error.ColumnarError.{ColumnarError}
+use Rattle.col_common.specs.Replacing.{Replaces}
+use Rattle.col_bits.specs.Packed.{item, ids_between}
+use Rattle.col_model.specs.Stats.{Stats}
 use Rattle.col_values.specs.Codes.{number_cmp}
-use Rattle.col_values.specs.Values.{passes, is_between, hits, hits_between, span}
-use Rattle.col_codecs.specs.Bitpacked.{bitpacked_item, bitpacked_items, IsReader}
+use Rattle.col_values.specs.Values.{passes, is_between, hits, hits_between}
+use Rattle.col_codecs.specs.Bitpacked.{bitpacked_items, IsReader}
 use Rattle.col_codecs.proofs.BitpackedLemmas.{length-bitpacked_items, reads-at}
 
 -- ---- ends as steps
@@ -75,6 +75,11 @@ found_packed s bytes read list w low high first last from to end view reader sam
     let at = (reads-at s bytes read list w k (item read w k) view reader same refl inside).1 in
     sym (ap (passes (is_between number_cmp low high)) at ∙ in_between low high (s.least + s.divisor * item read w k) ∙ ends (item read w k)))
     ∙ ap (λ n. filter (λ row. passes (is_between number_cmp low high) (slice_get list row)) (range_with_len from n)) (omega (arith, upto, long))
+
+-- a call that replaces by a list that rises leaves one
+pub replaces-rise : (r : Result (Unit {0}) ColumnarError) (new expected : List ℕ) → Replaces r new expected → IsStrictlyIncreasing expected → IsStrictlyIncreasing new
+replaces-rise (Ok done) new expected e rise = subst IsStrictlyIncreasing (sym e) rise
+replaces-rise (Err e) new expected gone rise = λ k h. absurd (omega (arith, h, ap length gone.1))
 
 -- ---- a divisor of 1
 

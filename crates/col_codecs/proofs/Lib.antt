@@ -11,6 +11,7 @@ pub mod BlockReadingLemmas
 pub mod BlockStatsLemmas
 pub mod BlockStepsLemmas
 pub mod BlockWritingLemmas
+pub mod BoundLemmas
 pub mod BoundsLemmas
 pub mod EstimateLemmas
 pub mod HeaderLemmas

@@ -5,5 +5,6 @@ pub mod Line
 pub mod Linear
 pub mod Blockwise
 pub mod Blocks
+pub mod BlockBounds
 pub mod Header
 pub mod Turning

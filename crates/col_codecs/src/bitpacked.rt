@@ -1,5 +1,5 @@
 //! Lists of u64 under the codec Bitpacked: steps from the least value, at the greatest one's width.
-ghost use Rattle.std.specs.Prelude.{◌≡◌, ℕ, ◌<◌, ◌≤◌, ◌+◌, ◌*◌, ◌^◌, length, map, IfOk, IfErr};
+ghost use Rattle.std.specs.Prelude.{◌≡◌, ℕ, ◌<◌, ◌≤◌, ◌+◌, ◌-◌, ◌*◌, ◌%◌, ◌^◌, ◌++◌, length, map, IfOk, IfErr, OnOk};
 ghost use Rattle.std.specs.Int.{is_in_range};
 ghost use Rattle.std.specs.List.{AllByRecursion};
 ghost use Rattle.std.specs.List.Sorted.{IsStrictlyIncreasing};
@@ -7,26 +7,30 @@ ghost use Rattle.std.specs.Range.{range_inclusive_start, range_inclusive_end};
 ghost use Rattle.col_common.specs.Replacing.{Replaces};
 ghost use Rattle.col_common.specs.Decoding.{Decodes};
 ghost use Rattle.col_common.specs.Serializing.{Serializes};
-ghost use Rattle.col_bits.specs.Packed.{items, packed_bytes, width};
-ghost use Rattle.col_model.specs.Stats.{stats_of, steps_of, same_stats, least_of, greatest_of};
+ghost use Rattle.col_bits.specs.Packed.{item, items, ids_between, width};
+ghost use Rattle.col_model.specs.Stats.{stats_of, steps_of, least_of, greatest_of};
 ghost use Rattle.col_model.specs.Codecs.{block_size, steps_above};
 ghost use Rattle.col_values.specs.Codes.{number_cmp};
 ghost use Rattle.col_values.specs.Values.{hits_between};
 ghost use Rattle.col_codecs.specs.ColumnStats.{stats_seen, collected_of, IsPossible};
-ghost use Rattle.col_codecs.specs.Header.{list_by};
+ghost use Rattle.col_codecs.specs.BlockBounds.{AreBounds, Enclose};
+ghost use Rattle.col_codecs.specs.Header.{checked, list_by};
 ghost use Rattle.col_codecs.specs.Bitpacked.{bitpacked_items};
 
+use crate::block_bounds::{
+    BOUNDED_LEN, BOUNDED_SIZE, Bounds, bounds_of, is_inside, is_outside, push_all,
+};
 use crate::codec::{ColumnCodec, ColumnCodecEstimator};
 use crate::column_stats::ColumnStats;
 use crate::header::take_stats;
-use crate::packing::{BLOCK_LEN, BLOCK_SIZE, take_steps};
-use crate::stats_collector::StatsCollector;
+use crate::packing::take_steps;
+use crate::stats_collector::{StatsCollector, collect_bounded};
 use crate::turning::{Turn, serialize_turned};
 use bytes::Bytes;
 use col_bits::{BitUnpacker, compute_num_bits, is_packed};
 use col_common::{BYTE_BITS, ColumnarError, Iterable, RowId, Sink, Steps};
 use col_values::ColumnValues;
-use std::alloc::Global;
+use std::alloc::{AllocError, Global};
 use std::marker::{Brand, Model};
 use std::ops::{Range, RangeInclusive};
 use std::sync::ledger::{Blank, Ledger};
@@ -37,23 +41,32 @@ pub struct BitpackedReader {
     data: Bytes,
     bit_unpacker: BitUnpacker,
     stats: ColumnStats,
+    // The bounds of the steps of each block; none where all steps are 0.
+    bounds: Vec<Bounds>,
 }
 
 impl Model for BitpackedReader {
     ghost use Rattle.std.specs.Prelude.{List, ℕ};
     ghost use Rattle.col_codecs.specs.ColumnStats.{stats_seen};
+    ghost use Rattle.col_bits.specs.Packed.{item};
+    ghost use Rattle.col_codecs.specs.BlockBounds.{Enclose};
     ghost use Rattle.col_codecs.specs.Bitpacked.{bitpacked_items, IsReader};
 
     ghost Value = { List ℕ };
 
     ghost view = { λ r. bitpacked_items (stats_seen r.stats) r.data };
 
-    ghost invariant = { λ r. IsReader (stats_seen r.stats) r.bit_unpacker r.data };
+    ghost invariant = { λ r. IsReader (stats_seen r.stats) r.bit_unpacker r.data
+        × Enclose r.bounds.items (item r.data r.bit_unpacker) r.stats.num_rows };
 }
 
 impl BitpackedReader {
     // The list behind statistics, which must be its own.
-    fn open(stats: ColumnStats, items: Bytes) -> Result<BitpackedReader, ColumnarError>
+    fn open(
+        alloc: Global,
+        stats: ColumnStats,
+        items: Bytes,
+    ) -> Result<BitpackedReader, ColumnarError>
         requires { IsPossible (stats_seen stats) }
         ensures { Decodes (λ list. list) result (list_by 0 (stats_seen stats) items) }
     {
@@ -63,13 +76,12 @@ impl BitpackedReader {
         if !is_packed(bytes, stats.num_rows as usize * num_bits as usize) {
             return Err(ColumnarError::InvalidData);
         }
-        if !are_stats_of(&stats, bit_unpacker, bytes) {
-            return Err(ColumnarError::InvalidData);
-        }
+        let bounds = read_bounds(alloc, &stats, bit_unpacker, bytes)?;
         Ok(BitpackedReader {
             data: items,
             bit_unpacker,
             stats,
+            bounds,
         })
     }
 
@@ -89,16 +101,18 @@ impl BitpackedReader {
         ensures steps { steps.new ≤ steps.old + 2 }
     {
         let (low, high) = value_range.into_inner();
-        let packed = packed_between(&self.stats, low, high, steps);
-        let end = row_ids.end.min(self.stats.num_rows);
+        let (first, last) = packed_between(&self.stats, low, high, steps).into_inner();
+        let ids = row_ids.start..row_ids.end.min(self.stats.num_rows);
         let data = self.data.as_slice();
-        match self
-            .bit_unpacker
-            .get_ids_for_value_range(packed, row_ids.start..end, data, hits)
-        {
-            Ok(()) => Ok(()),
-            Err(_) => Err(ColumnarError::OutOfMemory),
-        }
+        find_packed(
+            &self.bounds,
+            self.bit_unpacker,
+            first,
+            last,
+            ids,
+            data,
+            hits,
+        )
     }
 
     /// The same list once more, which shares its bytes.
@@ -110,6 +124,7 @@ impl BitpackedReader {
             data: self.data.slice(..)?,
             bit_unpacker: self.bit_unpacker,
             stats: self.stats,
+            bounds: self.bounds.clone()?,
         })
     }
 }
@@ -223,85 +238,136 @@ fn raise(min_value: u64, steps: &mut [u64])
     }
 }
 
-// Whether the statistics are those of the list with these steps.
-fn are_stats_of(stats: &ColumnStats, bit_unpacker: BitUnpacker, bytes: &[u8]) -> bool
+// The bounds of the blocks of the steps, where the statistics are those of the list with these.
+fn read_bounds(
+    alloc: Global,
+    stats: &ColumnStats,
+    bit_unpacker: BitUnpacker,
+    bytes: &[u8],
+) -> Result<Vec<Bounds>, ColumnarError>
     requires possible { IsPossible (stats_seen stats.now) }
     requires width { bit_unpacker ≡ width (steps_of (stats_seen stats.now)) }
-    ensures { result ≡ same_stats
-        (stats_of (bitpacked_items (stats_seen stats.now) bytes.now)) (stats_seen stats.now) }
+    ensures list { Decodes (λ _. bitpacked_items (stats_seen stats.now) bytes.now) result
+        (checked (stats_seen stats.now) (bitpacked_items (stats_seen stats.now) bytes.now)) }
+    ensures bounds { IfOk result (λ bs.
+        Enclose bs.items (item bytes.now bit_unpacker) stats.now.num_rows) }
 {
     let steps = stats.steps();
     if steps == 0 {
-        return true;
+        return Ok(Vec::new(alloc));
     }
-    stats_of_items(bit_unpacker, bytes, stats.num_rows).is_same(&ColumnStats {
+    let (found, bounds) = read_steps(alloc, bit_unpacker, bytes, stats.num_rows)?;
+    if !found.is_same(&ColumnStats {
         gcd: 1,
         min_value: 0,
         max_value: steps,
         num_rows: stats.num_rows,
-    })
-}
-
-// The statistics of packed items.
-fn stats_of_items(bit_unpacker: BitUnpacker, bytes: &[u8], count: u32) -> ColumnStats
-    ensures { stats_seen result ≡ stats_of (items bytes.now bit_unpacker 0 count) }
-{
-    let mut collector = StatsCollector::default();
-    for idx in 0..count {
-        if collector.is_finest() {
-            return widen_by_items(collector, bit_unpacker, bytes, idx, count);
-        }
-        collector.collect(bit_unpacker.get(idx, bytes));
+    }) {
+        return Err(ColumnarError::InvalidData);
     }
-    collector.stats()
+    Ok(bounds)
 }
 
-// The same from an item on. The divisor is 1, so that bounds alone are left to be found.
-fn widen_by_items(
-    collector: StatsCollector,
+// The statistics of packed items, and the bounds of their blocks.
+fn read_steps(
+    alloc: Global,
     bit_unpacker: BitUnpacker,
     bytes: &[u8],
-    start: u32,
     count: u32,
-) -> ColumnStats
-    requires ordered { start ≤ count }
-    requires finest { collector.divisor ≡ 1 }
-    requires collected { collector ≡ collected_of (items bytes.now bit_unpacker 0 start) }
-    ensures { stats_seen result ≡ stats_of (items bytes.now bit_unpacker 0 count) }
+) -> Result<(ColumnStats, Vec<Bounds>), ColumnarError>
+    ensures stats { IfOk result (λ r.
+        stats_seen r.0 ≡ stats_of (items bytes.now bit_unpacker 0 count)) }
+    ensures bounds { IfOk result (λ r. Enclose r.1.items (item bytes.now bit_unpacker) count) }
+    ensures out_of_memory { IfErr result (λ e. e ≡ ColumnarError.OutOfMemory) }
 {
-    let mut collector = collector;
-    let mut block = [0; BLOCK_SIZE];
-    let mut from = start;
+    let mut bounds = Vec::with_capacity(alloc, count.div_ceil(BOUNDED_LEN) as usize)?;
+    let mut collector = StatsCollector::default();
+    let mut block = [0; BOUNDED_SIZE];
+    let mut from = 0;
     while from < count {
-        let len = (count - from).min(BLOCK_LEN);
+        let len = (count - from).min(BOUNDED_LEN);
         let block = &mut block[..len as usize];
-        collector = widen_by_block(collector, bit_unpacker, bytes, from, block);
+        let (more, found) = read_block(collector, bit_unpacker, bytes, from, block);
+        collector = more;
+        bounds.push(found)?;
         from += len;
     }
-    collector.stats()
+    Ok((collector.stats(), bounds))
 }
 
-// A collector that took as many items more as the block has room for, from an item on.
-fn widen_by_block(
+// A collector that took as many items more as the block has room for, from an item on, and their
+// bounds.
+fn read_block(
     collector: StatsCollector,
     bit_unpacker: BitUnpacker,
     bytes: &[u8],
     from: u32,
     block: &mut [u64],
-) -> StatsCollector
+) -> (StatsCollector, Bounds)
+    requires some { 0 < length block.old }
     requires room { from + length block.old < 2 ^ 32 }
-    requires finest { collector.divisor ≡ 1 }
     requires collected { collector ≡ collected_of (items bytes.now bit_unpacker 0 from) }
-    ensures finest { result.divisor ≡ 1 }
-    ensures collected { result ≡
+    ensures collected { result.0 ≡
         collected_of (items bytes.now bit_unpacker 0 (from + length block.old)) }
+    ensures bounds { AreBounds result.1 (items bytes.now bit_unpacker from (length block.old)) }
 {
     bit_unpacker.get_range(from, bytes, block);
-    let mut collector = collector;
-    for at in 0..block.len() {
-        collector.widen(block[at]);
+    let bounds = bounds_of(block);
+    (collect_bounded(collector, block, bounds), bounds)
+}
+
+// Puts there which of the ids have a packed number from `low` to `high`, block by block.
+fn find_packed(
+    bounds: &[Bounds],
+    bit_unpacker: BitUnpacker,
+    low: u64,
+    high: u64,
+    ids: Range<u32>,
+    bytes: &[u8],
+    hits: &mut Vec<u32>,
+) -> Result<(), ColumnarError>
+    requires { Enclose bounds.now (item bytes.now bit_unpacker) ids.end }
+    ensures { Replaces result hits.new.items
+        (ids_between bytes.now bit_unpacker low high ids.start (ids.end - ids.start)) }
+{
+    hits.clear();
+    let mut from = ids.start;
+    while from < ids.end {
+        let to = from + (ids.end - from).min(BOUNDED_LEN - from % BOUNDED_LEN);
+        let pushed = push_packed(bounds, bit_unpacker, low, high, from..to, bytes, hits);
+        if let Err(_wanting) = pushed {
+            hits.clear();
+            return Err(ColumnarError::OutOfMemory);
+        }
+        from = to;
     }
-    collector
+    Ok(())
+}
+
+// Appends those of one block: none where it lies outside the range, and all where it lies inside.
+fn push_packed(
+    bounds: &[Bounds],
+    bit_unpacker: BitUnpacker,
+    low: u64,
+    high: u64,
+    ids: Range<u32>,
+    bytes: &[u8],
+    hits: &mut Vec<u32>,
+) -> Result<(), AllocError>
+    requires order { ids.start ≤ ids.end }
+    requires block { ids.start % 1024 + (ids.end - ids.start) ≤ 1024 }
+    requires enclosed { Enclose bounds.now (item bytes.now bit_unpacker) ids.end }
+    ensures { OnOk result (hits.new.items ≡ hits.old.items
+        ++ ids_between bytes.now bit_unpacker low high ids.start (ids.end - ids.start)) }
+{
+    let block = (ids.start / BOUNDED_LEN) as usize;
+    if is_outside(bounds, block, low, high) {
+        return Ok(());
+    }
+    if is_inside(bounds, block, low, high) {
+        return push_all(ids, hits);
+    }
+    bit_unpacker.push_ids(low, high, ids, bytes, hits)
 }
 
 // Steps are packed in place of values.
@@ -328,11 +394,11 @@ impl ColumnCodec for BitpackedCodec {
 
     type Estimator = BitpackedCodecEstimator;
 
-    fn load(_alloc: Global, bytes: Bytes) -> Result<BitpackedReader, ColumnarError> {
+    fn load(alloc: Global, bytes: Bytes) -> Result<BitpackedReader, ColumnarError> {
         let Some((stats, items)) = take_stats(bytes) else {
             return Err(ColumnarError::InvalidData);
         };
-        BitpackedReader::open(stats, items)
+        BitpackedReader::open(alloc, stats, items)
     }
 
     fn estimator(_alloc: Global) -> Result<BitpackedCodecEstimator, ColumnarError> {

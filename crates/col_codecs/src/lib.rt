@@ -2,6 +2,7 @@
 #![tactic(auto)]
 
 mod bitpacked;
+mod block_bounds;
 mod blockwise_linear;
 mod codec;
 mod column_stats;

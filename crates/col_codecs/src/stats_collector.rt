@@ -2,8 +2,10 @@
 ghost use Rattle.std.specs.Prelude.{◌≡◌, ◌==◌, ◌<◌, ◌+◌, ◌^◌, ℕ, List, [], ◌∷◌, ◌++◌, length};
 ghost use Rattle.std.specs.Int.{IsGcd};
 ghost use Rattle.col_model.specs.Stats.{stats_of, gcd};
+ghost use Rattle.col_codecs.specs.BlockBounds.{AreBounds};
 ghost use Rattle.col_codecs.specs.ColumnStats.{stats_seen, Collected, collected_of};
 
+use crate::block_bounds::Bounds;
 use crate::column_stats::ColumnStats;
 use col_common::RowId;
 use std::marker::Model;
@@ -107,6 +109,18 @@ impl StatsCollector {
         self.increment_gcd == 1
     }
 
+    /// Takes as many values more as are counted, which have these bounds, where the divisor is 1.
+    pub fn widen_by(&mut self, bounds: Bounds, count: u32)
+        requires room { self.old.count + count < 2 ^ 32 }
+        requires finest { self.old.divisor ≡ 1 }
+        ensures { (xs ys : List ℕ) → self.old ≡ collected_of xs → AreBounds bounds ys →
+            length ys ≡ count → self.new ≡ collected_of (xs ++ ys) }
+    {
+        self.min_value = self.min_value.min(bounds.least);
+        self.max_value = self.max_value.max(bounds.greatest);
+        self.num_rows += count;
+    }
+
     /// Takes one value more, where the divisor is 1.
     #[inline]
     pub fn widen(&mut self, value: u64)
@@ -132,4 +146,23 @@ impl StatsCollector {
             num_rows: self.num_rows,
         }
     }
+}
+
+/// A collector that took the values of a block more, which have these bounds.
+pub fn collect_bounded(collector: StatsCollector, vals: &[u64], bounds: Bounds) -> StatsCollector
+    requires bounds { AreBounds bounds vals.now }
+    requires room { (xs : List ℕ) × (collector ≡ collected_of xs)
+        × (length xs + length vals.now < 2 ^ 32) }
+    ensures { (xs : List ℕ) → collector ≡ collected_of xs →
+        result ≡ collected_of (xs ++ vals.now) }
+{
+    let mut collector = collector;
+    if collector.is_finest() {
+        collector.widen_by(bounds, vals.len() as u32);
+        return collector;
+    }
+    for at in 0..vals.len() {
+        collector.collect(vals[at]);
+    }
+    collector
 }

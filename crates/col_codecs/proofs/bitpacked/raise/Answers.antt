@@ -1,5 +1,5 @@
-use Rattle.std.proofs.Common.{◌≡◌, ◌<◌, ◌+◌, ◌^◌, length, slice_index_or, arith, ap, ◌∙◌, add_comm}
-use Rattle.col_codecs.proofs.PackingLemmas.{replaced, replaced-push, next-holds}
+use Rattle.std.proofs.Common.{◌<◌, ◌+◌, ◌^◌, arith}
+use Rattle.col_codecs.proofs.PackingLemmas.{replaced-push, next-holds}
 use Rattle.col_codecs.proofs.bitpacked.raise.Goals as goal
 
 pub overflow_add-steps : goal.overflow_add-steps

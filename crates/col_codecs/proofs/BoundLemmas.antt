@@ -1,0 +1,170 @@
+-- Bounds of blocks, and lookups by them.
+use Rattle.std.proofs.Common.{◌≡◌, ℕ, zero, suc, ◌+◌, ◌-◌, ◌*◌, ◌/◌, ◌%◌, ◌<◌, ◌≤◌, inl, inr, Bool, true, false, List, [], ◌∷◌, ◌++◌, length, map, fold, min, max, filter, take, set, get_or, refl, sym, ◌∙◌, ap, subst, arith, append_assoc, append-nil}
+use Rattle.std.specs.List.{range_with_len}
+use Rattle.std.specs.Int.{is_in_range}
+use Rattle.std.proofs.lemmas.Bool.{cases_lt}
+use Rattle.std.proofs.lemmas.List.{map-id, map-append, take_more, take_more_set, take_all, get_or_append_left}
+use Rattle.std.proofs.lemmas.List.Elements.{All-get_or, All-from_recursion}
+use Rattle.std.proofs.lemmas.List.FromFn.{map-range_with_len_more, get_or-map-range_with_len, length-map-range_with_len}
+use Rattle.col_bits.specs.Packed.{item, items, ids_between}
+use Rattle.col_bits.proofs.ItemLemmas.{range_parts}
+use Rattle.col_model.specs.Stats.{least_of, greatest_of}
+use Rattle.col_model.proofs.StatsLaws.{least_of-all, fold-max}
+use Rattle.col_codecs.specs.declared.block_bounds.Bounds.{Bounds}
+use Rattle.col_codecs.specs.ColumnStats.{Collected, collected_of}
+use Rattle.col_codecs.proofs.StatsLemmas.{collected-widened}
+use Rattle.col_codecs.specs.BlockBounds.{AreBounds, LiesWithin, LiesIn, Enclose, no_bounds}
+
+-- ---- ids of which none or all have an item in a range
+
+filter_none : (p : ℕ → Bool) (a n : ℕ) → ((k : ℕ) → a ≤ k → k < a + n → p k ≡ false) → filter p (range_with_len a n) ≡ []
+filter_none p a zero never = refl
+filter_none p a (suc n) never = rw (never a (omega arith) (omega arith)) (filter_none p (a + 1) n (λ k h l. never k (omega arith) (omega arith)))
+
+filter_all : (p : ℕ → Bool) (a n : ℕ) → ((k : ℕ) → a ≤ k → k < a + n → p k ≡ true) → filter p (range_with_len a n) ≡ range_with_len a n
+filter_all p a zero always = refl
+filter_all p a (suc n) always = rw (always a (omega arith) (omega arith)) (ap (λ r. a ∷ r) (filter_all p (a + 1) n (λ k h l. always k (omega arith) (omega arith))))
+
+ids_none : (bytes : List ℕ) (w low high a n : ℕ) → ((k : ℕ) → a ≤ k → k < a + n → is_in_range low high (item bytes w k) ≡ false) → ids_between bytes w low high a n ≡ []
+unfolding ids_between
+ids_none bytes w low high a n never = filter_none (λ id. is_in_range low high (item bytes w id)) a n never
+
+ids_all : (bytes : List ℕ) (w low high a n : ℕ) → ((k : ℕ) → a ≤ k → k < a + n → is_in_range low high (item bytes w k) ≡ true) → ids_between bytes w low high a n ≡ range_with_len a n
+unfolding ids_between
+ids_all bytes w low high a n always = filter_all (λ id. is_in_range low high (item bytes w id)) a n always
+
+-- one id more of a range
+range_more : (a n : ℕ) → range_with_len a (n + 1) ≡ range_with_len a n ++ (a + n) ∷ []
+range_more a n = sym (map-id _) ∙ map-range_with_len_more (λ k. k) a n (a + n) refl ∙ ap (λ l. l ++ (a + n) ∷ []) (map-id _)
+
+-- ---- bounds one number after another
+
+min_from : (a b : ℕ) (xs : List ℕ) → fold min (min a b) xs ≡ min a (fold min b xs)
+min_from a b [] = refl
+min_from a b (x ∷ xs) =
+    let e : min (min a b) x ≡ min a (min b x) = omega arith in
+    ap (λ m. fold min m xs) e ∙ min_from a (min b x) xs
+
+max_from : (a b : ℕ) (xs : List ℕ) → fold max (max a b) xs ≡ max a (fold max b xs)
+max_from a b [] = refl
+max_from a b (x ∷ xs) =
+    let e : max (max a b) x ≡ max a (max b x) = omega arith in
+    ap (λ m. fold max m xs) e ∙ max_from a (max b x) xs
+
+-- with another number in front
+pub least-with : (a : ℕ) (xs : List ℕ) → 0 < length xs → min a (least_of xs) ≡ fold min a xs
+least-with a [] h = absurd (omega arith)
+least-with a (x ∷ xs) h = sym (min_from a x xs)
+
+pub greatest-with : (a : ℕ) (xs : List ℕ) → max a (greatest_of xs) ≡ fold max a xs
+greatest-with a xs = let e : max a 0 ≡ a = omega arith in sym (max_from a 0 xs) ∙ ap (λ m. fold max m xs) e
+
+-- the bounds of the first number and of all
+pub bounds_whole : (b : Bounds) (xs : List ℕ) (n : ℕ) → 0 < length xs → length xs ≤ n → b.least ≡ fold min (get_or xs 0 0) (take n xs) → b.greatest ≡ fold max (get_or xs 0 0) (take n xs) → AreBounds b xs
+bounds_whole b [] n some all low high = absurd (omega arith)
+bounds_whole b (x ∷ xs) n some all low high =
+    let whole : take n (x ∷ xs) ≡ x ∷ xs = take_all n (x ∷ xs) all in
+    let least : min x x ≡ x = omega arith in
+    let greatest : max x x ≡ max 0 x = omega arith in
+    record {
+      some = some;
+      least = low ∙ ap (fold min x) whole ∙ ap (λ m. fold min m xs) least;
+      greatest = high ∙ ap (fold max x) whole ∙ ap (λ m. fold max m xs) greatest;
+    }
+
+-- no number lies outside its bounds
+pub bounds_enclose : (b : Bounds) (xs : List ℕ) (k : ℕ) → AreBounds b xs → k < length xs → LiesWithin b (get_or xs k 0)
+bounds_enclose b xs k are h =
+    let low : least_of xs ≤ get_or xs k 0 = All-get_or (λ x. least_of xs ≤ x) xs k 0 h (All-from_recursion (λ x. least_of xs ≤ x) xs (least_of-all xs)) in
+    let high : get_or xs k 0 ≤ greatest_of xs = All-get_or (λ x. x ≤ greatest_of xs) xs k 0 h (All-from_recursion (λ x. x ≤ greatest_of xs) xs (fold-max 0 xs).1) in
+    (omega (arith, low, are.least), omega (arith, high, are.greatest))
+
+-- ---- blocks
+
+-- where there are no bounds, nothing is said
+pub enclose_none : (f : ℕ → ℕ) (n : ℕ) → Enclose [] f n
+enclose_none f n i h inside = absurd (omega arith)
+
+-- one block more
+pub enclose_more : (bs : List Bounds) (b : Bounds) (f : ℕ → ℕ) (from n : ℕ) → from ≡ 1024 * length bs → n ≤ 1024 → Enclose bs f from → AreBounds b (map f (range_with_len from n)) → Enclose (bs ++ b ∷ []) f (from + n)
+enclose_more bs b f from n at short so_far are i h inside =
+    elim (cases_lt i from) [
+      | inl before ↦
+          let block : i / 1024 < length bs = omega (arith, before, at) in
+          subst (λ (x : Bounds). LiesWithin x (f i)) (sym (get_or_append_left bs (b ∷ []) no_bounds (i / 1024) block)) (so_far i before block)
+      | inr behind ↦
+          let block : i / 1024 ≡ length bs = omega (arith, behind, at, short, h) in
+          let item : get_or (map f (range_with_len from n)) (i - from) 0 ≡ f i = get_or-map-range_with_len f from n (i - from) i 0 (omega (arith, behind, h)) (omega (arith, behind)) in
+          let lies : LiesWithin b (f i) = subst (LiesWithin b) item (bounds_enclose b (map f (range_with_len from n)) (i - from) are (omega (arith, length-map-range_with_len f from n, behind, h))) in
+          let last : get_or (bs ++ b ∷ []) (i / 1024) no_bounds ≡ b = ap (λ k. get_or (bs ++ b ∷ []) k no_bounds) block ∙ get_or-append_at bs b in
+          subst (λ (x : Bounds). LiesWithin x (f i)) (sym last) lies
+    ]
+  where
+    get_or-append_at : (bs : List Bounds) (b : Bounds) → get_or (bs ++ b ∷ []) (length bs) no_bounds ≡ b
+    get_or-append_at [] b = refl
+    get_or-append_at (c ∷ bs) b = get_or-append_at bs b
+
+-- items of one block
+block_lies : (bs : List Bounds) (f : ℕ → ℕ) (a n to block k : ℕ) → block ≡ a / 1024 → a + n ≤ to → a % 1024 + n ≤ 1024 → Enclose bs f to → a ≤ k → k < a + n → LiesIn bs block (f k)
+block_lies bs f a n to block k at within one enclosed above below =
+    let same : k / 1024 ≡ block = omega (arith, at, one, above, below) in
+    subst (λ j. LiesIn bs j (f k)) same (enclosed k (omega (arith, below, within)))
+
+module _ (bs : List Bounds) (bytes : List ℕ) (w low high a n to block : ℕ) (at : block ≡ a / 1024) (within : a + n ≤ to) (one : a % 1024 + n ≤ 1024) (enclosed : Enclose bs (item bytes w) to) (old : List ℕ) where
+  -- a block that lies outside the range adds none of its ids
+  pub block_skipped : ((v : ℕ) → LiesIn bs block v → is_in_range low high v ≡ false) → old ≡ old ++ ids_between bytes w low high a n
+  block_skipped misses =
+      sym (append-nil old)
+      ∙ ap (λ r. old ++ r) (sym (ids_none bytes w low high a n (λ k above below. misses (item bytes w k) (block_lies bs (item bytes w) a n to block k at within one enclosed above below))))
+
+  -- one that lies inside adds all
+  pub block_taken : ((v : ℕ) → LiesIn bs block v → is_in_range low high v ≡ true) → old ++ range_with_len a n ≡ old ++ ids_between bytes w low high a n
+  block_taken hits =
+      ap (λ r. old ++ r) (sym (ids_all bytes w low high a n (λ k above below. hits (item bytes w k) (block_lies bs (item bytes w) a n to block k at within one enclosed above below))))
+
+-- ---- ids that are written
+
+-- one id more is written
+pub run_more : (front out : List ℕ) (start n at m x : ℕ) → at < length out → m ≡ n + 1 → x ≡ start + n → take at out ≡ front ++ range_with_len start n → take (at + 1) (set out at x) ≡ front ++ range_with_len start m
+run_more front out start n at m x within next value so_far =
+    take_more_set out at x within
+    ∙ ap (λ r. r ++ x ∷ []) so_far
+    ∙ append_assoc front (range_with_len start n) (x ∷ [])
+    ∙ ap (λ y. front ++ (range_with_len start n ++ y ∷ [])) value
+    ∙ ap (λ r. front ++ r) (sym (range_more start n))
+    ∙ ap (λ k. front ++ range_with_len start k) (sym next)
+
+-- ---- a collector
+
+-- numbers behind those that were collected, where the divisor is 1
+widened_all : (s : Collected) (xs ys : List ℕ) → s.divisor ≡ 1 → s ≡ collected_of xs → record { least = fold min s.least ys; greatest = fold max s.greatest ys; divisor = s.divisor; count = s.count + length ys } ≡ collected_of (xs ++ ys)
+widened_all s xs [] one e =
+    let count : s.count + 0 ≡ s.count = omega arith in
+    ap (λ n. record s { count = n }) count ∙ e ∙ ap collected_of (sym (append-nil xs))
+widened_all s xs (y ∷ ys) one e =
+    let more : Collected = record { least = min s.least y; greatest = max s.greatest y; divisor = s.divisor; count = s.count + 1 } in
+    let count : s.count + suc (length ys) ≡ s.count + 1 + length ys = omega arith in
+    ap (λ n. record { least = fold min (min s.least y) ys; greatest = fold max (max s.greatest y) ys; divisor = s.divisor; count = n }) count
+    ∙ widened_all more (xs ++ y ∷ []) ys one (collected-widened s xs y _ _ one refl refl e)
+    ∙ ap collected_of (append_assoc xs (y ∷ []) ys)
+
+-- a block of them, by its bounds
+pub collected-block : (s : Collected) (xs ys : List ℕ) (b : Bounds) (low high n : ℕ) → s.divisor ≡ 1 → AreBounds b ys → low ≡ min s.least b.least → high ≡ max s.greatest b.greatest → length ys ≡ n → s ≡ collected_of xs → record { least = low; greatest = high; divisor = s.divisor; count = s.count + n } ≡ collected_of (xs ++ ys)
+collected-block s xs ys b low high n one are l h long e =
+    let least : low ≡ fold min s.least ys = l ∙ ap (min s.least) are.least ∙ least-with s.least ys are.some in
+    let greatest : high ≡ fold max s.greatest ys = h ∙ ap (max s.greatest) are.greatest ∙ greatest-with s.greatest ys in
+    (λ i. record { least = least i; greatest = greatest i; divisor = s.divisor; count = s.count + sym long i }) ∙ widened_all s xs ys one e
+
+-- one number more of a block
+pub collected-push : (after : Collected) (xs ys : List ℕ) (i : ℕ) → i < length ys → after ≡ collected_of ((xs ++ take i ys) ++ get_or ys i 0 ∷ []) → after ≡ collected_of (xs ++ take (i + 1) ys)
+collected-push after xs ys i h e =
+    e ∙ ap collected_of (append_assoc xs (take i ys) (get_or ys i 0 ∷ []) ∙ ap (λ r. xs ++ r) (sym (take_more ys i 0 h)))
+
+-- ---- packed items
+
+-- those of a block behind those before it
+pub items-joined : (bytes : List ℕ) (w n m : ℕ) → items bytes w 0 n ++ items bytes w n m ≡ items bytes w 0 (n + m)
+items-joined bytes w n m =
+    let place : n ≡ 0 + n = omega arith in
+    sym (map-append (item bytes w) (range_with_len 0 n) (range_with_len n m))
+    ∙ ap (map (item bytes w)) (ap (λ k. range_with_len 0 n ++ range_with_len k m) place ∙ sym (range_parts 0 n m))

@@ -1,0 +1,28 @@
+use Rattle.std.proofs.Common.{◌++◌, ◌+◌, ◌-◌, ap, sym, ◌∙◌, arith}
+use Rattle.col_bits.specs.Packed.{ids_between}
+use Rattle.col_bits.proofs.ItemLemmas.{ids_none, ids_joined}
+use Rattle.col_codecs.proofs.bitpacked.find_packed.Goals as goal
+
+pub loop-from-init : goal.loop-from-init
+loop-from-init c =
+    let a = c.args in
+    record {
+      found = c.clear.ensures.items ∙ sym (ids_none a.bytes.now a.bit_unpacker a.low a.high a.ids.start (a.ids.start - a.ids.start) (omega arith));
+      begun = omega arith;
+      within = omega arith;
+    }
+
+pub loop-from-preserved : goal.loop-from-preserved
+loop-from-preserved c =
+    let a = c.args in
+    let start = a.ids.start in
+    let from = c.loop-from.from in
+    let to = from + c.min.result in
+    let block = ids_between a.bytes.now a.bit_unpacker a.low a.high from (to - from) in
+    record {
+      found = c.in_default.ensures
+          ∙ (ap (λ found. found ++ block) c.loop-from.invariant.found
+          ∙ sym (ids_joined a.bytes.now a.bit_unpacker a.low a.high start (from - start) (to - from) from (to - start) (omega arith) (omega arith)));
+      begun = omega arith;
+      within = omega arith;
+    }
