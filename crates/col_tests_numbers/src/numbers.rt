@@ -5,4 +5,5 @@ mod codecs;
 mod coercions;
 mod line;
 mod lists;
+mod lookups;
 mod stats;
