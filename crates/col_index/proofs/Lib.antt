@@ -28,3 +28,5 @@ mod OldStartLemmas
 mod PartLemmas
 mod RankWordLemmas
 mod RankedLemmas
+mod WindowLemmas
+mod WrittenLemmas

@@ -10,3 +10,4 @@ pub mod MultiValues
 pub mod Indexes
 pub mod Opening
 pub mod Laws
+pub mod Windows

@@ -20,6 +20,7 @@ mod rising;
 mod search;
 mod select_cursor;
 mod set;
+mod windows;
 
 pub use cardinality::Cardinality;
 pub use col_order::{MergeRowOrder, ShuffleMergeOrder, StackMergeOrder};

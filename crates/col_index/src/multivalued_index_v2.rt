@@ -15,12 +15,16 @@ use crate::non_null_docs::NonNullDocs;
 use crate::optional_index::{OptionalIndex, load_numbers};
 use crate::search::Place;
 use crate::set::Set;
+use crate::windows::{TABLE_LEN, Window, window_at};
 use col_common::{ColumnarError, DocId, RowId};
 use col_numbers::U64Values;
 use col_values::ColumnValues;
 use std::alloc::Global;
 use std::marker::Model;
 use std::ops::Range;
+
+/// How far apart positions are on the average where windows still pay.
+const MAX_APART: usize = 32;
 
 /// The index of version 2: rows with a value, and where the values of each start. Contracts see
 /// both lists.
@@ -244,6 +248,43 @@ impl MultiValueIndexV2 {
         requires below { AreBelow ranks.old (sum (offset_counts self.now)) }
         ensures { take result ranks.new ≡ rows_at (offset_counts self.now) ranks.old }
     {
+        if are_close(ranks) {
+            self.select_close_rows(ranks)
+        } else {
+            self.select_distant_rows(ranks)
+        }
+    }
+
+    // The same by windows, in which no step depends on how far apart the positions are.
+    fn select_close_rows(&self, ranks: &mut [RowId]) -> usize
+        requires rising { is_rising ranks.old ≡ true }
+        requires below { AreBelow ranks.old (sum (offset_counts self.now)) }
+        ensures { take result ranks.new ≡ rows_at (offset_counts self.now) ranks.old }
+    {
+        let mut table = [0; TABLE_LEN];
+        let mut window = Window {
+            position: 0,
+            len: 0,
+        };
+        let mut before = 0;
+        let mut kept = 0;
+        for at in 0..ranks.len() {
+            let position = ranks[at];
+            window = window_at(&self.start_index_column, position, window, &mut table);
+            let started = table[(position - window.position) as usize];
+            ranks[kept] = self.optional_index.select(started - 1);
+            kept += is_other(started, before) as usize;
+            before = started;
+        }
+        kept
+    }
+
+    // The same by places, which are few steps apart or many.
+    fn select_distant_rows(&self, ranks: &mut [RowId]) -> usize
+        requires rising { is_rising ranks.old ≡ true }
+        requires below { AreBelow ranks.old (sum (offset_counts self.now)) }
+        ensures { take result ranks.new ≡ rows_at (offset_counts self.now) ranks.old }
+    {
         let mut place = Place::first(&self.start_index_column);
         let mut kept = 0;
         for at in 0..ranks.len() {
@@ -257,6 +298,22 @@ impl MultiValueIndexV2 {
         }
         kept
     }
+}
+
+// Whether positions lie close enough to one another for windows to pay.
+fn are_close(positions: &[RowId]) -> bool {
+    let [first, .., last] = positions else {
+        return false;
+    };
+    last.saturating_sub(*first) as usize / MAX_APART <= positions.len()
+}
+
+// Whether a number isn't another.
+#[inline(always)]
+fn is_other(number: u32, other: u32) -> bool
+    ensures { result ≡ not (number == other) }
+{
+    number != other
 }
 
 // Whether numbers are start offsets of so many rows.

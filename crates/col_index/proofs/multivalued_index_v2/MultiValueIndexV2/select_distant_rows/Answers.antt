@@ -4,7 +4,7 @@ use Rattle.col_index.specs.Offsets.{AreOffsets}
 use Rattle.col_index.proofs.KeptLemmas.{selected-none, selected-same, selected-next}
 use Rattle.col_index.proofs.RowsAtLemmas.{after-more}
 use Rattle.col_index.proofs.TurnLemmas.{rows_at-none, turned, turn-some, turn-inside, turn-same, turn-next}
-use Rattle.col_index.proofs.multivalued_index_v2.MultiValueIndexV2.select_rows.Goals as goal
+use Rattle.col_index.proofs.multivalued_index_v2.MultiValueIndexV2.select_distant_rows.Goals as goal
 
 pub loop-at-init : goal.loop-at-init
 loop-at-init c = record {

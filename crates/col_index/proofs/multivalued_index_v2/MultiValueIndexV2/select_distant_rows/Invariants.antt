@@ -3,7 +3,7 @@ use Rattle.col_model.specs.Index.{offset_counts}
 use Rattle.col_index.specs.Places.{IsPlace}
 use Rattle.col_index.proofs.KeptLemmas.{IsSelected}
 use Rattle.col_index.proofs.RowsAtLemmas.{after}
-use Rattle.col_index.proofs.multivalued_index_v2.MultiValueIndexV2.select_rows.Given as goal
+use Rattle.col_index.proofs.multivalued_index_v2.MultiValueIndexV2.select_distant_rows.Given as goal
 
 abbrev pub invariant-loop-at : goal.invariant-loop-at
 invariant-loop-at l = record {
