@@ -90,18 +90,57 @@ impl Index {
                 for hit in hits { *hit = set.rows.get(*hit) as u32 }
             }
             Index::Multivalued(set, starts) => {
-                let (mut place, mut kept) = (starts.place(0, 0), 0);
-                for at in 0..hits.len() {
-                    let before = place.at;
-                    place = place.seek(starts, u64::from(hits[at]) + 1);
-                    if place.at == before { continue; }
-                    hits[kept] = set.rows.get(place.at - 1) as u32;
-                    kept += 1;
-                }
+                let apart = hits.last().map_or(0, |last| (last - hits[0]) as usize / 32);
+                let kept = if apart <= hits.len() { select_close(set, starts, hits) } else { select_distant(set, starts, hits) };
                 hits.truncate(kept);
             }
         }
     }
+}
+
+// The rows of positions in the front of their list, by windows in which the offsets at or before each are counted.
+fn select_close(set: &Set, starts: &Numbers, hits: &mut [u32]) -> usize {
+    let mut table = [0; BLOCK_LEN];
+    let (mut position, mut len, mut before, mut kept) = (0, 0, 0, 0);
+    for at in 0..hits.len() {
+        let hit = hits[at];
+        if hit < position || hit - position >= len { (position, len) = (hit, fill(starts, hit, &mut table)) }
+        let started = table[(hit - position) as usize];
+        hits[kept] = set.rows.get(started - 1) as u32;
+        kept += (started != before) as usize;
+        before = started;
+    }
+    kept
+}
+
+// Counts the offsets at or before each of so many positions from one on.
+#[inline(never)]
+fn fill(starts: &Numbers, position: u32, table: &mut [u32; BLOCK_LEN]) -> u32 {
+    let (behind, mut marks, mut block) = (u64::from(position) + 1, [0; BLOCK_LEN], [0; BLOCK_LEN / 2]);
+    let first = starts.rank(behind);
+    let count = ((starts.count - first) as usize).min(block.len());
+    for at in 0..count { block[at] = starts.get(first + at as u32) }
+    for start in &block[..count] { marks[((start - behind) as usize).min(BLOCK_LEN - 1)] = 1 }
+    let len = (block[count - 1] - u64::from(position)).min(BLOCK_LEN as u64 - 1) as u32;
+    let mut run = first;
+    for at in 0..len as usize {
+        table[at] = run;
+        run += marks[at];
+    }
+    len
+}
+
+// The same by a walk.
+fn select_distant(set: &Set, starts: &Numbers, hits: &mut [u32]) -> usize {
+    let (mut place, mut kept) = (starts.place(0, 0), 0);
+    for at in 0..hits.len() {
+        let before = place.at;
+        place = place.seek(starts, u64::from(hits[at]) + 1);
+        if place.at == before { continue; }
+        hits[kept] = set.rows.get(place.at - 1) as u32;
+        kept += 1;
+    }
+    kept
 }
 
 struct Column { index: Index, values: Bitpacked, told: Told }
