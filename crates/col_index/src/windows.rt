@@ -1,6 +1,7 @@
 //! Windows of positions that follow one another, in which the start offsets at or before each are
 //! looked up in a table.
-ghost use Rattle.std.specs.Prelude.{◌≡◌, ◌≤◌, ◌<◌, ◌+◌, ◌^◌, ℕ, true, length, slice_index, take, drop, sum, if◌then◌else◌};
+ghost use Rattle.std.specs.Prelude.{◌≡◌, ◌≤◌, ◌<◌, ◌+◌, ◌^◌, ℕ, true, length, take, drop, sum};
+ghost use Rattle.std.specs.Prelude.{slice_index, if◌then◌else◌};
 ghost use Rattle.col_model.specs.Ascending.{is_rising};
 ghost use Rattle.col_model.specs.Positions.{rank};
 ghost use Rattle.col_numbers.specs.Readers.{list_of};
