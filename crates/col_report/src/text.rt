@@ -1,5 +1,5 @@
 //! What a report's bytes grow by.
-ghost use Rattle.std.specs.Prelude.{◌≡◌, ◌++◌, ◌∷◌, [], false, decimal, OnOk};
+ghost use Rattle.std.specs.Prelude.{◌≡◌, ◌++◌, ◌∷◌, [], false, decimal, IfOk, OnOk};
 ghost use Rattle.hex.specs.Hex.{encode_lower};
 ghost use Rattle.json.specs.Print.{quoted};
 ghost use Rattle.serde_json.specs.Data.{string};
@@ -13,7 +13,6 @@ use itoa::Buffer;
 use json::Writer;
 use serde_json::Value;
 use std::alloc::{AllocError, Global};
-use std::mem::replace;
 
 // Appends a number in decimal.
 #[inline]
@@ -39,10 +38,17 @@ pub(crate) fn push_signed(out: &mut Vec<u8>, number: i64) -> Result<(), AllocErr
 pub(crate) fn push_quoted(alloc: Global, out: &mut Vec<u8>, text: &str) -> Result<(), AllocError>
     ensures { OnOk result (out.new.items ≡ out.old.items ++ quoted text.now) }
 {
-    let mut writer = Writer::new(replace(out, Vec::new(alloc)));
-    let written = writer.string(text);
-    *out = writer.into_inner();
-    written
+    let quoted = quoted_text(alloc, text)?;
+    out.extend_from_slice(&quoted)
+}
+
+// A text in quotes. It is written apart, since a writer fills up to 16 KB behind what it holds.
+fn quoted_text(alloc: Global, text: &str) -> Result<Vec<u8>, AllocError>
+    ensures { IfOk result (λ bytes. bytes.items ≡ quoted text.now) }
+{
+    let mut writer = Writer::new(Vec::new(alloc));
+    writer.string(text)?;
+    Ok(writer.into_inner())
 }
 
 // Appends bytes as digits in hexadecimal, in quotes.
