@@ -24,11 +24,10 @@ none_of_seven : {A : Type 0} (p : A → Bool) (a b c d e f g : A) → p a ≡ fa
 none_of_seven p a b c d e f g ha hb hc hd he hf hg = rw (ha, hb, hc, hd, he, hf, hg) refl
 
 -- a word that names no type
-pub no_type : (d : Data) (word : List ℕ) → as_str d ≡ Some word → (word ≡ codes "i64" → ⊥) → (word ≡ codes "u64" → ⊥) → (word ≡ codes "bytes" → ⊥) → (word ≡ codes "str" → ⊥)
-    → (word ≡ codes "bool" → ⊥) → (word ≡ codes "ip" → ⊥) → (word ≡ codes "datetime" → ⊥) → as_type d ≡ None
-no_type d word s i u by st bo ip da =
-    ap (λ o. o >>= type_named) s
-    ∙ none_of_seven (λ t. bytes_eq (type_name t) word) types.i64 types.u64 types.bytes types.str types.bool types.ip types.datetime
+pub no_type : (word : List ℕ) → (word ≡ codes "i64" → ⊥) → (word ≡ codes "u64" → ⊥) → (word ≡ codes "bytes" → ⊥) → (word ≡ codes "str" → ⊥)
+    → (word ≡ codes "bool" → ⊥) → (word ≡ codes "ip" → ⊥) → (word ≡ codes "datetime" → ⊥) → type_named word ≡ None
+no_type word i u by st bo ip da =
+    none_of_seven (λ t. bytes_eq (type_name t) word) types.i64 types.u64 types.bytes types.str types.bool types.ip types.datetime
     (other (codes "i64") word i) (other (codes "u64") word u) (other (codes "bytes") word by) (other (codes "str") word st) (other (codes "bool") word bo) (other (codes "ip") word ip) (other (codes "datetime") word da)
 
 -- a word that none of the other lines begins with

@@ -7,12 +7,13 @@ ghost use Rattle.col_script.specs.Lines.{line_of, call_of, required_of};
 ghost use Rattle.col_script.specs.Parts.{address_of};
 ghost use Rattle.col_script.specs.Scripts.{no_parts, parts_of, summary_of, summary_with, Takes, TakesPiece};
 
-use crate::line::{Call, Line, parse_line};
+use crate::line::{Call, Line, read_line};
 use crate::script::Script;
 use crate::segment::Segment;
 use col_common::RowAddr;
 use col_find::Find;
 use col_types::ColumnType;
+use json::Scratch;
 use std::alloc::{AllocError, Global};
 
 /// What the lines so far say.
@@ -40,13 +41,18 @@ impl Draft {
     }
 
     /// Takes the line that a piece spells, or tells that no script has it here.
-    pub fn take_piece(&mut self, alloc: Global, piece: &[u8]) -> Result<bool, AllocError>
+    pub fn take_piece(
+        &mut self,
+        alloc: Global,
+        scratch: &mut Scratch,
+        piece: &[u8],
+    ) -> Result<bool, AllocError>
         ensures { IfOk result (TakesPiece piece.now self.old self.new) }
     {
         if piece.is_empty() {
             return Ok(true);
         }
-        match parse_line(alloc, piece)? {
+        match read_line(alloc, scratch, piece)? {
             Some(line) => self.take(alloc, line),
             None => Ok(false),
         }

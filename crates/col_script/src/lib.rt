@@ -5,6 +5,7 @@
 mod draft;
 mod line;
 mod parts;
+mod plain;
 mod script;
 mod segment;
 mod value;

@@ -10,10 +10,12 @@ ghost use Rattle.col_types.specs.Kinds.{kind_of};
 ghost use Rattle.col_script.specs.Lines.{line_of, terms_type, control_shapes};
 
 use crate::parts::{as_rows, as_type, as_u32, take_text};
+use crate::plain::parse_plain;
 use crate::value::{TypedValue, take_ends, take_value};
 use col_common::{DocId, RowAddr};
 use col_find::Find;
 use col_types::ColumnType;
+use json::Scratch;
 use serde_json::Value;
 use std::alloc::{AllocError, Global};
 
@@ -60,8 +62,30 @@ pub enum Line {
 }
 
 /// The line that a piece of a script spells, none of a bad one.
-#[tactic(auto, unfolding(col_model::specs::Script::line_spelled_by))]
 pub fn parse_line(alloc: Global, piece: &[u8]) -> Result<Option<Line>, AllocError>
+    ensures { IfOk result (λ line. option_map line_of line ≡ line_spelled piece.now) }
+{
+    let mut scratch = Scratch::new(alloc);
+    read_line(alloc, &mut scratch, piece)
+}
+
+/// The same, with the memory that reading needs.
+pub fn read_line(
+    alloc: Global,
+    scratch: &mut Scratch,
+    piece: &[u8],
+) -> Result<Option<Line>, AllocError>
+    ensures { IfOk result (λ line. option_map line_of line ≡ line_spelled piece.now) }
+{
+    match parse_plain(alloc, scratch, piece)? {
+        Some(line) => Ok(Some(line)),
+        None => parse_any(alloc, piece),
+    }
+}
+
+// The line, by way of its JSON value.
+#[tactic(auto, unfolding(col_model::specs::Script::line_spelled_by))]
+fn parse_any(alloc: Global, piece: &[u8]) -> Result<Option<Line>, AllocError>
     ensures { IfOk result (λ line. option_map line_of line ≡ line_spelled piece.now) }
 {
     match parse_json(alloc, piece)? {

@@ -4,7 +4,7 @@ ghost use Rattle.serde_json.specs.Find.{as_str};
 ghost use Rattle.serde_json.specs.View.{view};
 ghost use Rattle.col_model.specs.ColumnType as types;
 ghost use Rattle.col_model.specs.File.{for_each};
-ghost use Rattle.col_model.specs.Script.{as_u32, as_type, hex_bytes, as_cell, as_address};
+ghost use Rattle.col_model.specs.Script.{as_u32, as_type, type_named, hex_bytes, as_cell, as_address};
 ghost use Rattle.col_types.specs.Cells.{unsigned_cell};
 ghost use Rattle.col_types.specs.Kinds.{kind_of};
 ghost use Rattle.col_script.specs.Parts.{address_of, address_among, rows_as};
@@ -39,6 +39,13 @@ pub fn as_type(value: &Value) -> Option<ColumnType>
     let Some(word) = value.as_str() else {
         return None;
     };
+    type_named(word)
+}
+
+/// The type of a name.
+pub fn type_named(word: &str) -> Option<ColumnType>
+    ensures { option_map kind_of result ≡ type_named word.now }
+{
     match word {
         "i64" => Some(ColumnType::I64),
         "u64" => Some(ColumnType::U64),

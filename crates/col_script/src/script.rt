@@ -9,6 +9,7 @@ use crate::segment::Segment;
 use col_common::RowAddr;
 use col_find::Find;
 use col_types::ColumnType;
+use json::Scratch;
 use std::alloc::{AllocError, Global};
 
 /// What a script asks for.
@@ -26,11 +27,12 @@ pub fn parse_script(alloc: Global, bytes: &[u8]) -> Result<Option<Script>, Alloc
     ensures { IfOk result (IsScriptOf (script_of bytes.now)) }
 {
     let mut draft = Draft::new(alloc);
+    let mut scratch = Scratch::new(alloc);
     let mut rest = Some(bytes);
     'lines: while let Some(left) = rest {
         let (piece, after) = split_line(left);
         rest = after;
-        if !draft.take_piece(alloc, piece)? {
+        if !draft.take_piece(alloc, &mut scratch, piece)? {
             return Ok(None);
         }
     }
