@@ -1,5 +1,5 @@
 -- What the tokens of a line in the plain form are read as.
-use Rattle.std.proofs.Common.{◌≡◌, ℕ, true, List, [], ◌∷◌, Option, Some, None, Result, Ok, Err, IsUtf8, option_map, option_and_then, refl, sym, ◌∙◌, ap}
+use Rattle.std.proofs.Common.{◌≡◌, ℕ, List, [], ◌∷◌, Option, Some, None, Result, Ok, Err, IsUtf8, option_map, option_and_then, refl, sym, ◌∙◌, ap}
 use Rattle.std.specs.Prelude.{IfOk, IfSome}
 use Rattle.json.specs.Token.{Token}
 use Rattle.json.specs.Lex.{tokens}
@@ -11,7 +11,7 @@ use Rattle.col_common.specs.Reading.{◌>>=◌}
 use Rattle.col_model.specs.ColumnType.{ColumnType}
 use Rattle.col_model.specs.Table.{Cell}
 use Rattle.col_model.specs.Recording.{recorded}
-use Rattle.col_model.specs.Script.{Line, call, line_spelled, line_spelled_by, shapes, value_line, line_among, type_named, as_type, as_u32, as_cell, as_list}
+use Rattle.col_model.specs.Script.{Line, call, line_spelled, line_spelled_by, shapes, value_line, line_among, type_named, as_u32, as_cell, as_list}
 use Rattle.col_model.proofs.ScriptLaws.{read-some}
 use Rattle.col_script.specs.Plain.{tokens_of, data_of, plain_line}
 use Rattle.col_script.specs.Values.{typed_as}
