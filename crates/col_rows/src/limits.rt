@@ -19,6 +19,9 @@ use std::alloc::{AllocError, Global};
 // How many bytes a dictionary may have.
 const MAX_NUM_BYTES: u64 = 4_294_967_295;
 
+// So many addresses, of which each needs three codes at most, need fewer than 2 ^ 32.
+const FEW_ADDRESSES: usize = 1_431_655_765;
+
 /// Whether 32 bits don't count the bytes of the dictionary of these terms.
 pub fn is_dictionary_too_long(terms: &DictionaryBuilder) -> bool
     requires { IsDistinct bytes_eq terms.now }
@@ -42,6 +45,9 @@ pub fn need_too_many_codes(
         IfOk result (λ b. b ≡ nat_le (2 ^ 32) (least_codes (joined_lists rows))) }
 {
     order.documents_have_rows();
+    if addresses.len() <= FEW_ADDRESSES {
+        return Ok(false);
+    }
     docs.never_fall();
     match order.placed() {
         Some(row_docs) => need_too_many_placed(alloc, docs, addresses, row_docs),
