@@ -22,7 +22,9 @@ use col_indexer::SerializableColumnIndex;
 use col_order::{MergeRowOrder, orders_are_picks};
 use col_terms::{dictionaries_are_read_back, terms_are_those_given};
 use col_text::BytesColumn;
-use col_value_merge::{RemappedTermOrdinalsValues, merged_values_are_rows, serialize_collected_u64};
+use col_value_merge::{
+    RemappedTermOrdinalsValues, merged_values_are_rows, serialize_collected_u64,
+};
 use std::alloc::Global;
 
 /// Writes the column of the rows that an order picks from columns of terms, behind the index of
