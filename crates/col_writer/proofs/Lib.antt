@@ -1,6 +1,7 @@
 mod ContentLemmas
 mod RecordingLemmas
 mod EntryLemmas
+mod PlaceLemmas
 mod TypingLemmas
 mod OrderLemmas
 mod ListedLemmas
