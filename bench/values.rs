@@ -55,6 +55,54 @@ fn lookup_by_slots<L: List>(list: &L, low: u64, high: u64, count: usize, hits: &
     }
 }
 
+// The least and the greatest value of each block.
+fn bounds<L: List>(list: &L, count: usize) -> Vec<(u64, u64)> {
+    let of = |start| {
+        let (mut least, mut greatest) = (u64::MAX, 0);
+        list.each(start..count.min(start + BLOCK_LEN), |_, value| {
+            least = least.min(value);
+            greatest = greatest.max(value);
+        });
+        (least, greatest)
+    };
+    (0..count).step_by(BLOCK_LEN).map(of).collect()
+}
+
+// A lookup that skips each block outside the range, and takes each block inside whole.
+#[inline(never)]
+fn lookup_by_blocks<L: List>(list: &L, bounds: &[(u64, u64)], low: u64, high: u64, count: usize, hits: &mut Vec<u32>) {
+    hits.clear();
+    for (&(least, greatest), start) in bounds.iter().zip((0..count).step_by(BLOCK_LEN)) {
+        let end = count.min(start + BLOCK_LEN);
+        if greatest < low || high < least {
+            continue;
+        }
+        if low <= least && greatest <= high {
+            hits.extend(start as u32..end as u32);
+            continue;
+        }
+        list.each(start..end, |row, value| {
+            if low <= value && value <= high {
+                hits.push(row as u32);
+            }
+        });
+    }
+}
+
+// Measures lookups in values that rise.
+fn measure_rising<L: List>(count: usize, mask: u64) {
+    let vals: Vec<u64> = (0..count as u64).map(|row| row * mask / count as u64).collect();
+    let mut bytes = vec![L::CODE];
+    L::write(&vals, &mut bytes);
+    let bytes: &'static [u8] = bytes.leak();
+    let list = load::<L>(bytes).unwrap().0;
+    let bounds = bounds(&list, count);
+    let (low, high) = (mask / 4, mask / 4 + mask / 100);
+    let mut hits = Vec::new();
+    let (nanos, ()) = best(|| lookup_by_blocks(black_box(&list), black_box(&bounds), low, high, count, &mut hits));
+    println!("{mask} {} rising_1 {nanos} {}", L::CODE, hits.len());
+}
+
 // Measures a codec's list, and prints a line for each measure: mask, code, name, nanoseconds and sum.
 fn measure<L: List>(vals: &[u64], mask: u64) {
     let say = |name: &str, (nanos, sum): (u128, u64)| println!("{mask} {} {name} {nanos} {sum}", L::CODE);
@@ -84,10 +132,14 @@ fn measure<L: List>(vals: &[u64], mask: u64) {
 fn main() {
     for word in std::env::args().skip(1) {
         for mask in [0x3ff, 0xf_ffff, 0x7fff_ffff] {
-            let vals: Vec<u64> = draws(word.parse().unwrap(), 1).map(|draw| draw & mask).collect();
+            let count = word.parse().unwrap();
+            let vals: Vec<u64> = draws(count, 1).map(|draw| draw & mask).collect();
             measure::<Bitpacked>(&vals, mask);
             measure::<Linear>(&vals, mask);
             measure::<Blockwise>(&vals, mask);
+            measure_rising::<Bitpacked>(count, mask);
+            measure_rising::<Linear>(count, mask);
+            measure_rising::<Blockwise>(count, mask);
         }
     }
 }
