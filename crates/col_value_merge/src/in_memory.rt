@@ -1,5 +1,5 @@
 //! Merged values that are walked once, and written from memory.
-ghost use Rattle.std.specs.Prelude.{◌≡◌, ◌<◌, ◌^◌, false, length, map, OnOk};
+ghost use Rattle.std.specs.Prelude.{◌≡◌, ◌<◌, ◌^◌, false, length, map, IfOk, OnOk};
 ghost use Rattle.col_common.specs.Serializing.{Serializes};
 ghost use Rattle.col_common.specs.declared.error.ColumnarError.TheVariants as refusals;
 ghost use Rattle.col_compact.specs.Covers.{IsTooLarge};
@@ -12,9 +12,17 @@ ghost use Rattle.col_column.specs.Written.{number_column_bytes, column_codecs, S
 
 use col_column::{serialize_column_mappable_to_u64, serialize_column_mappable_to_u128};
 use col_common::{ColumnarError, Iterable, Sink};
-use col_indexer::{SerializableColumnIndex, collected};
+use col_indexer::SerializableColumnIndex;
 use col_values::{MonotonicallyMappableToU64, MonotonicallyMappableToU128};
-use std::alloc::Global;
+use std::alloc::{AllocError, Global};
+
+/// A list that can be put into memory as a whole.
+pub trait InMemory<T>: Iterable<T> {
+    /// Its items. The list has room for those of columns whose rows are all picked once, and grows
+    /// where there are more.
+    fn in_memory(&self, alloc: Global) -> Result<Vec<T>, AllocError>
+        ensures { IfOk result (λ v. v.items ≡ Self.items self.now) };
+}
 
 /// Writes a column of an index and the values that it counts, as numbers of 64 bits. The values are
 /// walked once.
@@ -26,7 +34,7 @@ pub fn serialize_collected_u64<T, I, K>(
 ) -> Result<(), ColumnarError>
 where
     T: MonotonicallyMappableToU64,
-    I: Iterable<T>,
+    I: InMemory<T>,
     K: Sink,
     requires index { IsIndex (index_of column_index) }
     requires limit { is_past_limit (index_of column_index) ≡ false }
@@ -42,7 +50,7 @@ where
         (map T.code (I.items column_values.now)))
         (index_shape (index_of column_index.entry)) (map T.code (I.items column_values.now))) }
 {
-    let values = collected(alloc, column_values)?;
+    let values = column_values.in_memory(alloc)?;
     serialize_column_mappable_to_u64(alloc, column_index, &values.as_slice(), sink)
 }
 
@@ -56,7 +64,7 @@ pub fn serialize_collected_u128<T, I, K>(
 ) -> Result<(), ColumnarError>
 where
     T: MonotonicallyMappableToU128,
-    I: Iterable<T>,
+    I: InMemory<T>,
     K: Sink,
     requires index { IsIndex (index_of column_index) }
     requires limit { is_past_limit (index_of column_index) ≡ false }
@@ -70,6 +78,6 @@ where
     ensures too_large { IsTooLarge (map T.code (I.items column_values.now)) u32.MAX →
         Refused (K.seen sink.old) (K.seen sink.new) result refusals.TooLarge }
 {
-    let values = collected(alloc, column_values)?;
+    let values = column_values.in_memory(alloc)?;
     serialize_column_mappable_to_u128(alloc, column_index, &values.as_slice(), sink)
 }

@@ -10,7 +10,7 @@ mod remapped_term_ordinals;
 mod runs;
 mod segments;
 
-pub use in_memory::{serialize_collected_u64, serialize_collected_u128};
+pub use in_memory::{InMemory, serialize_collected_u64, serialize_collected_u128};
 pub use laws::{merged_cells_are_picked, merged_values_are_rows};
 pub use merged_column_values::MergedColumnValues;
 pub use remapped_term_ordinals::RemappedTermOrdinalsValues;

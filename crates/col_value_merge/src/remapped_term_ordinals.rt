@@ -4,13 +4,15 @@ ghost use Rattle.col_numbers.specs.NumValues.{num_values_of};
 ghost use Rattle.col_order.specs.RowOrders.{order_of};
 ghost use Rattle.col_value_merge.specs.TermColumns.{ords_of};
 
-use crate::runs::next_value;
+use crate::in_memory::InMemory;
+use crate::runs::{next_value, picked_values};
 use crate::segments::Segments;
 use col_common::{Iterable, RowId, Walk};
 use col_numbers::NumValues;
 use col_order::MergeRowOrder;
 use col_text::BytesColumn;
 use col_values::ColumnValues;
+use std::alloc::{AllocError, Global};
 use std::marker::Model;
 use std::ops::Range;
 
@@ -145,5 +147,11 @@ impl Iterable<u64> for RemappedTermOrdinalsValues<'_> {
     #[inline(always)]
     fn next(&self, at: &mut Walk) -> Option<u64> {
         next_value(&self.columns, self.order, at)
+    }
+}
+
+impl InMemory<u64> for RemappedTermOrdinalsValues<'_> {
+    fn in_memory(&self, alloc: Global) -> Result<Vec<u64>, AllocError> {
+        picked_values(alloc, &self.columns, self.order)
     }
 }

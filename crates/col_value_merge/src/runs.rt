@@ -1,22 +1,25 @@
 //! A walk over the values that an order picks, run by run: a run is what stands together in a
 //! segment, all its values in a stack, those of a picked row in a shuffle.
-ghost use Rattle.std.specs.Prelude.{◌≡◌, true};
+ghost use Rattle.std.specs.Prelude.{◌≡◌, ◌<◌, ◌≤◌, ◌++◌, length, slice_range, true, IfOk, OnOk};
 ghost use Rattle.col_common.specs.Walks.{IsNext};
 ghost use Rattle.col_model.specs.Order.{stack, shuffle, has_row};
+ghost use Rattle.col_model.specs.U64List.{joined_lists};
 ghost use Rattle.col_order.specs.Orders.{counts_of, address_of};
 ghost use Rattle.col_order.specs.RowOrders.{order_of};
 ghost use Rattle.col_column.specs.Columns.{AreOf};
 ghost use Rattle.col_value_merge.specs.Merges.{AreColumns, segment_values, picked_row, merge_of};
 ghost use Rattle.col_value_merge.specs.Merges.{StandsInRun, values_to_give, Finds};
+ghost use Rattle.col_value_merge.specs.Merges.{values_of, runs_by, merged_rows};
 
 use crate::segments::Segments;
 use col_common::{RowAddr, RowId, Walk};
 use col_order::{MergeRowOrder, ShuffleMergeOrder, StackMergeOrder};
+use std::alloc::{AllocError, Global};
 use std::ops::Range;
 
 /// The next value that an order picks, from a walk.
 #[inline(always)]
-pub(crate) fn next_value<T, S: Segments<T>>(
+pub(crate) fn next_value<T: Copy, S: Segments<T>>(
     segments: &S,
     order: &MergeRowOrder,
     at: &mut Walk,
@@ -37,7 +40,7 @@ pub(crate) fn next_value<T, S: Segments<T>>(
 
 // Moves to a run with a value where none is left of this one; whether there is one.
 #[inline(always)]
-fn find_value<T, S: Segments<T>>(segments: &S, order: &MergeRowOrder, at: &mut Walk) -> bool
+fn find_value<T: Copy, S: Segments<T>>(segments: &S, order: &MergeRowOrder, at: &mut Walk) -> bool
     requires columns { AreColumns (counts_of (order_of order.now)) (S.columns segments.now) }
     requires stands { StandsInRun (S.columns segments.now) at.old }
     ensures { Finds (merge_of (S.columns segments.now) (order_of order.now)) at.old at.new result }
@@ -52,7 +55,11 @@ fn find_value<T, S: Segments<T>>(segments: &S, order: &MergeRowOrder, at: &mut W
 }
 
 // Moves to the next segment with a value.
-fn find_segment<T, S: Segments<T>>(segments: &S, order: &StackMergeOrder, at: &mut Walk) -> bool
+fn find_segment<T: Copy, S: Segments<T>>(
+    segments: &S,
+    order: &StackMergeOrder,
+    at: &mut Walk,
+) -> bool
     requires columns { AreColumns order.now (S.columns segments.now) }
     requires stands { StandsInRun (S.columns segments.now) at.old }
     requires given { at.old.inner ≡ at.old.sum }
@@ -74,7 +81,7 @@ fn find_segment<T, S: Segments<T>>(segments: &S, order: &StackMergeOrder, at: &m
 }
 
 // Moves to the next row with a value.
-fn find_row<T, S: Segments<T>>(segments: &S, order: &ShuffleMergeOrder, at: &mut Walk) -> bool
+fn find_row<T: Copy, S: Segments<T>>(segments: &S, order: &ShuffleMergeOrder, at: &mut Walk) -> bool
     requires columns { AreColumns order.now.counts (S.columns segments.now) }
     requires stands { StandsInRun (S.columns segments.now) at.old }
     requires given { at.old.inner ≡ at.old.sum }
@@ -99,7 +106,7 @@ fn find_row<T, S: Segments<T>>(segments: &S, order: &ShuffleMergeOrder, at: &mut
 
 // The positions of the values of the row that an address names.
 #[inline(always)]
-fn value_row_ids<T, S: Segments<T>>(
+fn value_row_ids<T: Copy, S: Segments<T>>(
     segments: &S,
     order: &ShuffleMergeOrder,
     addr: RowAddr,
@@ -114,4 +121,104 @@ fn value_row_ids<T, S: Segments<T>>(
     // That a segment has fewer than 2 ^ 32 rows is known of their count.
     let _num_rows = order.segment_num_rows(segment);
     segments.value_row_ids(segment, addr.row_id)
+}
+
+/// The values that an order picks, in memory. The list has room for all values of the segments.
+pub(crate) fn picked_values<T: Copy, S: Segments<T>>(
+    alloc: Global,
+    segments: &S,
+    order: &MergeRowOrder,
+) -> Result<Vec<T>, AllocError>
+    requires columns { AreColumns (counts_of (order_of order.now)) (S.columns segments.now) }
+    ensures { IfOk result (λ v. v.items
+        ≡ values_of (merge_of (S.columns segments.now) (order_of order.now))) }
+{
+    let room = num_vals_in_all(segments, order);
+    let mut values = Vec::with_capacity(alloc, room)?;
+    append_picked(segments, order, &mut values)?;
+    Ok(values)
+}
+
+// How many values all segments have, as far as memory reaches.
+fn num_vals_in_all<T: Copy, S: Segments<T>>(segments: &S, order: &MergeRowOrder) -> usize
+    requires { AreColumns (counts_of (order_of order.now)) (S.columns segments.now) }
+{
+    let mut num_vals = 0usize;
+    for segment in 0..order.num_segments() {
+        num_vals = num_vals.saturating_add(segments.num_vals(segment) as usize);
+    }
+    num_vals
+}
+
+// Appends the values that an order picks.
+fn append_picked<T: Copy, S: Segments<T>>(
+    segments: &S,
+    order: &MergeRowOrder,
+    values: &mut Vec<T>,
+) -> Result<(), AllocError>
+    requires { AreColumns (counts_of (order_of order.now)) (S.columns segments.now) }
+    ensures { OnOk result (values.new.items ≡ values.old.items
+        ++ joined_lists (runs_by (S.columns segments.now) (order_of order.now))) }
+{
+    match order {
+        MergeRowOrder::Stack(order) => append_segments(segments, order, values),
+        MergeRowOrder::Shuffled(order) => append_rows(segments, order, values),
+    }
+}
+
+// Appends the values of all segments.
+fn append_segments<T: Copy, S: Segments<T>>(
+    segments: &S,
+    order: &StackMergeOrder,
+    values: &mut Vec<T>,
+) -> Result<(), AllocError>
+    requires { AreColumns order.now (S.columns segments.now) }
+    ensures { OnOk result (values.new.items ≡ values.old.items
+        ++ joined_lists (S.columns segments.now).lists) }
+{
+    for segment in 0..order.num_segments() {
+        segments.append_segment(segment, values)?;
+    }
+    Ok(())
+}
+
+// Appends the values of the rows that are named.
+fn append_rows<T: Copy, S: Segments<T>>(
+    segments: &S,
+    order: &ShuffleMergeOrder,
+    values: &mut Vec<T>,
+) -> Result<(), AllocError>
+    requires { AreColumns order.now.counts (S.columns segments.now) }
+    ensures { OnOk result (values.new.items ≡ values.old.items
+        ++ joined_lists (merged_rows (S.columns segments.now) order.now.addresses)) }
+{
+    order.rows_are_there();
+    for row in 0..order.num_rows() {
+        let addr = order.row_addr(row);
+        let row_ids = value_row_ids(segments, order, addr);
+        let segment = addr.segment_ord as usize;
+        append_run(segments, segment, row_ids.start, row_ids.end, values)?;
+    }
+    Ok(())
+}
+
+// Appends the values of a segment from a position on, up to another one.
+#[inline(always)]
+fn append_run<T: Copy, S: Segments<T>>(
+    segments: &S,
+    segment: usize,
+    start: RowId,
+    end: RowId,
+    values: &mut Vec<T>,
+) -> Result<(), AllocError>
+    requires segment { segment < length (S.columns segments.now).lists }
+    requires order { start ≤ end }
+    requires within { end ≤ length (segment_values (S.columns segments.now) segment) }
+    ensures { OnOk result (values.new.items ≡ values.old.items
+        ++ slice_range (segment_values (S.columns segments.now) segment) start end) }
+{
+    for idx in start..end {
+        values.push(segments.get_val(segment, idx))?;
+    }
+    Ok(())
 }

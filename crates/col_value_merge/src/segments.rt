@@ -1,14 +1,15 @@
 //! Columns of segments, asked by segment and position.
-ghost use Rattle.std.specs.Prelude.{◌≡◌, ◌-◌, ◌<◌, ◌^◌, length, slice_get, Some};
+ghost use Rattle.std.specs.Prelude.{◌≡◌, ◌-◌, ◌<◌, ◌^◌, ◌++◌, length, slice_get, Some, OnOk};
 ghost use Rattle.col_model.specs.Index.{full_shape};
 ghost use Rattle.col_model.specs.Positions.{positions_in};
 ghost use Rattle.col_value_merge.specs.Merges.{Columns, segment_shape, segment_values};
 
 use col_common::RowId;
+use std::alloc::AllocError;
 use std::ops::Range;
 
 /// Columns of segments.
-pub(crate) trait Segments<T> {
+pub(crate) trait Segments<T: Copy> {
     /// Their shapes and values.
     ghost columns: { Self → Columns T };
 
@@ -32,4 +33,16 @@ pub(crate) trait Segments<T> {
         requires segment { segment < length (columns self.now).lists }
         requires position { idx < length (segment_values (columns self.now) segment) }
         ensures { slice_get (segment_values (columns self.now) segment) idx ≡ Some result };
+
+    /// Appends all values of a segment.
+    fn append_segment(&self, segment: usize, values: &mut Vec<T>) -> Result<(), AllocError>
+        requires { segment < length (columns self.now).lists }
+        ensures { OnOk result (values.new.items
+            ≡ values.old.items ++ segment_values (columns self.now) segment) }
+    {
+        for idx in 0..self.num_vals(segment) {
+            values.push(self.get_val(segment, idx))?;
+        }
+        Ok(())
+    }
 }
