@@ -1,4 +1,5 @@
 mod CountLemmas
+mod SingleLemmas
 mod LimitLemmas
 mod NumberLemmas
 mod JoinLemmas

@@ -1,5 +1,5 @@
 -- How many values the rows may have that an order picks. States docs/RULES.md, Limits of columns.
-use Rattle.std.specs.Prelude.{◌≡◌, ℕ, ◌<◌, ◌^◌, ◌-◌, ◌==◌, ◌&&◌, ◌||◌, not, nat_le, Bool, false, List, sum, count_by}
+use Rattle.std.specs.Prelude.{◌≡◌, ℕ, ◌<◌, ◌^◌, ◌-◌, ◌==◌, ◌&&◌, ◌||◌, not, nat_le, Bool, true, false, List, sum, count_by}
 use Rattle.col_model.specs.ColumnType.{ColumnType}
 use Rattle.col_model.specs.Index.{Shape}
 use Rattle.col_model.specs.Limits.{is_multivalued, has_many_codes}
@@ -7,6 +7,8 @@ use Rattle.col_model.specs.Order.{Order}
 use Rattle.col_model.specs.Positions.{picked_counts}
 use Rattle.col_model.specs.Table.{Cell}
 use Rattle.col_order.specs.Orders.{picks_of}
+use Rattle.col_index.specs.declared.column_index.ColumnIndex.{ColumnIndex}
+use Rattle.col_index.specs.declared.column_index.ColumnIndex.TheVariants.{Empty, Full, Optional, Multivalued}
 use Rattle.col_indexer.specs.Merged.{merged_cardinality, IsMerged}
 use Rattle.col_indexer.specs.Spelling.{Index, IsIndex, is_past_limit}
 
@@ -21,6 +23,13 @@ is_past_limits order shapes =
     nat_le (2 ^ 32) (sum (counts_picked order shapes))
     || (is_multivalued (merged_cardinality order shapes)
     && nat_le (2 ^ 32 - 1) (count_by (λ c. not (c == 0)) (counts_picked order shapes)))
+
+-- some row of an index may have several values
+abbrev pub may_have_several : ColumnIndex → Bool
+may_have_several (Empty n) = false
+may_have_several Full = false
+may_have_several (Optional i) = false
+may_have_several (Multivalued i) = true
 
 -- an index counts the picked rows, and can be written; 32 bits count their values
 pub record IsMergedWithin (order : Order) (shapes : List Shape) (i : Index) : Type 0 where

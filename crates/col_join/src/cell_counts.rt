@@ -1,5 +1,6 @@
 //! How many values the rows have that an order picks.
 ghost use Rattle.std.specs.Prelude.{◌≡◌, ◌^◌, ◌<◌, true, map, length, sum, nat_le, slice_index_or};
+ghost use Rattle.std.specs.List.{list_any};
 ghost use Rattle.col_model.specs.Index.{empty_shape};
 ghost use Rattle.col_model.specs.Order.{stack, shuffle};
 ghost use Rattle.col_model.specs.Positions.{count_in};
@@ -8,7 +9,7 @@ ghost use Rattle.col_order.specs.RowOrders.{order_of};
 ghost use Rattle.col_index.specs.Indexes.{shape_of};
 ghost use Rattle.col_indexer.specs.Counted.{counts_in};
 ghost use Rattle.col_indexer.specs.Merged.{is_over, FitSegments};
-ghost use Rattle.col_join.specs.Limits.{counts_picked};
+ghost use Rattle.col_join.specs.Limits.{counts_picked, may_have_several};
 
 use col_common::{RowAddr, RowId};
 use col_index::ColumnIndex;
@@ -26,7 +27,7 @@ pub(crate) fn has_many_cells(
 {
     match merge_row_order {
         MergeRowOrder::Stack(order) => has_many_stacked(column_indexes, order),
-        MergeRowOrder::Shuffled(order) => has_many_shuffled(column_indexes, order),
+        MergeRowOrder::Shuffled(order) => has_many_named(column_indexes, order),
     }
 }
 
@@ -47,7 +48,40 @@ fn has_many_stacked(column_indexes: &[ColumnIndex], order: &StackMergeOrder) -> 
     false
 }
 
-// The same of the rows that are named.
+// The same of the rows that are named, which aren't looked at where none has two values.
+fn has_many_named(column_indexes: &[ColumnIndex], order: &ShuffleMergeOrder) -> bool
+    requires { FitSegments order.now.counts (map shape_of column_indexes.now) }
+    ensures { let shuffled = shuffle order.now.counts order.now.addresses in
+        result ≡ nat_le (2 ^ 32)
+        (sum (counts_picked shuffled (map shape_of column_indexes.now))) }
+{
+    let _num_rows = order.num_rows();
+    if !has_multivalued(column_indexes) {
+        return false;
+    }
+    has_many_shuffled(column_indexes, order)
+}
+
+// Whether some index is one of rows with several values.
+fn has_multivalued(column_indexes: &[ColumnIndex]) -> bool
+    ensures { result ≡ list_any may_have_several column_indexes.now }
+{
+    column_indexes
+        .iter()
+        .any(|column_index| may_have_several(column_index))
+}
+
+// Whether the index is one of rows with several values.
+fn may_have_several(column_index: &ColumnIndex) -> bool
+    ensures { result ≡ may_have_several column_index.now }
+{
+    match column_index {
+        ColumnIndex::Multivalued(_) => true,
+        _ => false,
+    }
+}
+
+// The same of the rows that are named, which are walked.
 fn has_many_shuffled(column_indexes: &[ColumnIndex], order: &ShuffleMergeOrder) -> bool
     requires { FitSegments order.now.counts (map shape_of column_indexes.now) }
     ensures { let shuffled = shuffle order.now.counts order.now.addresses in
