@@ -1,7 +1,6 @@
 mod ContentLemmas
 mod RecordingLemmas
 mod EntryLemmas
-mod PlaceLemmas
 mod TypingLemmas
 mod OrderLemmas
 mod ListedLemmas

@@ -1,7 +1,6 @@
 //! The writer of a file: values by document and column name. Contracts see what was recorded.
 #![tactic(auto)]
 
-mod places;
 mod writer;
 
 pub use col_record::{

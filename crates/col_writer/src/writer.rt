@@ -16,26 +16,24 @@ mod mem_usage;
 mod serialize;
 mod sort_order;
 
-use crate::places::{LastPlaces, place_of};
 use col_common::{ColumnarError, DateTime, DocId, Ipv6Addr};
 use col_record::{NumericalColumnWriter, PlainColumnWriter, StrOrBytesColumnWriter};
 use col_types::NumericalValue;
 use col_values::MonotonicallyMappableToU64;
-use indexmap::IndexMap;
 use std::alloc::Global;
+use std::collections::HashMap;
 use std::marker::Model;
 
 /// Values by document and column name. Contracts see what was recorded.
 #[derive(Drop)]
 pub struct ColumnarWriter {
     alloc: Global,
-    numerical: IndexMap<String, NumericalColumnWriter>,
-    bytes: IndexMap<String, StrOrBytesColumnWriter>,
-    strs: IndexMap<String, StrOrBytesColumnWriter>,
-    bools: IndexMap<String, PlainColumnWriter<bool>>,
-    ip_addrs: IndexMap<String, PlainColumnWriter<Ipv6Addr>>,
-    datetimes: IndexMap<String, PlainColumnWriter<u64>>,
-    last: LastPlaces,
+    numerical: HashMap<String, NumericalColumnWriter>,
+    bytes: HashMap<String, StrOrBytesColumnWriter>,
+    strs: HashMap<String, StrOrBytesColumnWriter>,
+    bools: HashMap<String, PlainColumnWriter<bool>>,
+    ip_addrs: HashMap<String, PlainColumnWriter<Ipv6Addr>>,
+    datetimes: HashMap<String, PlainColumnWriter<u64>>,
 }
 
 impl Model for ColumnarWriter {
@@ -56,13 +54,12 @@ impl ColumnarWriter {
     {
         ColumnarWriter {
             alloc,
-            numerical: IndexMap::new(alloc),
-            bytes: IndexMap::new(alloc),
-            strs: IndexMap::new(alloc),
-            bools: IndexMap::new(alloc),
-            ip_addrs: IndexMap::new(alloc),
-            datetimes: IndexMap::new(alloc),
-            last: LastPlaces::default(),
+            numerical: HashMap::new(alloc),
+            bytes: HashMap::new(alloc),
+            strs: HashMap::new(alloc),
+            bools: HashMap::new(alloc),
+            ip_addrs: HashMap::new(alloc),
+            datetimes: HashMap::new(alloc),
         }
     }
 
@@ -77,8 +74,8 @@ impl ColumnarWriter {
         ensures { Answers self.old self.new result (content_after self.old
             (recorded doc name.now (value_type value) (number (number_of value)))) }
     {
-        if let Some(place) = place_of(&self.numerical, &mut self.last.numerical, name) {
-            return self.numerical[place].record_numerical_value(doc, value);
+        if let Some(column) = self.numerical.get_mut(name) {
+            return column.record_numerical_value(doc, value);
         }
         self.add_numerical(doc, name, value)
     }
@@ -113,8 +110,8 @@ impl ColumnarWriter {
         ensures { Answers self.old self.new result (content_after self.old
             (recorded doc name.now types.bytes (text value.now))) }
     {
-        if let Some(place) = place_of(&self.bytes, &mut self.last.bytes, name) {
-            return self.bytes[place].record_bytes(doc, value);
+        if let Some(column) = self.bytes.get_mut(name) {
+            return column.record_bytes(doc, value);
         }
         self.add_bytes(doc, name, value)
     }
@@ -139,8 +136,8 @@ impl ColumnarWriter {
         ensures { Answers self.old self.new result (content_after self.old
             (recorded doc name.now types.str (text value.now))) }
     {
-        if let Some(place) = place_of(&self.strs, &mut self.last.strs, name) {
-            return self.strs[place].record_bytes(doc, value.as_bytes());
+        if let Some(column) = self.strs.get_mut(name) {
+            return column.record_bytes(doc, value.as_bytes());
         }
         self.add_str(doc, name, value.as_bytes())
     }
@@ -165,8 +162,8 @@ impl ColumnarWriter {
         ensures { Answers self.old self.new result (content_after self.old
             (recorded doc name.now types.bool (bool_cell value))) }
     {
-        if let Some(place) = place_of(&self.bools, &mut self.last.bools, name) {
-            return self.bools[place].record(doc, value);
+        if let Some(column) = self.bools.get_mut(name) {
+            return column.record(doc, value);
         }
         self.add_bool(doc, name, value)
     }
@@ -196,8 +193,8 @@ impl ColumnarWriter {
         ensures { Answers self.old self.new result (content_after self.old
             (recorded doc name.now types.ip (unsigned_cell value))) }
     {
-        if let Some(place) = place_of(&self.ip_addrs, &mut self.last.ip_addrs, name) {
-            return self.ip_addrs[place].record(doc, value);
+        if let Some(column) = self.ip_addrs.get_mut(name) {
+            return column.record(doc, value);
         }
         self.add_ip_addr(doc, name, value)
     }
@@ -236,8 +233,8 @@ impl ColumnarWriter {
         ensures { Answers self.old self.new result (content_after self.old
             (recorded doc name.now types.datetime (time_cell code))) }
     {
-        if let Some(place) = place_of(&self.datetimes, &mut self.last.datetimes, name) {
-            return self.datetimes[place].record(doc, code);
+        if let Some(column) = self.datetimes.get_mut(name) {
+            return column.record(doc, code);
         }
         self.add_time(doc, name, code)
     }

@@ -16,8 +16,8 @@ use super::ColumnarWriter;
 use col_common::{ColumnarError, Ipv6Addr, RowId, Sink};
 use col_entry::{EntryColumn, NamedColumn, serialize_table};
 use col_record::{NumericalColumnWriter, PlainColumnWriter, StrOrBytesColumnWriter};
-use indexmap::IndexMap;
 use std::alloc::AllocError;
+use std::collections::HashMap;
 
 impl ColumnarWriter {
     /// Writes a file of as many rows as there are documents, with a column for each name and
@@ -68,7 +68,7 @@ impl ColumnarWriter {
 }
 
 // That the names of columns differ.
-fn names_differ<C>(columns: &IndexMap<String, C>)
+fn names_differ<C>(columns: &HashMap<String, C>)
     ensures { IsDistinct bytes_eq (map (λ p. string_bytes p.0) columns.now.entries) }
 {
     let _ = columns.iter();
@@ -77,7 +77,7 @@ fn names_differ<C>(columns: &IndexMap<String, C>)
 // Lists the columns of numbers.
 fn list_numerical<'a>(
     found: &mut Vec<NamedColumn<'a>>,
-    columns: &'a IndexMap<String, NumericalColumnWriter>,
+    columns: &'a HashMap<String, NumericalColumnWriter>,
 ) -> Result<(), AllocError>
     ensures { OnOk result (map named_entry found.new.items ≡ map named_entry found.old.items
         ++ under categories.numerical columns.now.entries) }
@@ -94,7 +94,7 @@ fn list_numerical<'a>(
 // Lists the columns of bytes.
 fn list_bytes<'a>(
     found: &mut Vec<NamedColumn<'a>>,
-    columns: &'a IndexMap<String, StrOrBytesColumnWriter>,
+    columns: &'a HashMap<String, StrOrBytesColumnWriter>,
 ) -> Result<(), AllocError>
     ensures { OnOk result (map named_entry found.new.items ≡ map named_entry found.old.items
         ++ under categories.bytes (each_entry (text_entry types.bytes) columns.now.entries)) }
@@ -111,7 +111,7 @@ fn list_bytes<'a>(
 // Lists the columns of text.
 fn list_strs<'a>(
     found: &mut Vec<NamedColumn<'a>>,
-    columns: &'a IndexMap<String, StrOrBytesColumnWriter>,
+    columns: &'a HashMap<String, StrOrBytesColumnWriter>,
 ) -> Result<(), AllocError>
     ensures { OnOk result (map named_entry found.new.items ≡ map named_entry found.old.items
         ++ under categories.str (each_entry (text_entry types.str) columns.now.entries)) }
@@ -128,7 +128,7 @@ fn list_strs<'a>(
 // Lists the columns of bools.
 fn list_bools<'a>(
     found: &mut Vec<NamedColumn<'a>>,
-    columns: &'a IndexMap<String, PlainColumnWriter<bool>>,
+    columns: &'a HashMap<String, PlainColumnWriter<bool>>,
 ) -> Result<(), AllocError>
     ensures { OnOk result (map named_entry found.new.items ≡ map named_entry found.old.items
         ++ under categories.bool
@@ -146,7 +146,7 @@ fn list_bools<'a>(
 // Lists the columns of addresses.
 fn list_ip_addrs<'a>(
     found: &mut Vec<NamedColumn<'a>>,
-    columns: &'a IndexMap<String, PlainColumnWriter<Ipv6Addr>>,
+    columns: &'a HashMap<String, PlainColumnWriter<Ipv6Addr>>,
 ) -> Result<(), AllocError>
     ensures { OnOk result (map named_entry found.new.items ≡ map named_entry found.old.items
         ++ under categories.ip
@@ -164,7 +164,7 @@ fn list_ip_addrs<'a>(
 // Lists the columns of points in time.
 fn list_datetimes<'a>(
     found: &mut Vec<NamedColumn<'a>>,
-    columns: &'a IndexMap<String, PlainColumnWriter<u64>>,
+    columns: &'a HashMap<String, PlainColumnWriter<u64>>,
 ) -> Result<(), AllocError>
     ensures { OnOk result (map named_entry found.new.items ≡ map named_entry found.old.items
         ++ under categories.datetime

@@ -1,12 +1,13 @@
-use Rattle.std.proofs.Common.{refl}
-use Rattle.indexmap.specs.IndexMap.{with_value_at}
+use Rattle.std.proofs.Common.{rules, ◌∙◌, ap, sym, refl, Some}
+use Rattle.std.proofs.lemmas.Map.Text.{hash_map_updates_text}
+use Rattle.std.specs.FinMap.{find}
 use Rattle.col_model.specs.ColumnType as types
+use Rattle.col_model.specs.Category.{Slot, slot_cmp}
 use Rattle.col_model.specs.Category as categories
 use Rattle.col_writer.specs.Contents.{content_of}
 use Rattle.col_types.specs.Cells.{bool_cell}
 use Rattle.col_record.specs.Columns.{plain_entry}
 use Rattle.col_writer.specs.Columns.{columns_of}
-use Rattle.col_writer.proofs.PlaceLemmas.{found-at, updates-at}
 use Rattle.col_writer.proofs.EntryLemmas.{record-found, new-name}
 use Rattle.col_record.proofs.EntryLemmas.{plain-answers}
 use Rattle.col_writer.proofs.writer.ColumnarWriter.record_bool.Goals as goal
@@ -15,14 +16,16 @@ pub returns-in-Some : goal.returns-in-Some
 returns-in-Some c =
     let w = c.self.inside in
     let m = columns_of w.numerical w.bytes w.strs w.bools w.ip_addrs w.datetimes in
-    let changed = with_value_at w.bools c.in-Some.place c.record.new.self in
-    let up = updates-at w.bools c.in-Some.place c.args.name.now c.record.new.self c.place_of.ensures.unique c.in-Some.ensures.found in
-    record-found m categories.bool (plain_entry types.bool bool_cell) w.bools.entries changed.entries c.args.self.now c.args.name.now c.index_mut.result.now c.record.new.self c.record.result c.args.doc types.bool (bool_cell c.args.value)
-    (record { is = c.self.view_is; these = refl }) refl (found-at w.bools c.in-Some.place c.args.name.now c.index_mut.result.now c.place_of.ensures.unique c.in-Some.ensures.found c.index_mut.ensures.value) up
-    (plain-answers types.bool bool_cell c.index_mut.result.now c.record.new.self c.args.doc c.args.value c.record.result c.record.ensures.column c.record.ensures.forced)
+    let changed = c.get_mut.follows.lender c.record.new.self in
+    let up = hash_map_updates_text c.args.name.now w.bools changed (Some c.record.new.self) ((c.get_mut.follows.holds c.record.new.self).3 (search rules)) in
+    record-found m categories.bool (plain_entry types.bool bool_cell) w.bools.entries changed.entries c.args.self.now c.args.name.now c.in-Some.column.now c.record.new.self c.record.result c.args.doc types.bool (bool_cell c.args.value)
+    (record { is = c.self.view_is; these = refl }) refl (sym c.in-Some.ensures.value) up
+    (plain-answers types.bool bool_cell c.in-Some.column.now c.record.new.self c.args.doc c.args.value c.record.result c.record.ensures.column c.record.ensures.forced)
 
 pub add_bool-requires : goal.add_bool-requires
 add_bool-requires c =
     let w = c.self.inside in
     let m = columns_of w.numerical w.bytes w.strs w.bools w.ip_addrs w.datetimes in
-    new-name m categories.bool (plain_entry types.bool bool_cell) w.bools.entries (content_of m) c.args.name.now (record { is = refl; these = refl }) c.in_default.ensures.missing
+    let slot : Slot = record { name = c.args.name.now; category = categories.bool } in
+    ap (λ n. find slot_cmp slot (content_of (columns_of w.numerical w.bytes w.strs n w.ip_addrs w.datetimes))) c.get_mut.follows.holds-at-none
+    ∙ new-name m categories.bool (plain_entry types.bool bool_cell) w.bools.entries (content_of m) c.args.name.now (record { is = refl; these = refl }) (sym c.in_default.ensures.value)
