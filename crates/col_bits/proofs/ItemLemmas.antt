@@ -50,7 +50,7 @@ unfolding ids_between
 ids_one bytes w low high id kept e = ap (λ b. cond b (id ∷ []) []) (sym e)
 
 -- an id is written, and stays where it is kept
-kept_more : (out : List ℕ) (kept id : ℕ) (b : Bool) → kept < length out → take (kept + bool_byte b) (set out kept id) ≡ take kept out ++ cond b (id ∷ []) []
+pub kept_more : (out : List ℕ) (kept id : ℕ) (b : Bool) → kept < length out → take (kept + bool_byte b) (set out kept id) ≡ take kept out ++ cond b (id ∷ []) []
 kept_more out kept id true h = take_more_set out kept id h
 kept_more out kept id false h = ap (λ n. take n (set out kept id)) (add-zero kept) ∙ (take-set out kept id ∙ sym (append-nil (take kept out)))
 
@@ -73,3 +73,7 @@ ids_more bytes w low high a n m id kept v front out b at next test value within 
 pub ids_rise : (bytes : List ℕ) (w low high a n : ℕ) → IsStrictlyIncreasing (ids_between bytes w low high a n)
 unfolding ids_between
 ids_rise bytes w low high a n = IsStrictlyIncreasing-filter (λ id. is_in_range low high (item bytes w id)) (range_with_len a n) (range_rises a n)
+
+-- one item more
+pub items-push : (bytes : List ℕ) (w n : ℕ) → items bytes w 0 (n + 1) ≡ items bytes w 0 n ++ item bytes w n ∷ []
+items-push bytes w n = map-range_with_len_more (item bytes w) 0 n n (omega arith)

@@ -1,5 +1,6 @@
 -- Items of a packed list, read by one load of eight bytes.
-use Rattle.std.proofs.Common.{◌≡◌, ℕ, zero, suc, ◌+◌, ◌-◌, ◌*◌, ◌/◌, ◌%◌, ◌^◌, ◌<◌, ◌≤◌, List, [], ◌∷◌, drop, get_or, refl, sym, ◌∙◌, ap, arith, bit_and, IsTrue}
+use Rattle.std.proofs.Common.{◌≡◌, ℕ, zero, suc, ◌+◌, ◌-◌, ◌*◌, ◌/◌, ◌%◌, ◌^◌, ◌<◌, ◌≤◌, List, [], ◌∷◌, length, drop, get_or, refl, sym, ◌∙◌, ap, arith, bit_and, IsTrue}
+use Rattle.std.proofs.lemmas.List.{drop_all}
 use Rattle.std.proofs.lemmas.Nat.{shr-shr, field_of, and_mask}
 use Rattle.std.proofs.Math.Pow.{mod-mod-pow}
 use Rattle.std.proofs.lemmas.Bool.Decides.{nat_tests}
@@ -41,6 +42,10 @@ word_is bs at h =
     let s6 = step_to bs (at + 6) (at + 7) (omega arith) in
     let s7 = step_to bs (at + 7) (at + 8) (omega arith) in
     omega (arith, after bs at h, h at, h (at + 1), h (at + 2), h (at + 3), h (at + 4), h (at + 5), h (at + 6), h (at + 7))
+
+-- behind the last byte all are 0
+pub word_past : (bs : List ℕ) (at : ℕ) → AreBytes bs → length bs ≤ at → 0 ≡ number_of 256 bs / 2 ^ (8 * at) % 2 ^ 64
+word_past bs at h past = rw (after bs at h, drop_all at bs past) refl
 
 -- a field of a word
 field_in_word : (n from r w : ℕ) → r + w ≤ 64 → n / 2 ^ from % 2 ^ 64 / 2 ^ r % 2 ^ w ≡ n / 2 ^ (from + r) % 2 ^ w

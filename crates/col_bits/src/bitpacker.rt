@@ -10,7 +10,7 @@ ghost use Rattle.col_bits.specs.Places.{IsForBlocks};
 ghost use Rattle.col_bits.specs.Packing.{Held, nothing_held, bits_of, count_of, AddsBytes};
 
 use crate::const_width::{BLOCK_LEN, GROUP_LEN, read_groups_by_width, write_ids_by_width};
-use crate::words::word_at;
+use crate::words::{WORD_BITS, above, word_at};
 use col_common::{BYTE_BITS, U64_NUM_BYTES};
 use std::alloc::AllocError;
 use std::marker::Model;
@@ -18,9 +18,6 @@ use std::ops::{Range, RangeInclusive};
 
 // The widest numbers that are always read by one load of eight bytes.
 const MAX_SMALL_WIDTH: u32 = 56;
-
-// The bits of a word.
-const WORD_BITS: u32 = 64;
 
 // How many ids are tested before the room that is left over is given back.
 const ID_BLOCK_LEN: u32 = 1024;
@@ -395,13 +392,4 @@ fn is_within(value: u64, low: u64, high: u64) -> bool
     ensures { result ≡ is_in_range low high value }
 {
     low <= value && value <= high
-}
-
-// The bits from place `from` on.
-#[inline(always)]
-fn above(value: u64, from: u32) -> u64
-    requires { from ≤ 64 }
-    ensures { result ≡ value / 2 ^ from }
-{
-    if from == WORD_BITS { 0 } else { value >> from }
 }

@@ -5,6 +5,9 @@ ghost use Rattle.col_bits.specs.Packed.{number_of};
 
 use col_common::U64_NUM_BYTES;
 
+// The bits of a word.
+pub(crate) const WORD_BITS: u32 = 64;
+
 // The 64 bits from byte `at` on.
 #[inline(always)]
 pub(crate) fn word(bytes: &[u8], at: usize) -> u64
@@ -40,6 +43,10 @@ fn last_word(bytes: &[u8], at: usize) -> u64
     requires { at + 8 ≤ usize.MAX }
     ensures { result ≡ number_of 256 bytes.now / 2 ^ (8 * at) % 2 ^ 64 }
 {
+    // A list of width 0 has no bytes at all.
+    if bytes.len() <= at {
+        return 0;
+    }
     u64::from_le_bytes([
         byte_or_zero(bytes, at),
         byte_or_zero(bytes, at + 1),
@@ -64,4 +71,13 @@ pub(crate) fn word_at<const PADDED: bool>(bytes: &[u8], at: usize) -> u64
     } else {
         last_word(bytes, at)
     }
+}
+
+// The bits from place `from` on.
+#[inline(always)]
+pub(crate) fn above(value: u64, from: u32) -> u64
+    requires { from ≤ 64 }
+    ensures { result ≡ value / 2 ^ from }
+{
+    if from == WORD_BITS { 0 } else { value >> from }
 }

@@ -1,8 +1,8 @@
 -- Items of a list under Bitpacked, by arithmetic.
-use Rattle.std.proofs.Common.{◌≡◌, ℕ, zero, suc, ◌+◌, ◌*◌, ◌/◌, ◌^◌, ◌<◌, ◌≤◌, Bool, true, false, List, [], ◌∷◌, ◌++◌, length, map, take, drop, slice_index, slice_get, Option, Some, None, sym, ◌∙◌, ap, arith}
+use Rattle.std.proofs.Common.{◌≡◌, ℕ, zero, suc, ◌+◌, ◌*◌, ◌/◌, ◌^◌, ◌<◌, ◌≤◌, Bool, true, false, List, length, map, take, drop, slice_index, slice_get, Option, Some, None, sym, ◌∙◌, ap, arith}
 use Rattle.std.specs.List.{range_with_len, AllByRecursion}
 use Rattle.std.proofs.lemmas.Option.{slice_get-get_or}
-use Rattle.std.proofs.lemmas.List.FromFn.{length-map-range_with_len, get_or-map-range_with_len, map-range_with_len_more}
+use Rattle.std.proofs.lemmas.List.FromFn.{length-map-range_with_len, get_or-map-range_with_len}
 use Rattle.std.proofs.lemmas.List.Elements.{All-get_or, All-from_recursion}
 use native.Mathlib.Nat.{mod-one}
 use Rattle.col_common.specs.Reading.{◌>>=◌, only_if}
@@ -13,25 +13,11 @@ use Rattle.col_model.proofs.StatsLaws.{map-map, fold-max}
 use Rattle.col_model.proofs.ItemLaws.{packed-items, only_if-then}
 use Rattle.col_model.proofs.OneFormLaws.{same_stats-equal}
 use Rattle.col_codecs.specs.Header.{checked, list_by}
-use Rattle.col_codecs.specs.ColumnStats.{Collected, collected_of, IsPossible}
+use Rattle.col_codecs.specs.ColumnStats.{IsPossible}
 use Rattle.col_codecs.specs.Bitpacked.{bitpacked_item, bitpacked_items, IsReader}
 use Rattle.col_codecs.proofs.BoundsLemmas.{stats_of-greatest}
 use Rattle.col_codecs.proofs.ListLemmas.{range-part}
-use Rattle.col_codecs.proofs.StatsLemmas.{collected-count}
 use Rattle.col_codecs.proofs.StepsLemmas.{steps_stats, same_stats-stepped, same_stats-level}
-
--- ---- packed items one by one
-
-pub items-push : (bytes : List ℕ) (w n : ℕ) → items bytes w 0 (n + 1) ≡ items bytes w 0 n ++ item bytes w n ∷ []
-items-push bytes w n = map-range_with_len_more (item bytes w) 0 n n (omega arith)
-
--- the next item is collected
-pub collected-next : (before after : Collected) (bytes : List ℕ) (w n x : ℕ) → before ≡ collected_of (items bytes w 0 n) → x ≡ item bytes w n → ((xs : List ℕ) → before ≡ collected_of xs → after ≡ collected_of (xs ++ x ∷ [])) → after ≡ collected_of (items bytes w 0 (n + 1))
-collected-next before after bytes w n x e is more =
-    more (items bytes w 0 n) e ∙ ap (λ y. collected_of (items bytes w 0 n ++ y ∷ [])) is ∙ ap collected_of (sym (items-push bytes w n))
-
-pub collected-items : (s : Collected) (bytes : List ℕ) (w n : ℕ) → s ≡ collected_of (items bytes w 0 n) → s.count ≡ n
-collected-items s bytes w n e = collected-count s (items bytes w 0 n) e ∙ length-map-range_with_len (item bytes w) 0 n
 
 -- ---- the list's items
 

@@ -18,13 +18,18 @@ use Rattle.col_model.proofs.StatsLaws.{map-map}
 use Rattle.col_model.proofs.BlockItemLaws.{length-items, blockwise_values-some, blockwise_values-no_parts, blockwise_values-no_lines}
 use Rattle.col_codecs.specs.declared.blockwise_linear.block.Block.{Block}
 use Rattle.col_codecs.specs.Header.{list_by}
-use Rattle.col_codecs.specs.Blocks.{block_params, block_of, no_block, step_in, step_of, steps_in, item_of, items_in, lines_of, ArePlaced, IsReader}
+use Rattle.col_codecs.specs.Blocks.{block_params, block_of, no_block, step_in, step_of, steps_in, item_of, items_in, lines_of, AreWithin, ArePlaced, IsReader}
+use Rattle.col_codecs.specs.declared.block_bounds.Bounds.{Bounds}
+use Rattle.col_codecs.specs.BlockBounds.{Enclose}
 use Rattle.col_codecs.proofs.LinearReaderLemmas.{filled_from}
 use Rattle.col_model.proofs.OneFormLaws.{same_stats-equal}
-use Rattle.col_codecs.proofs.BlockStatsLemmas.{item_of-wrapped}
 use Rattle.col_codecs.proofs.BlockStepsLemmas.{block-found}
 
 -- ---- items
+
+-- the item by code
+item_of-wrapped : (s : Stats) (k p : ℕ) → p ≡ s.divisor * k → (s.least + p % 2 ^ 64) % 2 ^ 64 ≡ item_of s k
+item_of-wrapped s k p e = ap (λ m. (s.least + m % 2 ^ 64) % 2 ^ 64) e ∙ omega arith
 
 pub items_in-is : (s : Stats) (bs : List Block) (bytes : List ℕ) → items_in s bs bytes ≡ map (λ i. item_of s (step_of bs bytes i)) (range_with_len 0 s.count)
 unfolding steps_in
@@ -101,11 +106,22 @@ parts-front bytes body footer e =
     let long2 : length body ≡ c2 = ap length inner ∙ length-take-le c2 p.0 (omega arith) in
     ap (λ n. take n bytes) long2 ∙ sym (inner ∙ ap (take c2) outer ∙ take-take c2 c1 bytes (omega (arith, long1))))
 
+-- the test of statistics that were found
+pub same_stats-items_in : (s found : Stats) (bs : List Block) (bytes : List ℕ) (test : Bool) → found ≡ stats_of (map (λ i. item_of s (step_of bs bytes i)) (range_with_len 0 s.count)) → test ≡ same_stats found s → test ≡ same_stats (stats_of (items_in s bs bytes)) s
+same_stats-items_in s found bs bytes test stats is = is ∙ ap (λ f. same_stats f s) (stats ∙ ap stats_of (sym (items_in-is s bs bytes)))
+
 -- ---- a list whose parts and lines are read
 
 module _ (s : Stats) (bytes body footer : List ℕ) (n : ℕ) (bs : List Block) (count : n ≡ div_ceil s.count 512) (parts : parts_by_second w64 bytes ≡ Some (body, footer)) (lines : lines_of n footer ≡ Some (map block_params bs)) where
   own_lines : list_by 2 s bytes ≡ only_if (are_blocks s.count (map block_params bs) body && same_stats (stats_of (blockwise_items s (map block_params bs) body)) s) (blockwise_items s (map block_params bs) body)
   own_lines = list_by-lines s bytes body footer n (map block_params bs) count parts lines
+
+  front : take (length body) bytes ≡ body
+  front = parts-front bytes body footer parts
+
+  -- what encloses items that are read from the part encloses those read from its bytes
+  pub front-bounds : (bounds : List Bounds) (held : List Block) → Enclose bounds (λ i. item_of s (step_of held body i)) s.count → Enclose bounds (λ i. item_of s (step_of held (take (length body) bytes) i)) s.count
+  front-bounds bounds held enclosed = subst (λ read. Enclose bounds (λ i. item_of s (step_of held read i)) s.count) (sym front) enclosed
 
   -- its blocks are other ones
   pub list_by-other_blocks : (lent : List Block) (test : Bool) → lent ≡ bs → test ≡ are_blocks s.count (map block_params lent) body → test ≡ false → list_by 2 s bytes ≡ None
@@ -120,11 +136,11 @@ module _ (s : Stats) (bytes body footer : List ℕ) (n : ℕ) (bs : List Block) 
     pub held-count : length held ≡ block_count s.count
     held-count = ap length held-new ∙ long ∙ ap length e ∙ sym (length-map bs block_params) ∙ length-lines_of n footer (map block_params bs) lines ∙ count
 
+    pub held-whole : ArePlaced s.count new body → (length held ≡ block_count s.count) × AreWithin held body
+    held-whole are = (held-count, (subst (λ ks. ArePlaced s.count ks body) (sym held-new) are).within)
+
     held-slopes : map block_params held ≡ map block_params bs
     held-slopes = ap (map block_params) held-new ∙ slopes ∙ ap (map block_params) e
-
-    front : take (length body) bytes ≡ body
-    front = parts-front bytes body footer parts
 
     pub held-list : (b same : Bool) → ArePlaced s.count new body → same ≡ same_stats (stats_of (items_in s held body)) s → same ≡ b → list_by 2 s bytes ≡ only_if b (items_in s held (take (length body) bytes))
     held-list b same are by u =

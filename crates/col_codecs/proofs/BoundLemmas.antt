@@ -1,41 +1,17 @@
 -- Bounds of blocks, and lookups by them.
-use Rattle.std.proofs.Common.{◌≡◌, ℕ, zero, suc, ◌+◌, ◌-◌, ◌*◌, ◌/◌, ◌%◌, ◌<◌, ◌≤◌, inl, inr, Bool, true, false, List, [], ◌∷◌, ◌++◌, length, map, fold, min, max, filter, take, set, get_or, refl, sym, ◌∙◌, ap, subst, arith, append_assoc, append-nil}
+use Rattle.std.proofs.Common.{◌≡◌, ℕ, suc, ◌+◌, ◌-◌, ◌*◌, ◌/◌, ◌<◌, ◌≤◌, inl, inr, List, [], ◌∷◌, ◌++◌, length, map, fold, min, max, take, set, get_or, refl, sym, ◌∙◌, ap, subst, arith, append_assoc, append-nil}
 use Rattle.std.specs.List.{range_with_len}
-use Rattle.std.specs.Int.{is_in_range}
 use Rattle.std.proofs.lemmas.Bool.{cases_lt}
-use Rattle.std.proofs.lemmas.List.{map-id, map-append, take_more, take_more_set, take_all, get_or_append_left}
+use Rattle.std.proofs.lemmas.List.{take_more, take_more_set, take_all, get_or_append_left}
 use Rattle.std.proofs.lemmas.List.Elements.{All-get_or, All-from_recursion}
-use Rattle.std.proofs.lemmas.List.FromFn.{map-range_with_len_more, get_or-map-range_with_len, length-map-range_with_len}
-use Rattle.col_bits.specs.Packed.{item, items, ids_between}
-use Rattle.col_bits.proofs.ItemLemmas.{range_parts}
+use Rattle.std.proofs.lemmas.List.FromFn.{get_or-map-range_with_len, length-map-range_with_len}
 use Rattle.col_model.specs.Stats.{least_of, greatest_of}
 use Rattle.col_model.proofs.StatsLaws.{least_of-all, fold-max}
+use Rattle.col_model.proofs.ListLaws.{range-more}
 use Rattle.col_codecs.specs.declared.block_bounds.Bounds.{Bounds}
 use Rattle.col_codecs.specs.ColumnStats.{Collected, collected_of}
 use Rattle.col_codecs.proofs.StatsLemmas.{collected-widened}
-use Rattle.col_codecs.specs.BlockBounds.{AreBounds, LiesWithin, LiesIn, Enclose, no_bounds}
-
--- ---- ids of which none or all have an item in a range
-
-filter_none : (p : ℕ → Bool) (a n : ℕ) → ((k : ℕ) → a ≤ k → k < a + n → p k ≡ false) → filter p (range_with_len a n) ≡ []
-filter_none p a zero never = refl
-filter_none p a (suc n) never = rw (never a (omega arith) (omega arith)) (filter_none p (a + 1) n (λ k h l. never k (omega arith) (omega arith)))
-
-filter_all : (p : ℕ → Bool) (a n : ℕ) → ((k : ℕ) → a ≤ k → k < a + n → p k ≡ true) → filter p (range_with_len a n) ≡ range_with_len a n
-filter_all p a zero always = refl
-filter_all p a (suc n) always = rw (always a (omega arith) (omega arith)) (ap (λ r. a ∷ r) (filter_all p (a + 1) n (λ k h l. always k (omega arith) (omega arith))))
-
-ids_none : (bytes : List ℕ) (w low high a n : ℕ) → ((k : ℕ) → a ≤ k → k < a + n → is_in_range low high (item bytes w k) ≡ false) → ids_between bytes w low high a n ≡ []
-unfolding ids_between
-ids_none bytes w low high a n never = filter_none (λ id. is_in_range low high (item bytes w id)) a n never
-
-ids_all : (bytes : List ℕ) (w low high a n : ℕ) → ((k : ℕ) → a ≤ k → k < a + n → is_in_range low high (item bytes w k) ≡ true) → ids_between bytes w low high a n ≡ range_with_len a n
-unfolding ids_between
-ids_all bytes w low high a n always = filter_all (λ id. is_in_range low high (item bytes w id)) a n always
-
--- one id more of a range
-range_more : (a n : ℕ) → range_with_len a (n + 1) ≡ range_with_len a n ++ (a + n) ∷ []
-range_more a n = sym (map-id _) ∙ map-range_with_len_more (λ k. k) a n (a + n) refl ∙ ap (λ l. l ++ (a + n) ∷ []) (map-id _)
+use Rattle.col_codecs.specs.BlockBounds.{AreBounds, LiesWithin, Enclose, no_bounds}
 
 -- ---- bounds one number after another
 
@@ -81,10 +57,6 @@ bounds_enclose b xs k are h =
 
 -- ---- blocks
 
--- where there are no bounds, nothing is said
-pub enclose_none : (f : ℕ → ℕ) (n : ℕ) → Enclose [] f n
-enclose_none f n i h inside = absurd (omega arith)
-
 -- one block more
 pub enclose_more : (bs : List Bounds) (b : Bounds) (f : ℕ → ℕ) (from n : ℕ) → from ≡ 1024 * length bs → n ≤ 1024 → Enclose bs f from → AreBounds b (map f (range_with_len from n)) → Enclose (bs ++ b ∷ []) f (from + n)
 enclose_more bs b f from n at short so_far are i h inside =
@@ -104,24 +76,6 @@ enclose_more bs b f from n at short so_far are i h inside =
     get_or-append_at [] b = refl
     get_or-append_at (c ∷ bs) b = get_or-append_at bs b
 
--- items of one block
-block_lies : (bs : List Bounds) (f : ℕ → ℕ) (a n to block k : ℕ) → block ≡ a / 1024 → a + n ≤ to → a % 1024 + n ≤ 1024 → Enclose bs f to → a ≤ k → k < a + n → LiesIn bs block (f k)
-block_lies bs f a n to block k at within one enclosed above below =
-    let same : k / 1024 ≡ block = omega (arith, at, one, above, below) in
-    subst (λ j. LiesIn bs j (f k)) same (enclosed k (omega (arith, below, within)))
-
-module _ (bs : List Bounds) (bytes : List ℕ) (w low high a n to block : ℕ) (at : block ≡ a / 1024) (within : a + n ≤ to) (one : a % 1024 + n ≤ 1024) (enclosed : Enclose bs (item bytes w) to) (old : List ℕ) where
-  -- a block that lies outside the range adds none of its ids
-  pub block_skipped : ((v : ℕ) → LiesIn bs block v → is_in_range low high v ≡ false) → old ≡ old ++ ids_between bytes w low high a n
-  block_skipped misses =
-      sym (append-nil old)
-      ∙ ap (λ r. old ++ r) (sym (ids_none bytes w low high a n (λ k above below. misses (item bytes w k) (block_lies bs (item bytes w) a n to block k at within one enclosed above below))))
-
-  -- one that lies inside adds all
-  pub block_taken : ((v : ℕ) → LiesIn bs block v → is_in_range low high v ≡ true) → old ++ range_with_len a n ≡ old ++ ids_between bytes w low high a n
-  block_taken hits =
-      ap (λ r. old ++ r) (sym (ids_all bytes w low high a n (λ k above below. hits (item bytes w k) (block_lies bs (item bytes w) a n to block k at within one enclosed above below))))
-
 -- ---- ids that are written
 
 -- one id more is written
@@ -131,7 +85,7 @@ run_more front out start n at m x within next value so_far =
     ∙ ap (λ r. r ++ x ∷ []) so_far
     ∙ append_assoc front (range_with_len start n) (x ∷ [])
     ∙ ap (λ y. front ++ (range_with_len start n ++ y ∷ [])) value
-    ∙ ap (λ r. front ++ r) (sym (range_more start n))
+    ∙ ap (λ r. front ++ r) (sym (range-more start n))
     ∙ ap (λ k. front ++ range_with_len start k) (sym next)
 
 -- ---- a collector
@@ -159,12 +113,3 @@ collected-block s xs ys b low high n one are l h long e =
 pub collected-push : (after : Collected) (xs ys : List ℕ) (i : ℕ) → i < length ys → after ≡ collected_of ((xs ++ take i ys) ++ get_or ys i 0 ∷ []) → after ≡ collected_of (xs ++ take (i + 1) ys)
 collected-push after xs ys i h e =
     e ∙ ap collected_of (append_assoc xs (take i ys) (get_or ys i 0 ∷ []) ∙ ap (λ r. xs ++ r) (sym (take_more ys i 0 h)))
-
--- ---- packed items
-
--- those of a block behind those before it
-pub items-joined : (bytes : List ℕ) (w n m : ℕ) → items bytes w 0 n ++ items bytes w n m ≡ items bytes w 0 (n + m)
-items-joined bytes w n m =
-    let place : n ≡ 0 + n = omega arith in
-    sym (map-append (item bytes w) (range_with_len 0 n) (range_with_len n m))
-    ∙ ap (map (item bytes w)) (ap (λ k. range_with_len 0 n ++ range_with_len k m) place ∙ sym (range_parts 0 n m))

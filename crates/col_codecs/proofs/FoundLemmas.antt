@@ -1,5 +1,5 @@
 -- Lookups on packed steps.
-use Rattle.std.proofs.Common.{◌≡◌, ℕ, zero, suc, ◌+◌, ◌-◌, ◌*◌, ◌/◌, ◌<◌, ◌≤◌, ◌&&◌, ◌^◌, Bool, List, [], ◌∷◌, length, map, filter, min, slice_get, Result, Ok, Err, refl, sym, ◌∙◌, ap, ap₂, subst, inl, inr, arith}
+use Rattle.std.proofs.Common.{◌≡◌, ℕ, ◌+◌, ◌-◌, ◌*◌, ◌/◌, ◌<◌, ◌≤◌, ◌&&◌, ◌^◌, List, [], ◌∷◌, length, map, filter, min, slice_get, get_or, Some, Result, Ok, Err, refl, sym, ◌∙◌, ap, ap₂, subst, inl, inr, arith}
 use Rattle.std.specs.Prelude.{nat_le}
 use Rattle.std.specs.Int.{is_in_range, div_ceil}
 use Rattle.std.specs.List.{AllByRecursion, range_with_len}
@@ -7,14 +7,18 @@ use Rattle.std.specs.List.Sorted.{IsStrictlyIncreasing}
 use Rattle.std.proofs.Math.Nat.{le-div_iff_mul-le, mul-le-mul_right}
 use Rattle.std.proofs.lemmas.Grind.{div_ceil_times}
 use Rattle.std.proofs.lemmas.Bool.{cases_lt}
+use Rattle.std.proofs.lemmas.Option.{slice_get-get_or}
+use Rattle.std.proofs.lemmas.List.FromFn.{length-map-range_with_len, get_or-map-range_with_len}
 use Rattle.std.proofs.lemmas.Bool.Decides.{nat_tests}
 use Rattle.col_common.specs.declared.error.ColumnarError.{ColumnarError}
 use Rattle.col_common.specs.Replacing.{Replaces}
-use Rattle.col_bits.specs.Packed.{item, ids_between}
+use Rattle.col_bits.specs.Packed.{item}
 use Rattle.col_model.specs.Stats.{Stats}
 use Rattle.col_values.specs.Codes.{number_cmp}
 use Rattle.col_values.specs.Values.{passes, is_between, hits, hits_between}
+use Rattle.col_values.proofs.HitLemmas.{rows_same, in_between}
 use Rattle.col_codecs.specs.Bitpacked.{bitpacked_items, IsReader}
+use Rattle.col_codecs.specs.BoundedItems.{ids_by}
 use Rattle.col_codecs.proofs.BitpackedLemmas.{length-bitpacked_items, reads-at}
 
 -- ---- ends as steps
@@ -52,29 +56,30 @@ pub steps_within : (least g low high k : ℕ) → 0 < g → least ≤ high → i
 steps_within least g low high k some above =
     ap₂ (λ s t. s && t) (lower least g low k ∙ up_to (low - least) g k some) (upper least g high k above ∙ down_to (high - least) g k some)
 
-pub no_steps : (least g low high k : ℕ) → high < least → is_in_range low high (least + g * k) ≡ is_in_range 1 0 k
-no_steps least g low high k below = grind (arith, nat_tests)
-
 -- ---- rows
 
-rows_same : (p q : ℕ → Bool) (a n : ℕ) → ((k : ℕ) → a ≤ k → k < a + n → p k ≡ q k) → filter p (range_with_len a n) ≡ filter q (range_with_len a n)
-rows_same p q a zero same = refl
-rows_same p q a (suc n) same =
-    let rest = rows_same p q (a + 1) n (λ k h l. same k (omega arith) (omega arith)) in
-    rw (same a (omega arith) (omega arith), rest) refl
+-- ids by numbers that are tested as the values are, which are those of the list
+pub found_by : (f : ℕ → ℕ) (list : List ℕ) (low high first last from to end : ℕ) → end ≡ min to (length list) → ((k : ℕ) → k < length list → passes (is_between number_cmp low high) (slice_get list k) ≡ is_in_range first last (f k)) → ids_by f first last from (end - from) ≡ hits_between number_cmp list low high from to
+unfolding ids_by hits
+found_by f list low high first last from to end upto tests =
+    rows_same _ _ from (end - from) (λ k above below. sym (tests k (omega (arith, upto))))
+    ∙ ap (λ n. filter (λ row. passes (is_between number_cmp low high) (slice_get list row)) (range_with_len from n)) (omega (arith, upto))
 
-in_between : (low high x : ℕ) → is_between number_cmp low high x ≡ is_in_range low high x
-in_between low high x = grind (arith, nat_tests)
-
-pub found_packed : (s : Stats) (bytes read list : List ℕ) (w low high first last from to end : ℕ) → bitpacked_items s bytes ≡ list → IsReader s w bytes → read ≡ bytes → end ≡ min to s.count → ((k : ℕ) → is_in_range low high (s.least + s.divisor * k) ≡ is_in_range first last k) → ids_between read w first last from (end - from) ≡ hits_between number_cmp list low high from to
-unfolding ids_between hits
+-- those by packed steps
+pub found_packed : (s : Stats) (bytes read list : List ℕ) (w low high first last from to end : ℕ) → bitpacked_items s bytes ≡ list → IsReader s w bytes → read ≡ bytes → end ≡ min to s.count → ((k : ℕ) → is_in_range low high (s.least + s.divisor * k) ≡ is_in_range first last k) → ids_by (item read w) first last from (end - from) ≡ hits_between number_cmp list low high from to
 found_packed s bytes read list w low high first last from to end view reader same upto ends =
     let long : length list ≡ s.count = ap length (sym view) ∙ length-bitpacked_items s bytes in
-    rows_same _ _ from (end - from) (λ k above below.
-    let inside : k < length list = omega (arith, upto, long) in
+    found_by (item read w) list low high first last from to end (omega (arith, upto, long)) (λ k inside.
     let at = (reads-at s bytes read list w k (item read w k) view reader same refl inside).1 in
-    sym (ap (passes (is_between number_cmp low high)) at ∙ in_between low high (s.least + s.divisor * item read w k) ∙ ends (item read w k)))
-    ∙ ap (λ n. filter (λ row. passes (is_between number_cmp low high) (slice_get list row)) (range_with_len from n)) (omega (arith, upto, long))
+    ap (passes (is_between number_cmp low high)) at ∙ in_between low high (s.least + s.divisor * item read w k) ∙ ends (item read w k))
+
+-- those by the values themselves
+pub found_values : (f : ℕ → ℕ) (list : List ℕ) (n low high from to end : ℕ) → map f (range_with_len 0 n) ≡ list → end ≡ min to n → ids_by f low high from (end - from) ≡ hits_between number_cmp list low high from to
+found_values f list n low high from to end view upto =
+    let long : length list ≡ n = ap length (sym view) ∙ length-map-range_with_len f 0 n in
+    found_by f list low high low high from to end (omega (arith, upto, long)) (λ k inside.
+    let at : slice_get list k ≡ Some (f k) = slice_get-get_or list k 0 inside ∙ ap (λ xs. Some (get_or xs k 0)) (sym view) ∙ ap Some (get_or-map-range_with_len f 0 n k k 0 (omega (arith, long, inside)) (omega arith)) in
+    ap (passes (is_between number_cmp low high)) at ∙ in_between low high (f k))
 
 -- a call that replaces by a list that rises leaves one
 pub replaces-rise : (r : Result (Unit {0}) ColumnarError) (new expected : List ℕ) → Replaces r new expected → IsStrictlyIncreasing expected → IsStrictlyIncreasing new

@@ -1,11 +1,21 @@
 -- Statistics in front of a list.
-use Rattle.std.proofs.Common.{◌≡◌, ℕ, ◌+◌, ◌-◌, ◌≤◌, List, ◌∷◌, length, drop, Some, None, refl, ◌∙◌, ap, arith, length-append}
-use Rattle.col_common.specs.Reading.{IsBytes}
+use Rattle.std.proofs.Common.{◌≡◌, ℕ, ◌+◌, ◌-◌, ◌≤◌, Bool, true, false, List, ◌∷◌, length, drop, Some, None, refl, ◌∙◌, ap, arith, length-append}
+use Rattle.std.proofs.lemmas.Option.{same_Some}
+use Rattle.col_common.specs.Reading.{IsBytes, only_if}
 use Rattle.col_model.specs.Stats.{Stats, stats_at, stats_bytes}
 use Rattle.col_model.specs.U64List.{values64}
 use Rattle.col_model.proofs.ReadingLaws.{drop-front}
 use Rattle.col_model.proofs.OneFormLaws.{stats_bytes-stats_at}
 use Rattle.col_codecs.specs.Header.{list_by}
+
+-- a test and a value that were found, or weren't
+pub only_if-some : {A : Type 0} (b : Bool) (x y : A) → Some y ≡ only_if b x → (b ≡ true) × (y ≡ x)
+only_if-some true x y e = (refl, same_Some y x e)
+only_if-some false x y e = absurd (cc)
+
+pub only_if-none : {A : Type 0} (b : Bool) (x : A) → None ≡ only_if b x → b ≡ false
+only_if-none true x e = absurd (cc)
+only_if-none false x e = refl
 
 -- what stands behind the statistics ends with the bytes
 pub stats_at-behind : (bytes rest : List ℕ) (s : Stats) → IsBytes bytes → stats_at bytes ≡ Some (s, rest) → (length rest ≤ length bytes) × (drop (length bytes - length rest) bytes ≡ rest)

@@ -8,10 +8,10 @@ pub mod BlockPlacingLemmas
 pub mod BlockRangeLemmas
 pub mod BlockReaderLemmas
 pub mod BlockReadingLemmas
-pub mod BlockStatsLemmas
 pub mod BlockStepsLemmas
 pub mod BlockWritingLemmas
 pub mod BoundLemmas
+pub mod BoundedItemLemmas
 pub mod BoundsLemmas
 pub mod EstimateLemmas
 pub mod HeaderLemmas

@@ -1,8 +1,9 @@
 -- Lists under Linear that are read in place.
-use Rattle.std.proofs.Common.{◌≡◌, ℕ, ◌+◌, ◌-◌, ◌*◌, ◌<◌, ◌≤◌, ◌&&◌, Bool, true, false, List, [], ◌∷◌, ◌++◌, map, length, take, drop, get_or, slice_get, Option, Some, None, refl, sym, ap, ◌∙◌, subst, arith, append_assoc, length-append}
+use Rattle.std.proofs.Common.{◌≡◌, ℕ, ◌+◌, ◌-◌, ◌*◌, ◌<◌, ◌≤◌, ◌&&◌, Bool, true, false, List, [], ◌∷◌, ◌++◌, map, length, take, drop, get_or, slice_get, Option, Some, None, refl, sym, ap, ap₂, ◌∙◌, subst, arith, append_assoc, length-append}
 use Rattle.std.specs.List.{range_with_len}
 use Rattle.std.proofs.lemmas.List.{same_lists, get_or_default}
 use Rattle.std.proofs.lemmas.List.FromFn.{length-map-range_with_len, get_or-map-range_with_len}
+use Rattle.std.proofs.lemmas.Bool.{and_parts}
 use Rattle.std.proofs.lemmas.Option.{option_and_then_some, cond_some, same_Some, slice_get-get_or}
 use Rattle.col_common.specs.Reading.{◌>>=◌, only_if, IsBytes, byte_at}
 use Rattle.col_common.specs.VInt.{vint, vint_bytes}
@@ -13,12 +14,10 @@ use Rattle.col_model.specs.Line.{line_at}
 use Rattle.col_model.specs.U64List.{LinearParams as LineAndWidth, width_at, params_at}
 use Rattle.col_model.specs.Items.{linear_item, linear_items}
 use Rattle.col_model.proofs.ReadingLaws.{drop-front}
-use Rattle.col_model.proofs.OneFormLaws.{IsBytes-behind}
-use Rattle.col_model.proofs.ItemLaws.{linear_values-some, linear_values-none, length-linear_items, linear_items-at, linear_items-push}
-use Rattle.col_codecs.specs.ColumnStats.{Collected, collected_of}
+use Rattle.col_model.proofs.OneFormLaws.{IsBytes-behind, same_stats-equal}
+use Rattle.col_model.proofs.ItemLaws.{linear_values-some, linear_values-none, length-linear_items, linear_items-at}
 use Rattle.col_codecs.specs.Header.{list_by}
 use Rattle.col_codecs.proofs.ListLemmas.{range-part}
-use Rattle.col_codecs.proofs.StatsLemmas.{collected-count}
 
 -- ---- what stands behind a line
 
@@ -91,9 +90,26 @@ list_by-line s bytes rest l e = rw (linear_values-some s bytes l rest e) (both (
     both true xs = refl
     both false xs = refl
 
--- the same by the answer of a test over a cut of the bytes
-pub list_by-tested : (s : Stats) (bytes rest read : List ℕ) (l : LineAndWidth) (b test : Bool) → params_at bytes ≡ Some (l, rest) → read ≡ rest → test ≡ is_list s l read → test ≡ b → list_by 1 s bytes ≡ only_if b (linear_items l rest s.count)
-list_by-tested s bytes rest read l b test e same is t = list_by-line s bytes rest l e ∙ ap (λ a. only_if a (linear_items l rest s.count)) (ap (is_list s l) (sym same) ∙ sym is ∙ t)
+-- the same by a cut of the bytes
+pub list_by-cut : (s : Stats) (bytes rest read : List ℕ) (l : LineAndWidth) → params_at bytes ≡ Some (l, rest) → read ≡ rest → list_by 1 s bytes ≡ only_if (is_list s l read) (linear_items l read s.count)
+list_by-cut s bytes rest read l e same = list_by-line s bytes rest l e ∙ ap (λ b. only_if (is_list s l b) (linear_items l b s.count)) (sym same)
+
+-- the list by its two tests
+pub only_if-tests : (s : Stats) (l : LineAndWidth) (bytes : List ℕ) (packed same : Bool) → is_packed bytes (s.count * l.offset_width) ≡ packed → same_stats (stats_of (linear_items l bytes s.count)) s ≡ same → only_if (is_list s l bytes) (linear_items l bytes s.count) ≡ only_if (packed && same) (linear_items l bytes s.count)
+only_if-tests s l bytes packed same e f = ap₂ (λ p q. only_if (p && q) (linear_items l bytes s.count)) e f
+
+-- the test of statistics that were found at a width
+pub same_stats-found : (s found : Stats) (l : LineAndWidth) (bytes : List ℕ) (w : ℕ) (b test : Bool) → w ≡ l.offset_width → found ≡ stats_of (linear_items (record l { offset_width = w }) bytes s.count) → test ≡ same_stats found s → test ≡ b → same_stats (stats_of (linear_items l bytes s.count)) s ≡ b
+same_stats-found s found l bytes w b test wide stats is t =
+    ap (λ v. same_stats (stats_of (linear_items (record l { offset_width = v }) bytes s.count)) s) (sym wide) ∙ ap (λ f. same_stats f s) (sym stats) ∙ sym is ∙ t
+
+-- the statistics of a list that passed both tests
+pub exact-stats : (s : Stats) (l : LineAndWidth) (bytes read : List ℕ) (w : ℕ) → read ≡ bytes → w ≡ l.offset_width → is_list s l read ≡ true → s ≡ stats_of (linear_items (record l { offset_width = w }) bytes s.count)
+exact-stats s l bytes read w same wide tests =
+    let both = and_parts (is_packed read (s.count * l.offset_width)) (same_stats (stats_of (linear_items l read s.count)) s) tests in
+    sym (ap (λ v. stats_of (linear_items (record l { offset_width = v }) bytes s.count)) wide
+    ∙ ap (λ b. stats_of (linear_items l b s.count)) (sym same)
+    ∙ same_stats-equal (stats_of (linear_items l read s.count)) s both.1)
 
 -- ---- items
 
@@ -113,14 +129,3 @@ filled_from f start m xs long each =
     (λ k d w.
     let within : k < m = omega (arith, w, long) in
     get_or_default xs k d 0 w ∙ each k within ∙ sym (get_or-map-range_with_len f start m k (start + k) d within refl))
-
--- ---- their statistics
-
--- a collector behind the first items has counted them
-pub collected-first_items : (c : Collected) (l : LineAndWidth) (bytes : List ℕ) (n : ℕ) → c ≡ collected_of (linear_items l bytes n) → c.count ≡ n
-collected-first_items c l bytes n e = collected-count c (linear_items l bytes n) e ∙ length-linear_items l bytes n
-
--- and takes the next one
-pub collected-next_item : (c d : Collected) (l : LineAndWidth) (bytes : List ℕ) (n x : ℕ) → c ≡ collected_of (linear_items l bytes n) → x ≡ linear_item l bytes n → ((xs : List ℕ) → c ≡ collected_of xs → d ≡ collected_of (xs ++ x ∷ [])) → d ≡ collected_of (linear_items l bytes (n + 1))
-collected-next_item c d l bytes n x e is more =
-    more (linear_items l bytes n) e ∙ ap (λ y. collected_of (linear_items l bytes n ++ y ∷ [])) is ∙ ap collected_of (sym (linear_items-push l bytes n))

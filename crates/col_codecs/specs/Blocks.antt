@@ -1,11 +1,11 @@
 -- Blocks of a list.
-use Rattle.std.specs.Prelude.{◌≡◌, ◌<◌, ◌≤◌, ℕ, ◌+◌, ◌-◌, ◌*◌, ◌/◌, ◌%◌, ◌^◌, ◌==◌, ◌&&◌, nat_le, Bool, List, length, map, drop, slice_index_or, Option}
+use Rattle.std.specs.Prelude.{◌≡◌, ◌<◌, ◌≤◌, ℕ, ◌+◌, ◌*◌, ◌/◌, ◌%◌, ◌^◌, List, length, map, drop, slice_index_or, Option}
 use Rattle.std.specs.List.{AllByRecursion, range_with_len}
 use Rattle.col_model.specs.Stats.{Stats, stats_of}
 use Rattle.col_common.specs.Reading.{◌>>=◌, nothing_left, items}
 use Rattle.col_model.specs.U64List.{LinearParams, params_at}
 use Rattle.col_model.specs.Codecs.{block_size, block_count}
-use Rattle.col_model.specs.Items.{linear_item, linear_items, block_start}
+use Rattle.col_model.specs.Items.{linear_item, block_start}
 use Rattle.col_codecs.specs.declared.line.Line.{Line}
 use Rattle.col_codecs.specs.declared.blockwise_linear.block.Block.{Block}
 use Rattle.col_codecs.specs.ColumnStats.{IsAbove}
@@ -54,20 +54,6 @@ item_of s k = (s.least + s.divisor * k) % 2 ^ 64
 -- the items of a list with these statistics
 abbrev pub items_in : Stats → List Block → List ℕ → List ℕ
 items_in s bs bytes = map (item_of s) (steps_in bs bytes s.count)
-
--- the steps of the first items of a block
-abbrev pub steps_in_block : Block → List ℕ → ℕ → List ℕ
-steps_in_block b bytes n = linear_items (block_params b) (drop b.start bytes) n
-
--- the item of a step lies a whole count of divisors above the least, up to the greatest
-unfoldable pub is_whole : Stats → ℕ → Bool
-is_whole s k =
-    nat_le s.least (item_of s k) && nat_le (item_of s k) s.greatest
-    && ((item_of s k - s.least) % s.divisor == 0)
-
--- that count
-unfoldable pub own_step : Stats → ℕ → ℕ
-own_step s k = (item_of s k - s.least) / s.divisor
 
 -- each block begins within the bytes
 abbrev pub AreWithin : List Block → List ℕ → Type 0

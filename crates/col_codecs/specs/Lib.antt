@@ -6,5 +6,6 @@ pub mod Linear
 pub mod Blockwise
 pub mod Blocks
 pub mod BlockBounds
+pub mod BoundedItems
 pub mod Header
 pub mod Turning

@@ -1,5 +1,5 @@
 //! Lists of u64 under the codec Bitpacked: steps from the least value, at the greatest one's width.
-ghost use Rattle.std.specs.Prelude.{◌≡◌, ℕ, ◌<◌, ◌≤◌, ◌+◌, ◌-◌, ◌*◌, ◌%◌, ◌^◌, ◌++◌, length, map, IfOk, IfErr, OnOk};
+ghost use Rattle.std.specs.Prelude.{◌≡◌, ℕ, ◌<◌, ◌≤◌, ◌+◌, ◌*◌, ◌^◌, map, IfOk, IfErr};
 ghost use Rattle.std.specs.Int.{is_in_range};
 ghost use Rattle.std.specs.List.{AllByRecursion};
 ghost use Rattle.std.specs.List.Sorted.{IsStrictlyIncreasing};
@@ -7,24 +7,22 @@ ghost use Rattle.std.specs.Range.{range_inclusive_start, range_inclusive_end};
 ghost use Rattle.col_common.specs.Replacing.{Replaces};
 ghost use Rattle.col_common.specs.Decoding.{Decodes};
 ghost use Rattle.col_common.specs.Serializing.{Serializes};
-ghost use Rattle.col_bits.specs.Packed.{item, items, ids_between, width};
-ghost use Rattle.col_model.specs.Stats.{stats_of, steps_of, least_of, greatest_of};
+ghost use Rattle.col_bits.specs.Packed.{item, width};
+ghost use Rattle.col_model.specs.Stats.{steps_of, least_of, greatest_of};
 ghost use Rattle.col_model.specs.Codecs.{block_size, steps_above};
 ghost use Rattle.col_values.specs.Codes.{number_cmp};
 ghost use Rattle.col_values.specs.Values.{hits_between};
-ghost use Rattle.col_codecs.specs.ColumnStats.{stats_seen, collected_of, IsPossible};
-ghost use Rattle.col_codecs.specs.BlockBounds.{AreBounds, Enclose};
+ghost use Rattle.col_codecs.specs.ColumnStats.{stats_seen, IsPossible};
+ghost use Rattle.col_codecs.specs.BlockBounds.{Enclose};
 ghost use Rattle.col_codecs.specs.Header.{checked, list_by};
 ghost use Rattle.col_codecs.specs.Bitpacked.{bitpacked_items};
 
-use crate::block_bounds::{
-    BOUNDED_LEN, BOUNDED_SIZE, Bounds, bounds_of, is_inside, is_outside, push_all,
-};
+use crate::block_bounds::Bounds;
+use crate::bounded_items::{BoundedItems, find_ids, read_bounds};
 use crate::codec::{ColumnCodec, ColumnCodecEstimator};
 use crate::column_stats::ColumnStats;
 use crate::header::take_stats;
 use crate::packing::take_steps;
-use crate::stats_collector::{StatsCollector, collect_bounded};
 use crate::turning::{Turn, serialize_turned};
 use bytes::Bytes;
 use col_bits::{BitUnpacker, compute_num_bits, is_packed};
@@ -76,7 +74,7 @@ impl BitpackedReader {
         if !is_packed(bytes, stats.num_rows as usize * num_bits as usize) {
             return Err(ColumnarError::InvalidData);
         }
-        let bounds = read_bounds(alloc, &stats, bit_unpacker, bytes)?;
+        let bounds = read_step_bounds(alloc, &stats, bit_unpacker, bytes)?;
         Ok(BitpackedReader {
             data: items,
             bit_unpacker,
@@ -103,16 +101,11 @@ impl BitpackedReader {
         let (low, high) = value_range.into_inner();
         let (first, last) = packed_between(&self.stats, low, high, steps).into_inner();
         let ids = row_ids.start..row_ids.end.min(self.stats.num_rows);
-        let data = self.data.as_slice();
-        find_packed(
-            &self.bounds,
-            self.bit_unpacker,
-            first,
-            last,
-            ids,
-            data,
-            hits,
-        )
+        let items = PackedItems {
+            bit_unpacker: self.bit_unpacker,
+            bytes: self.data.as_slice(),
+        };
+        find_ids(&items, &self.bounds, first, last, ids, hits)
     }
 
     /// The same list once more, which shares its bytes.
@@ -239,7 +232,7 @@ fn raise(min_value: u64, steps: &mut [u64])
 }
 
 // The bounds of the blocks of the steps, where the statistics are those of the list with these.
-fn read_bounds(
+fn read_step_bounds(
     alloc: Global,
     stats: &ColumnStats,
     bit_unpacker: BitUnpacker,
@@ -256,7 +249,11 @@ fn read_bounds(
     if steps == 0 {
         return Ok(Vec::new(alloc));
     }
-    let (found, bounds) = read_steps(alloc, bit_unpacker, bytes, stats.num_rows)?;
+    let items = PackedItems {
+        bit_unpacker,
+        bytes,
+    };
+    let (found, bounds) = read_bounds(alloc, &items, stats.num_rows)?;
     if !found.is_same(&ColumnStats {
         gcd: 1,
         min_value: 0,
@@ -268,106 +265,36 @@ fn read_bounds(
     Ok(bounds)
 }
 
-// The statistics of packed items, and the bounds of their blocks.
-fn read_steps(
-    alloc: Global,
+// The packed steps of a list.
+#[derive(Clone, Copy)]
+struct PackedItems<'a> {
     bit_unpacker: BitUnpacker,
-    bytes: &[u8],
-    count: u32,
-) -> Result<(ColumnStats, Vec<Bounds>), ColumnarError>
-    ensures stats { IfOk result (λ r.
-        stats_seen r.0 ≡ stats_of (items bytes.now bit_unpacker 0 count)) }
-    ensures bounds { IfOk result (λ r. Enclose r.1.items (item bytes.now bit_unpacker) count) }
-    ensures out_of_memory { IfErr result (λ e. e ≡ ColumnarError.OutOfMemory) }
-{
-    let mut bounds = Vec::with_capacity(alloc, count.div_ceil(BOUNDED_LEN) as usize)?;
-    let mut collector = StatsCollector::default();
-    let mut block = [0; BOUNDED_SIZE];
-    let mut from = 0;
-    while from < count {
-        let len = (count - from).min(BOUNDED_LEN);
-        let block = &mut block[..len as usize];
-        let (more, found) = read_block(collector, bit_unpacker, bytes, from, block);
-        collector = more;
-        bounds.push(found)?;
-        from += len;
-    }
-    Ok((collector.stats(), bounds))
+    bytes: &'a [u8],
 }
 
-// A collector that took as many items more as the block has room for, from an item on, and their
-// bounds.
-fn read_block(
-    collector: StatsCollector,
-    bit_unpacker: BitUnpacker,
-    bytes: &[u8],
-    from: u32,
-    block: &mut [u64],
-) -> (StatsCollector, Bounds)
-    requires some { 0 < length block.old }
-    requires room { from + length block.old < 2 ^ 32 }
-    requires collected { collector ≡ collected_of (items bytes.now bit_unpacker 0 from) }
-    ensures collected { result.0 ≡
-        collected_of (items bytes.now bit_unpacker 0 (from + length block.old)) }
-    ensures bounds { AreBounds result.1 (items bytes.now bit_unpacker from (length block.old)) }
-{
-    bit_unpacker.get_range(from, bytes, block);
-    let bounds = bounds_of(block);
-    (collect_bounded(collector, block, bounds), bounds)
-}
+impl BoundedItems for PackedItems<'_> {
+    ghost use Rattle.std.specs.Prelude.{◌^◌};
+    ghost use Rattle.col_bits.specs.Packed.{item};
 
-// Puts there which of the ids have a packed number from `low` to `high`, block by block.
-fn find_packed(
-    bounds: &[Bounds],
-    bit_unpacker: BitUnpacker,
-    low: u64,
-    high: u64,
-    ids: Range<u32>,
-    bytes: &[u8],
-    hits: &mut Vec<u32>,
-) -> Result<(), ColumnarError>
-    requires { Enclose bounds.now (item bytes.now bit_unpacker) ids.end }
-    ensures { Replaces result hits.new.items
-        (ids_between bytes.now bit_unpacker low high ids.start (ids.end - ids.start)) }
-{
-    hits.clear();
-    let mut from = ids.start;
-    while from < ids.end {
-        let to = from + (ids.end - from).min(BOUNDED_LEN - from % BOUNDED_LEN);
-        let pushed = push_packed(bounds, bit_unpacker, low, high, from..to, bytes, hits);
-        if let Err(_wanting) = pushed {
-            hits.clear();
-            return Err(ColumnarError::OutOfMemory);
-        }
-        from = to;
-    }
-    Ok(())
-}
+    ghost item = { λ p. item p.bytes.now p.bit_unpacker };
 
-// Appends those of one block: none where it lies outside the range, and all where it lies inside.
-fn push_packed(
-    bounds: &[Bounds],
-    bit_unpacker: BitUnpacker,
-    low: u64,
-    high: u64,
-    ids: Range<u32>,
-    bytes: &[u8],
-    hits: &mut Vec<u32>,
-) -> Result<(), AllocError>
-    requires order { ids.start ≤ ids.end }
-    requires block { ids.start % 1024 + (ids.end - ids.start) ≤ 1024 }
-    requires enclosed { Enclose bounds.now (item bytes.now bit_unpacker) ids.end }
-    ensures { OnOk result (hits.new.items ≡ hits.old.items
-        ++ ids_between bytes.now bit_unpacker low high ids.start (ids.end - ids.start)) }
-{
-    let block = (ids.start / BOUNDED_LEN) as usize;
-    if is_outside(bounds, block, low, high) {
-        return Ok(());
+    ghost count = { λ _. 2 ^ 32 };
+
+    ghost IsWhole = { λ _. Unit {0} };
+
+    fn read(&self, start: u32, output: &mut [u64]) {
+        self.bit_unpacker.get_range(start, self.bytes, output);
     }
-    if is_inside(bounds, block, low, high) {
-        return push_all(ids, hits);
+
+    fn push_ids(
+        &self,
+        low: u64,
+        high: u64,
+        ids: Range<u32>,
+        hits: &mut Vec<u32>,
+    ) -> Result<(), AllocError> {
+        self.bit_unpacker.push_ids(low, high, ids, self.bytes, hits)
     }
-    bit_unpacker.push_ids(low, high, ids, bytes, hits)
 }
 
 // Steps are packed in place of values.

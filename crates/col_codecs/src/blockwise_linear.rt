@@ -4,7 +4,6 @@ mod block;
 mod estimator;
 mod offsets;
 mod reader;
-mod statistics;
 mod writer;
 
 use crate::codec::ColumnCodec;

@@ -4,6 +4,7 @@
 mod bitpacked;
 mod block_bounds;
 mod blockwise_linear;
+mod bounded_items;
 mod codec;
 mod column_stats;
 mod header;

@@ -22,11 +22,11 @@ impl ColumnCodec for LinearCodec {
 
     type Estimator = LinearCodecEstimator;
 
-    fn load(_alloc: Global, bytes: Bytes) -> Result<LinearReader, ColumnarError> {
+    fn load(alloc: Global, bytes: Bytes) -> Result<LinearReader, ColumnarError> {
         let Some((stats, behind)) = take_stats(bytes) else {
             return Err(ColumnarError::InvalidData);
         };
-        LinearReader::open(stats, behind)
+        LinearReader::open(alloc, stats, behind)
     }
 
     fn estimator(alloc: Global) -> Result<LinearCodecEstimator, ColumnarError> {

@@ -121,20 +121,6 @@ impl StatsCollector {
         self.num_rows += count;
     }
 
-    /// Takes one value more, where the divisor is 1.
-    #[inline]
-    pub fn widen(&mut self, value: u64)
-        requires room { self.old.count + 1 < 2 ^ 32 }
-        requires finest { self.old.divisor ≡ 1 }
-        ensures more { (xs : List ℕ) → self.old ≡ collected_of xs →
-            self.new ≡ collected_of (xs ++ value ∷ []) }
-        ensures finest { self.new.divisor ≡ 1 }
-    {
-        self.min_value = self.min_value.min(value);
-        self.max_value = self.max_value.max(value);
-        self.num_rows += 1;
-    }
-
     /// The statistics of what was collected.
     pub fn stats(&self) -> ColumnStats
         ensures { (xs : List ℕ) → self.now ≡ collected_of xs → stats_seen result ≡ stats_of xs }

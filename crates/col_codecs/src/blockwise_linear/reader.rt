@@ -4,18 +4,21 @@ ghost use Rattle.std.specs.List.{range_with_len};
 ghost use Rattle.col_common.specs.Decoding.{Decodes};
 ghost use Rattle.col_codecs.specs.ColumnStats.{stats_seen, IsPossible};
 ghost use Rattle.col_codecs.specs.Header.{list_by};
-ghost use Rattle.col_model.specs.Codecs.{block_size, block_count};
-ghost use Rattle.col_codecs.specs.Blocks.{item_of, items_in, step_in, step_of, AreWithin, IsReader};
+ghost use Rattle.col_model.specs.Codecs.{block_size};
+ghost use Rattle.col_codecs.specs.BlockBounds.{Enclose};
+ghost use Rattle.col_codecs.specs.Blocks.{item_of, items_in, step_in, step_of, IsReader};
 
 use super::block::{Block, place_blocks, read_blocks};
-use super::statistics::are_stats_of;
+use crate::block_bounds::Bounds;
+use crate::bounded_items::{BoundedItems, find_ids, read_bounds};
 use crate::column_stats::ColumnStats;
 use crate::packing::BLOCK_LEN;
 use bytes::Bytes;
-use col_common::{ColumnarError, split_by_second};
+use col_common::{ColumnarError, RowId, split_by_second};
 use col_values::ColumnValues;
 use std::alloc::Global;
 use std::marker::Model;
+use std::ops::Range;
 
 /// A list in blocks that is read in place.
 #[derive(Drop)]
@@ -23,18 +26,23 @@ pub struct BlockwiseLinearReader {
     data: Bytes,
     blocks: Vec<Block>,
     stats: ColumnStats,
+    // The bounds of each 1,024 items.
+    bounds: Vec<Bounds>,
 }
 
 impl Model for BlockwiseLinearReader {
     ghost use Rattle.std.specs.Prelude.{List, ℕ};
     ghost use Rattle.col_codecs.specs.ColumnStats.{stats_seen};
-    ghost use Rattle.col_codecs.specs.Blocks.{items_in, IsReader};
+    ghost use Rattle.col_codecs.specs.BlockBounds.{Enclose};
+    ghost use Rattle.col_codecs.specs.Blocks.{item_of, step_of, items_in, IsReader};
 
     ghost Value = { List ℕ };
 
     ghost view = { λ r. items_in (stats_seen r.stats) r.blocks.items r.data };
 
-    ghost invariant = { λ r. IsReader (stats_seen r.stats) r.blocks.items r.data };
+    ghost invariant = { λ r. IsReader (stats_seen r.stats) r.blocks.items r.data
+        × Enclose r.bounds.items
+        (λ i. item_of (stats_seen r.stats) (step_of r.blocks.items r.data i)) r.stats.num_rows };
 }
 
 impl BlockwiseLinearReader {
@@ -47,13 +55,14 @@ impl BlockwiseLinearReader {
         requires { IsPossible (stats_seen stats) }
         ensures { Decodes (λ list. list) result (list_by 2 (stats_seen stats) bytes) }
     {
-        let (blocks, len) = read_list(alloc, &stats, bytes.as_slice())?;
+        let (blocks, bounds, len) = read_list(alloc, &stats, bytes.as_slice())?;
         let mut data = bytes;
         data.truncate(len);
         Ok(BlockwiseLinearReader {
             data,
             blocks,
             stats,
+            bounds,
         })
     }
 
@@ -66,23 +75,26 @@ impl BlockwiseLinearReader {
             data: self.data.slice(..)?,
             blocks: self.blocks.to_vec(alloc)?,
             stats: self.stats,
+            bounds: self.bounds.to_vec(alloc)?,
         })
     }
 }
 
-// The blocks of a list behind statistics, which must be its own, and how many bytes their offsets
-// take.
+// The blocks of a list behind statistics, which must be its own, the bounds of its items, and how
+// many bytes the offsets take.
 fn read_list(
     alloc: Global,
     stats: &ColumnStats,
     bytes: &[u8],
-) -> Result<(Vec<Block>, usize), ColumnarError>
-    requires { IsPossible (stats_seen stats.now) }
+) -> Result<(Vec<Block>, Vec<Bounds>, usize), ColumnarError>
     ensures list { Decodes
-        (λ r. items_in (stats_seen stats.now) r.0.items (take r.1 bytes.now)) result
+        (λ r. items_in (stats_seen stats.now) r.0.items (take r.2 bytes.now)) result
         (list_by 2 (stats_seen stats.now) bytes.now) }
     ensures reader { IfOk result
-        (λ r. IsReader (stats_seen stats.now) r.0.items (take r.1 bytes.now)) }
+        (λ r. IsReader (stats_seen stats.now) r.0.items (take r.2 bytes.now)) }
+    ensures bounds { IfOk result (λ r. Enclose r.1.items
+        (λ i. item_of (stats_seen stats.now) (step_of r.0.items (take r.2 bytes.now) i))
+        stats.now.num_rows) }
 {
     let Some((data, lines)) = split_by_second(bytes) else {
         return Err(ColumnarError::InvalidData);
@@ -91,10 +103,16 @@ fn read_list(
     if !place_blocks(stats.num_rows, &mut blocks, data) {
         return Err(ColumnarError::InvalidData);
     }
-    if !are_stats_of(stats, &blocks, data) {
+    let items = ItemsInBlocks {
+        stats: *stats,
+        blocks: &blocks,
+        bytes: data,
+    };
+    let (found, bounds) = read_bounds(alloc, &items, stats.num_rows)?;
+    if !found.is_same(stats) {
         return Err(ColumnarError::InvalidData);
     }
-    Ok((blocks, data.len()))
+    Ok((blocks, bounds, data.len()))
 }
 
 impl ColumnValues<u64> for BlockwiseLinearReader {
@@ -131,34 +149,71 @@ impl ColumnValues<u64> for BlockwiseLinearReader {
 
     fn get_range(&self, start: u64, output: &mut [u64]) {
         let _count = self.stats.num_rows;
-        read_items(
-            &self.stats,
-            &self.blocks,
-            start as u32,
-            self.data.as_slice(),
-            output,
-        );
+        let items = ItemsInBlocks {
+            stats: self.stats,
+            blocks: &self.blocks,
+            bytes: self.data.as_slice(),
+        };
+        items.read(start as u32, output);
+    }
+
+    fn get_row_ids_between(
+        &self,
+        low: u64,
+        high: u64,
+        row_ids: Range<RowId>,
+        hits: &mut Vec<RowId>,
+    ) -> Result<(), ColumnarError> {
+        let ids = row_ids.start..row_ids.end.min(self.stats.num_rows);
+        let items = ItemsInBlocks {
+            stats: self.stats,
+            blocks: &self.blocks,
+            bytes: self.data.as_slice(),
+        };
+        find_ids(&items, &self.bounds, low, high, ids, hits)
     }
 }
 
-// Reads the items from an index on, block by block.
-fn read_items(stats: &ColumnStats, blocks: &[Block], start: u32, bytes: &[u8], output: &mut [u64])
-    requires count { length blocks.now ≡ block_count stats.now.num_rows }
-    requires within { AreWithin blocks.now bytes.now }
-    requires range { start + length output.old ≤ stats.now.num_rows }
-    ensures { output.new
-        ≡ map (λ i. item_of (stats_seen stats.now) (step_of blocks.now bytes.now i))
-        (range_with_len start (length output.old)) }
-{
-    let mut filled = 0;
-    while filled < output.len() {
-        let idx = start + filled as u32;
-        let place = idx % BLOCK_LEN;
-        let len = (output.len() - filled).min((BLOCK_LEN - place) as usize);
-        let block = blocks[(idx / BLOCK_LEN) as usize];
-        let part = &mut output[filled..filled + len];
-        read_part(stats.min_value, stats.gcd, block, place, bytes, part);
-        filled += len;
+// The items of a list.
+#[derive(Clone, Copy)]
+struct ItemsInBlocks<'a> {
+    stats: ColumnStats,
+    blocks: &'a [Block],
+    bytes: &'a [u8],
+}
+
+impl BoundedItems for ItemsInBlocks<'_> {
+    ghost use Rattle.std.specs.Prelude.{◌≡◌, length};
+    ghost use Rattle.col_model.specs.Codecs.{block_count};
+    ghost use Rattle.col_codecs.specs.ColumnStats.{stats_seen};
+    ghost use Rattle.col_codecs.specs.Blocks.{item_of, step_of, AreWithin};
+
+    ghost item = { λ r i. item_of (stats_seen r.stats) (step_of r.blocks.now r.bytes.now i) };
+
+    ghost count = { λ r. r.stats.num_rows };
+
+    ghost IsWhole = { λ r. (length r.blocks.now ≡ block_count r.stats.num_rows)
+        × AreWithin r.blocks.now r.bytes.now };
+
+    // Block by block.
+    fn read(&self, start: u32, output: &mut [u64]) {
+        let mut filled = 0;
+        while filled < output.len() {
+            let idx = start + filled as u32;
+            let place = idx % BLOCK_LEN;
+            let len = (output.len() - filled).min((BLOCK_LEN - place) as usize);
+            let block = self.blocks[(idx / BLOCK_LEN) as usize];
+            let part = &mut output[filled..filled + len];
+            read_part(
+                self.stats.min_value,
+                self.stats.gcd,
+                block,
+                place,
+                self.bytes,
+                part,
+            );
+            filled += len;
+        }
     }
 }
 

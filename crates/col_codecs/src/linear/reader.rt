@@ -1,25 +1,29 @@
 //! Lists under Linear, read in place.
-ghost use Rattle.std.specs.Prelude.{◌≡◌, ◌≤◌, ◌+◌, ◌*◌, ◌^◌, ◌&&◌, length, drop, map, option_map, IfSome, IfOk, IfErr, IsTrue};
-ghost use Rattle.std.specs.List.{range_with_len};
+ghost use Rattle.std.specs.Prelude.{◌≡◌, ◌≤◌, ◌*◌, ◌&&◌, length, drop, option_map, IfSome, IfOk, IfErr, IsTrue};
 ghost use Rattle.col_common.specs.Decoding.{Decodes};
+ghost use Rattle.col_common.specs.Reading.{only_if};
 ghost use Rattle.col_bits.specs.Packed.{is_width, is_packed};
 ghost use Rattle.col_model.specs.Stats.{stats_of, same_stats};
 ghost use Rattle.col_model.specs.U64List.{params_at};
 ghost use Rattle.col_model.specs.Items.{linear_item, linear_items};
-ghost use Rattle.col_codecs.specs.ColumnStats.{stats_seen, collected_of};
+ghost use Rattle.col_codecs.specs.ColumnStats.{stats_seen};
+ghost use Rattle.col_codecs.specs.BlockBounds.{Enclose};
 ghost use Rattle.col_codecs.specs.Header.{list_by};
 ghost use Rattle.col_codecs.specs.Line.{with_width};
 ghost use Rattle.col_codecs.specs.LinearParams.{params_seen};
 
+use crate::block_bounds::Bounds;
+use crate::bounded_items::{BoundedItems, find_ids, read_bounds};
 use crate::column_stats::ColumnStats;
 use crate::line::Line;
 use crate::linear_params::LinearParams;
-use crate::stats_collector::StatsCollector;
 use bytes::Bytes;
 use col_bits::{BitUnpacker, is_packed};
-use col_common::ColumnarError;
+use col_common::{ColumnarError, RowId};
 use col_values::ColumnValues;
+use std::alloc::Global;
 use std::marker::Model;
+use std::ops::Range;
 
 /// A list that is read in place.
 #[derive(Drop)]
@@ -28,39 +32,46 @@ pub struct LinearReader {
     line: Line,
     bit_unpacker: BitUnpacker,
     stats: ColumnStats,
+    // The bounds of the items of each block.
+    bounds: Vec<Bounds>,
 }
 
 impl Model for LinearReader {
     ghost use Rattle.std.specs.Prelude.{◌≡◌, List, ℕ};
     ghost use Rattle.col_model.specs.Stats.{stats_of};
-    ghost use Rattle.col_model.specs.Items.{linear_items};
+    ghost use Rattle.col_model.specs.Items.{linear_item, linear_items};
     ghost use Rattle.col_codecs.specs.ColumnStats.{stats_seen};
+    ghost use Rattle.col_codecs.specs.BlockBounds.{Enclose};
     ghost use Rattle.col_codecs.specs.Line.{with_width};
 
     ghost Value = { List ℕ };
 
     ghost view = { λ r. linear_items (with_width r.line r.bit_unpacker) r.data r.stats.num_rows };
 
-    ghost invariant = { λ r. stats_seen r.stats
-        ≡ stats_of (linear_items (with_width r.line r.bit_unpacker) r.data r.stats.num_rows) };
+    ghost invariant = { λ r. let l = with_width r.line r.bit_unpacker in
+        (stats_seen r.stats ≡ stats_of (linear_items l r.data r.stats.num_rows))
+        × Enclose r.bounds.items (linear_item l r.data) r.stats.num_rows };
 }
 
 impl LinearReader {
     /// Opens a line and offsets behind statistics, which must be those of the list.
-    pub fn open(stats: ColumnStats, bytes: Bytes) -> Result<LinearReader, ColumnarError>
+    pub fn open(
+        alloc: Global,
+        stats: ColumnStats,
+        bytes: Bytes,
+    ) -> Result<LinearReader, ColumnarError>
         ensures { Decodes (λ list. list) result (list_by 1 (stats_seen stats) bytes) }
     {
         let Some((params, data)) = take_params(bytes) else {
             return Err(ColumnarError::InvalidData);
         };
-        if !is_list(&stats, params, data.as_slice()) {
-            return Err(ColumnarError::InvalidData);
-        }
+        let bounds = read_list(alloc, &stats, params, data.as_slice())?;
         Ok(LinearReader {
             data,
             line: params.line,
             bit_unpacker: BitUnpacker::new(params.offset_width),
             stats,
+            bounds,
         })
     }
 
@@ -74,6 +85,7 @@ impl LinearReader {
             line: self.line,
             bit_unpacker: self.bit_unpacker,
             stats: self.stats,
+            bounds: self.bounds.clone()?,
         })
     }
 }
@@ -110,13 +122,54 @@ impl ColumnValues<u64> for LinearReader {
 
     fn get_range(&self, start: u64, output: &mut [u64]) {
         let _count = self.stats.num_rows;
-        read_items(
-            self.line,
-            self.bit_unpacker,
-            start as u32,
-            self.data.as_slice(),
-            output,
-        );
+        let items = LinearItems {
+            line: self.line,
+            bit_unpacker: self.bit_unpacker,
+            bytes: self.data.as_slice(),
+        };
+        items.read(start as u32, output);
+    }
+
+    fn get_row_ids_between(
+        &self,
+        low: u64,
+        high: u64,
+        row_ids: Range<RowId>,
+        hits: &mut Vec<RowId>,
+    ) -> Result<(), ColumnarError> {
+        let ids = row_ids.start..row_ids.end.min(self.stats.num_rows);
+        let items = LinearItems {
+            line: self.line,
+            bit_unpacker: self.bit_unpacker,
+            bytes: self.data.as_slice(),
+        };
+        find_ids(&items, &self.bounds, low, high, ids, hits)
+    }
+}
+
+// The items of a list.
+#[derive(Clone, Copy)]
+struct LinearItems<'a> {
+    line: Line,
+    bit_unpacker: BitUnpacker,
+    bytes: &'a [u8],
+}
+
+impl BoundedItems for LinearItems<'_> {
+    ghost use Rattle.std.specs.Prelude.{◌^◌};
+    ghost use Rattle.col_model.specs.Items.{linear_item};
+    ghost use Rattle.col_codecs.specs.Line.{with_width};
+
+    ghost item = { λ l. linear_item (with_width l.line l.bit_unpacker) l.bytes.now };
+
+    ghost count = { λ _. 2 ^ 32 };
+
+    ghost IsWhole = { λ _. Unit {0} };
+
+    fn read(&self, start: u32, output: &mut [u64]) {
+        for at in 0..output.len() {
+            output[at] = item_at(self.line, self.bit_unpacker, start + at as u32, self.bytes);
+        }
     }
 }
 
@@ -142,19 +195,36 @@ fn read_params(bytes: &[u8]) -> Option<(LinearParams, usize)>
     Some((params, bytes.len() - rest.len()))
 }
 
-// Whether the bytes are packed offsets, and these are the statistics of the items.
-fn is_list(stats: &ColumnStats, params: LinearParams, bytes: &[u8]) -> bool
+// The bounds of the blocks of the items, where the bytes are packed offsets, and the statistics are
+// those of the items.
+fn read_list(
+    alloc: Global,
+    stats: &ColumnStats,
+    params: LinearParams,
+    bytes: &[u8],
+) -> Result<Vec<Bounds>, ColumnarError>
     requires { IsTrue (is_width params.offset_width) }
-    ensures { result ≡ (is_packed bytes.now (stats.now.num_rows * params.offset_width)
-        && same_stats (stats_of (linear_items (params_seen params) bytes.now stats.now.num_rows))
-        (stats_seen stats.now)) }
+    ensures list { let list = linear_items (params_seen params) bytes.now stats.now.num_rows in
+        Decodes (λ _. list) result (only_if (is_packed bytes.now
+        (stats.now.num_rows * params.offset_width)
+        && same_stats (stats_of list) (stats_seen stats.now)) list) }
+    ensures bounds { IfOk result (λ bs.
+        Enclose bs.items (linear_item (params_seen params) bytes.now) stats.now.num_rows) }
 {
     let num_bits = stats.num_rows as usize * params.offset_width as usize;
     if !is_packed(bytes, num_bits) {
-        return false;
+        return Err(ColumnarError::InvalidData);
     }
-    let bit_unpacker = BitUnpacker::new(params.offset_width);
-    stats_of_items(params.line, bit_unpacker, bytes, stats.num_rows).is_same(stats)
+    let items = LinearItems {
+        line: params.line,
+        bit_unpacker: BitUnpacker::new(params.offset_width),
+        bytes,
+    };
+    let (found, bounds) = read_bounds(alloc, &items, stats.num_rows)?;
+    if !found.is_same(stats) {
+        return Err(ColumnarError::InvalidData);
+    }
+    Ok(bounds)
 }
 
 // The line's value at an index plus the offset there, modulo 2^64.
@@ -163,53 +233,4 @@ fn item_at(line: Line, bit_unpacker: BitUnpacker, idx: u32, bytes: &[u8]) -> u64
     ensures { result ≡ linear_item (with_width line bit_unpacker) bytes.now idx }
 {
     line.eval(idx).wrapping_add(bit_unpacker.get(idx, bytes))
-}
-
-// The statistics of the items.
-fn stats_of_items(line: Line, bit_unpacker: BitUnpacker, bytes: &[u8], count: u32) -> ColumnStats
-    ensures { stats_seen result
-        ≡ stats_of (linear_items (with_width line bit_unpacker) bytes.now count) }
-{
-    let mut collector = StatsCollector::default();
-    for idx in 0..count {
-        if collector.is_finest() {
-            return widen_by_items(collector, line, bit_unpacker, bytes, idx, count);
-        }
-        collector.collect(item_at(line, bit_unpacker, idx, bytes));
-    }
-    collector.stats()
-}
-
-// The same from an item on. The divisor is 1, so that bounds alone are left to be found.
-fn widen_by_items(
-    collector: StatsCollector,
-    line: Line,
-    bit_unpacker: BitUnpacker,
-    bytes: &[u8],
-    start: u32,
-    count: u32,
-) -> ColumnStats
-    requires ordered { start ≤ count }
-    requires finest { collector.divisor ≡ 1 }
-    requires collected { collector
-        ≡ collected_of (linear_items (with_width line bit_unpacker) bytes.now start) }
-    ensures { stats_seen result
-        ≡ stats_of (linear_items (with_width line bit_unpacker) bytes.now count) }
-{
-    let mut collector = collector;
-    for idx in start..count {
-        collector.widen(item_at(line, bit_unpacker, idx, bytes));
-    }
-    collector.stats()
-}
-
-// Reads the items from an index on.
-fn read_items(line: Line, bit_unpacker: BitUnpacker, start: u32, bytes: &[u8], output: &mut [u64])
-    requires { start + length output.old ≤ 2 ^ 32 }
-    ensures { output.new ≡ map (linear_item (with_width line bit_unpacker) bytes.now)
-        (range_with_len start (length output.old)) }
-{
-    for at in 0..output.len() {
-        output[at] = item_at(line, bit_unpacker, start + at as u32, bytes);
-    }
 }

@@ -9,7 +9,7 @@ use Rattle.col_codecs.specs.BlockBounds.{Enclose}
 use Rattle.col_codecs.specs.ColumnStats.{stats_seen}
 use Rattle.col_codecs.specs.Header.{checked, list_by}
 use Rattle.col_codecs.proofs.BitpackedLemmas.{list_by-other, list_by-packed, IsReader-same}
-use Rattle.col_codecs.proofs.BlockStatsLemmas.{only_if-some}
+use Rattle.col_codecs.proofs.HeaderLemmas.{only_if-some}
 use Rattle.col_codecs.proofs.bitpacked.BitpackedReader.open.Goals as goal
 
 tested : (s : Stats) (bytes read : List ℕ) (w k : ℕ) (b test : Bool) → read ≡ bytes → w ≡ width k → k ≡ steps_of s → test ≡ b → test ≡ is_packed read (s.count * w) → is_packed bytes (s.count * width (steps_of s)) ≡ b

@@ -1,6 +1,7 @@
 use Rattle.std.proofs.Common.{ap, sym, ◌∙◌}
 use Rattle.col_model.specs.Stats.{greatest_of}
-use Rattle.col_codecs.proofs.BoundsLemmas.{stats_of-greatest, greatest-above}
+use Rattle.col_model.proofs.StatsLaws.{greatest-above}
+use Rattle.col_codecs.proofs.BoundsLemmas.{stats_of-greatest}
 use Rattle.col_codecs.proofs.bitpacked.BitpackedReaderColumnValuesU64.max_value.Goals as goal
 
 pub returns-clause-value : goal.returns-clause-value

@@ -1,6 +1,7 @@
 use Rattle.std.proofs.Common.{ap, sym, ◌∙◌}
 use Rattle.col_model.specs.Stats.{least_of}
-use Rattle.col_codecs.proofs.BoundsLemmas.{stats_of-least, least-below}
+use Rattle.col_model.proofs.StatsLaws.{least-below}
+use Rattle.col_codecs.proofs.BoundsLemmas.{stats_of-least}
 use Rattle.col_codecs.proofs.bitpacked.BitpackedReaderColumnValuesU64.min_value.Goals as goal
 
 pub returns-clause-value : goal.returns-clause-value

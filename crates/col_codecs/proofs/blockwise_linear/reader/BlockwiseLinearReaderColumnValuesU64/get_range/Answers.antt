@@ -11,8 +11,8 @@ overflow_cast-start c =
     let r = c.self.inside in
     omega (arith, c.requires, ap length c.self.view_is, length-items_in (stats_seen r.stats) r.blocks.items r.data)
 
-pub read_items-requires-clause-range : goal.read_items-requires-clause-range
-read_items-requires-clause-range c =
+pub read-requires-clause-within : goal.read-requires-clause-within
+read-requires-clause-within c =
     let r = c.self.inside in
     omega (arith, c.requires, ap length c.self.view_is, length-items_in (stats_seen r.stats) r.blocks.items r.data)
 
@@ -23,7 +23,7 @@ returns c =
     let n = length c.args.output.now in
     let within : c.args.start + n ≤ r.stats.num_rows = omega (arith, c.requires, ap length c.self.view_is, length-items_in s r.blocks.items r.data) in
     rw (← c.self.view_is)
-    (c.read_items.ensures
+    (c.read.ensures
     ∙ ap (λ (bs : List Block). map (own_item s bs c.as_slice.result.now) (range_with_len c.args.start n)) c.deref.ensures.value
     ∙ ap (λ bytes. map (own_item s r.blocks.items bytes) (range_with_len c.args.start n)) c.as_slice.ensures
     ∙ items_in-part s r.blocks.items r.data c.args.start n within)

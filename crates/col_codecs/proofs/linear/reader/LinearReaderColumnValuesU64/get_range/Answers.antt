@@ -11,8 +11,8 @@ overflow_cast-start c =
     let r = c.self.inside in
     omega (arith, c.requires, ap length c.self.view_is, length-linear_items (with_width r.line r.bit_unpacker) r.data r.stats.num_rows)
 
-pub read_items-requires : goal.read_items-requires
-read_items-requires c =
+pub read-requires-clause-within : goal.read-requires-clause-within
+read-requires-clause-within c =
     let r = c.self.inside in
     omega (arith, c.requires, ap length c.self.view_is, length-linear_items (with_width r.line r.bit_unpacker) r.data r.stats.num_rows)
 
@@ -22,4 +22,4 @@ returns c =
     let l = with_width r.line r.bit_unpacker in
     let within : c.args.start + length c.args.output.now ≤ r.stats.num_rows = omega (arith, c.requires, ap length c.self.view_is, length-linear_items l r.data r.stats.num_rows) in
     rw (← c.self.view_is)
-    (c.read_items.ensures ∙ ap (λ b. map (linear_item l b) (range_with_len c.args.start (length c.args.output.now))) c.as_slice.ensures ∙ linear_items-part l r.data r.stats.num_rows c.args.start (length c.args.output.now) within)
+    (c.read.ensures ∙ ap (λ b. map (linear_item l b) (range_with_len c.args.start (length c.args.output.now))) c.as_slice.ensures ∙ linear_items-part l r.data r.stats.num_rows c.args.start (length c.args.output.now) within)

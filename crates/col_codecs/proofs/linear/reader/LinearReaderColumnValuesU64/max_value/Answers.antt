@@ -1,10 +1,11 @@
 use Rattle.std.proofs.Common.{ap, ◌∙◌}
 use Rattle.col_model.specs.Stats.{greatest_of}
-use Rattle.col_codecs.proofs.BoundsLemmas.{stats_of-greatest, greatest-above}
+use Rattle.col_model.proofs.StatsLaws.{greatest-above}
+use Rattle.col_codecs.proofs.BoundsLemmas.{stats_of-greatest}
 use Rattle.col_codecs.proofs.linear.reader.LinearReaderColumnValuesU64.max_value.Goals as goal
 
 pub returns-clause-value : goal.returns-clause-value
-returns-clause-value c = ap (λ s. s.greatest) c.self.invariant ∙ stats_of-greatest _ ∙ ap greatest_of c.self.view_is
+returns-clause-value c = ap (λ s. s.greatest) c.self.invariant.0 ∙ stats_of-greatest _ ∙ ap greatest_of c.self.view_is
 
 pub returns-clause-encloses : goal.returns-clause-encloses
-returns-clause-encloses c = greatest-above c.args.self.now c.self.inside.stats.max_value (ap (λ s. s.greatest) c.self.invariant ∙ stats_of-greatest _ ∙ ap greatest_of c.self.view_is)
+returns-clause-encloses c = greatest-above c.args.self.now c.self.inside.stats.max_value (ap (λ s. s.greatest) c.self.invariant.0 ∙ stats_of-greatest _ ∙ ap greatest_of c.self.view_is)

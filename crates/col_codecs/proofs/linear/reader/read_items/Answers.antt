@@ -1,8 +1,0 @@
-use Rattle.std.proofs.Common.{length, arith}
-use Rattle.col_model.specs.Items.{linear_item}
-use Rattle.col_codecs.specs.Line.{with_width}
-use Rattle.col_codecs.proofs.LinearReaderLemmas.{filled_from}
-use Rattle.col_codecs.proofs.linear.reader.read_items.Goals as goal
-
-pub returns : goal.returns
-returns c = filled_from (linear_item (with_width c.args.line c.args.bit_unpacker) c.args.bytes.now) c.args.start (length c.args.output.now) c.loop-at.output (omega arith) (λ k h. c.loop-at.invariant k (omega (arith, h)))

@@ -1,8 +1,0 @@
-use Rattle.std.proofs.Common.{◌≡◌}
-use Rattle.col_model.specs.Items.{linear_items}
-use Rattle.col_codecs.specs.ColumnStats.{collected_of}
-use Rattle.col_codecs.specs.Line.{with_width}
-use Rattle.col_codecs.proofs.linear.reader.stats_of_items.Given as goal
-
-abbrev pub invariant-loop-idx : goal.invariant-loop-idx
-invariant-loop-idx l = l.collector ≡ collected_of (linear_items (with_width l.line l.bit_unpacker) l.bytes l.idx)
