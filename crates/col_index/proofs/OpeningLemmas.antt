@@ -9,7 +9,7 @@ use Rattle.col_common.specs.VInt.{vint, vint_bytes}
 use Rattle.col_common.proofs.VIntLemmas.{vint_bytes-vint}
 use Rattle.col_model.specs.Index.{RowSet, row_set, row_offsets}
 use Rattle.col_model.specs.U64List.{values64}
-use Rattle.col_codecs.proofs.BlockStatsLemmas.{only_if-none}
+use Rattle.col_codecs.proofs.HeaderLemmas.{only_if-none}
 use Rattle.col_index.specs.Sets.{is_row_list, set_by}
 use Rattle.col_index.specs.Offsets.{offsets_by}
 use Rattle.col_index.specs.Opening.{row_count}

@@ -1,17 +1,13 @@
 -- The values of rows, each beside its row.
-use Rattle.std.proofs.Common.{◌≡◌, ℕ, ◌+◌, ◌-◌, ◌<◌, ◌^◌, nat_lt, not, true, false, [], ◌∷◌, ◌++◌, length, get_or, sym, ap, ◌∙◌, arith}
-use Rattle.std.specs.List.{list_all}
-use Rattle.std.proofs.lemmas.Bool.{and_from, eqb-true}
+use Rattle.std.proofs.Common.{◌≡◌, ℕ, ◌+◌, ◌-◌, ◌<◌, not, true, false, [], ◌∷◌, ◌++◌, length, get_or, sym, ap, ◌∙◌, arith}
+use Rattle.std.proofs.lemmas.Bool.{eqb-true}
 use Rattle.std.proofs.lemmas.List.FromFn.{map-range_with_len_more}
-use Rattle.col_model.specs.Ascending.{is_rising}
 use Rattle.col_model.specs.Index.{RowOffsets, offset_counts, multivalued_shape}
 use Rattle.col_model.specs.Positions.{rank, start_of, values_in}
 use Rattle.col_index.specs.Offsets.{AreOffsets, run}
 use Rattle.col_index.specs.Sets.{holds}
 use Rattle.col_index.proofs.RankLaws.{rows_rise}
-use Rattle.col_index.proofs.StartLemmas.{start_list-parts}
 use Rattle.col_index.proofs.HeldLaws.{holds-rank}
-use Rattle.col_index.proofs.SetLemmas.{few_rows}
 use Rattle.col_index.proofs.CountLaws.{offset_counts-start, offset_counts-held, offset_counts-none}
 
 -- one more
@@ -36,13 +32,7 @@ module _ (o : RowOffsets) (a : AreOffsets o) (doc : ℕ) where
       omega (arith, offset_counts-held o a doc h, next, same, offset_counts-start o a doc) in
       ap (λ n. run doc n (end - start)) same ∙ ap (run doc (start_of (offset_counts o) doc)) count
 
--- ---- ranks are numbers of 32 bits
-
--- there are fewer rows with a value than offsets
-pub few_held : (o : RowOffsets) → AreOffsets o → length o.set.rows < 2 ^ 32
-few_held o a =
-    let s = start_list-parts (length o.set.rows) o.starts a.starts in
-    omega (arith, few_rows (2 ^ 32) o.starts (and_from (is_rising o.starts) (list_all (λ n. nat_lt n (2 ^ 32)) o.starts) s.rising s.small), s.count)
+-- ---- ranks of rows that are in
 
 -- the rank of a row that is in is one of them
 pub held-inside : (o : RowOffsets) → AreOffsets o → (doc k : ℕ) → k ≡ rank o.set.rows doc → holds o.set.rows doc ≡ true → k < length o.set.rows

@@ -92,6 +92,7 @@ impl ColumnIndex {
     }
 
     /// The positions of a row's values.
+    #[inline(always)]
     pub fn value_row_ids(&self, doc_id: DocId) -> Range<RowId>
         requires { shape_of self.now ≡ full_shape → doc_id < 2 ^ 32 - 1 }
         ensures start { result.start ≡ (positions_in (shape_of self.now) doc_id).0 }

@@ -63,6 +63,7 @@ impl MultiValueIndex {
     }
 
     /// The positions of a row's values; 0..0 for a number that is no row.
+    #[inline(always)]
     pub fn range(&self, doc_id: DocId) -> Range<RowId>
         ensures start { result.start ≡ (index_range (counts_of self.now) doc_id).0 }
         ensures end { result.end ≡ (index_range (counts_of self.now) doc_id).1 }

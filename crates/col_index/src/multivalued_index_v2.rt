@@ -143,7 +143,7 @@ impl MultiValueIndexV2 {
     }
 
     // Where the values of the row with a rank start.
-    #[inline]
+    #[inline(always)]
     fn start_at(&self, rank: RowId) -> RowId
         requires { rank ≤ length self.now.set.rows }
         ensures { result ≡ slice_index self.now.starts rank }
@@ -152,15 +152,14 @@ impl MultiValueIndexV2 {
     }
 
     // The positions of the values of the row with a rank.
-    #[inline]
+    #[inline(always)]
     fn range_at(&self, rank: RowId) -> Range<RowId>
         requires { rank < length self.now.set.rows }
         ensures start { result.start ≡ slice_index self.now.starts rank }
         ensures end { result.end ≡ slice_index self.now.starts (rank + 1) }
     {
-        // There are fewer offsets than 2 ^ 32.
-        let _ = &self.start_index_column;
-        self.start_at(rank)..self.start_at(rank + 1)
+        let (start, end) = self.start_index_column.get_pair(rank);
+        start as RowId..end as RowId
     }
 
     /// How many values stand before a row.
@@ -171,6 +170,7 @@ impl MultiValueIndexV2 {
     }
 
     /// The positions of a row's values.
+    #[inline(always)]
     pub fn range(&self, doc_id: DocId) -> Range<RowId>
         ensures start { result.start ≡ (index_range (offset_counts self.now) doc_id).0 }
         ensures end { result.end ≡ (index_range (offset_counts self.now) doc_id).1 }

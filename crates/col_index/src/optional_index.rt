@@ -233,6 +233,7 @@ impl OptionalIndex {
     }
 
     /// The positions of a row's values.
+    #[inline(always)]
     pub(crate) fn range(&self, doc_id: DocId) -> Range<RowId>
         ensures start { result.start ≡ (index_range (set_counts self.now) doc_id).0 }
         ensures end { result.end ≡ (index_range (set_counts self.now) doc_id).1 }

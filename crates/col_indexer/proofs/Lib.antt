@@ -1,19 +1,19 @@
-mod CountedLemmas
-mod SegmentCountLemmas
-mod SegmentLemmas
+pub mod CountedLemmas
+pub mod SegmentCountLemmas
+pub mod SegmentLemmas
 mod UniformLemmas
 mod StackedStartLemmas
 mod StackedWalkLemmas
 mod StackedOffsetLemmas
 mod StackedMergeLemmas
 mod CollectedLemmas
-mod ShuffleLemmas
-mod ValueCountLemmas
+pub mod ShuffleLemmas
+pub mod ValueCountLemmas
 mod ByteCountLemmas
 mod SpellingLemmas
 mod WritingLemmas
-mod TightestLemmas
-mod MergeLemmas
+pub mod TightestLemmas
+pub mod MergeLemmas
 mod RecordedLists
 mod BuilderLemmas
 mod FinishLemmas

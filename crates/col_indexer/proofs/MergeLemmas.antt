@@ -34,7 +34,7 @@ tightest-optional cs e = optional_by (list_all (λ c. c == 1) cs) (list_all (λ 
 
 -- ---- an index of each cardinality counts the rows
 
-all_ones : (cs : List ℕ) → list_all (λ c. c == 1) cs ≡ true → replicate (length cs) 1 ≡ cs
+pub all_ones : (cs : List ℕ) → list_all (λ c. c == 1) cs ≡ true → replicate (length cs) 1 ≡ cs
 all_ones [] e = refl
 all_ones (c ∷ cs) e =
     let parts = and_parts (c == 1) (list_all (λ d. d == 1) cs) e in

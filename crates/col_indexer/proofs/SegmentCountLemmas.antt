@@ -16,7 +16,7 @@ length-counts_in n (optional_shape cs) e = eqb-true (length cs) n e
 length-counts_in n (multivalued_shape cs) e = eqb-true (length cs) n e
 
 -- a list read place by place
-read_one_by_one : (n : ℕ) (cs : List ℕ) → length cs ≡ n → map (λ row. get_or cs row 0) (range_with_len 0 n) ≡ cs
+pub read_one_by_one : (n : ℕ) (cs : List ℕ) → length cs ≡ n → map (λ row. get_or cs row 0) (range_with_len 0 n) ≡ cs
 read_one_by_one n cs e = sym (fill_by_all (λ row. get_or cs row 0) cs n 0 e (λ k h. refl))
 
 -- counts of a shape, row by row

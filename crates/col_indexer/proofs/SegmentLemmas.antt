@@ -15,7 +15,7 @@ use Rattle.col_indexer.specs.Stacks.{Segments, stacked_counts, segment_counts, c
 use Rattle.col_indexer.proofs.SegmentCountLemmas.{length-counts_in, counts_one_by_one}
 
 -- the shape of a segment, by its number
-abbrev shape_at : List Shape → ℕ → Shape
+abbrev pub shape_at : List Shape → ℕ → Shape
 shape_at shapes k = get_or shapes k (empty_shape 0)
 
 -- the counts of segments with these row counts and shapes
@@ -27,15 +27,15 @@ joined (n ∷ ns) (s ∷ ss) = counts_in n s ++ joined ns ss
 -- ---- all segments
 
 -- the counts of picks
-picked : List Shape → List (ℕ × ℕ) → List ℕ
+pub picked : List Shape → List (ℕ × ℕ) → List ℕ
 picked shapes picks = map (λ (p : ℕ × ℕ). count_in (shape_at shapes p.0) p.1) picks
 
 -- the picks of a segment
-abbrev rows_of : ℕ × ℕ → List (ℕ × ℕ)
+abbrev pub rows_of : ℕ × ℕ → List (ℕ × ℕ)
 rows_of p = map (λ r. (p.0, r)) (range_with_len 0 p.1)
 
 -- picks of one segment
-picked-one : (shapes : List Shape) (k n : ℕ) (s : Shape) → shape_at shapes k ≡ s → is_over n s ≡ true → picked shapes (rows_of (k, n)) ≡ counts_in n s
+pub picked-one : (shapes : List Shape) (k n : ℕ) (s : Shape) → shape_at shapes k ≡ s → is_over n s ≡ true → picked shapes (rows_of (k, n)) ≡ counts_in n s
 unfolding picked
 picked-one shapes k n s e over =
     let pair : ℕ → ℕ × ℕ = λ r. (k, r) in

@@ -4,18 +4,20 @@ use Rattle.std.specs.List.{list_all, AllByRecursion}
 use Rattle.std.proofs.Math.Bool.{and-true}
 use Rattle.std.proofs.lemmas.Bool.{and_from, and_parts, and_right}
 use Rattle.std.proofs.lemmas.Bool.Decides.{nat_tests}
-use Rattle.std.proofs.lemmas.List.Folds.{list_all_at, list_all_more}
+use Rattle.std.proofs.lemmas.List.Folds.{list_all_at, list_all_more, list_all-map}
 use Rattle.std.proofs.lemmas.Grind.{common_steps}
 use Rattle.std.proofs.lemmas.Option.{slice_get_cases, gets}
 use Rattle.col_model.specs.Index.{RowSet, set_counts, empty_shape, full_shape}
 use Rattle.col_model.specs.Order.{has_row}
 use Rattle.col_model.specs.Positions.{picked_counts, count_in}
-use Rattle.col_model.specs.Table.{full, optional, multivalued}
+use Rattle.col_model.specs.Table.{full, optional, multivalued, Cell}
+use Rattle.col_model.specs.Limits.{tightest}
 use Rattle.col_index.specs.Sets.{AreRows, holds}
 use Rattle.col_index.specs.Indexes.{shape_of}
 use Rattle.col_index.proofs.CountLaws.{set_counts-at}
 use Rattle.col_index.specs.declared.column_index.ColumnIndex.{ColumnIndex}
 use Rattle.col_indexer.specs.Counted.{tightest_of, HasFew}
+use Rattle.col_model.specs.Table as tables
 
 -- no row has more than one value
 abbrev pub AreFew : List ℕ → Type 0
@@ -101,7 +103,7 @@ full-at [] all k h = absurd (omega arith)
 full-at (i ∷ is) all zero h = all.0
 full-at (i ∷ is) all (suc k) h = full-at is all.1 k (omega arith)
 
-segment_named : (counts : List ℕ) (p : ℕ × ℕ) → has_row counts p ≡ true → p.0 < length counts
+pub segment_named : (counts : List ℕ) (p : ℕ × ℕ) → has_row counts p ≡ true → p.0 < length counts
 segment_named counts p h = grind (arith, common_steps, gets, slice_get_cases counts p.0)
 
 one_test : (n : ℕ) → n ≡ 1 → (n == 1) ≡ true
@@ -115,3 +117,8 @@ ones-picked indexes counts all long (p ∷ ps) named =
     let within = segment_named counts p parts.0 in
     let one = ap (λ s. count_in s p.1) (full-at indexes all p.0 (omega arith)) in
     and_from (count_in (slice_index_or (map shape_of indexes) p.0 (empty_shape 0)) p.1 == 1) _ (one_test _ one) (ones-picked indexes counts all long ps parts.1)
+
+-- the tightest cardinality is that of their counts
+pub tightest-counts : (rows : List (List Cell)) → tightest rows ≡ tightest_of (map length rows)
+tightest-counts rows =
+    λ i. cond (sym (list_all-map (λ c. c == 1) length rows) i) tables.full (cond (sym (list_all-map (λ c. nat_le c 1) length rows) i) tables.optional tables.multivalued)

@@ -7,7 +7,7 @@ use Rattle.col_model.specs.Index.{Shape, empty_shape, full_shape, optional_shape
 use Rattle.col_model.specs.Positions.{count_in, start_of, index_range, positions_in}
 
 -- of a row that is there
-within_counts : (cs : List ℕ) (row : ℕ) → row < length cs → (start_of cs row ≤ start_of cs (row + 1)) × (start_of cs (row + 1) - start_of cs row ≡ get_or cs row 0)
+pub within_counts : (cs : List ℕ) (row : ℕ) → row < length cs → (start_of cs row ≤ start_of cs (row + 1)) × (start_of cs (row + 1) - start_of cs row ≡ get_or cs row 0)
 within_counts cs row h = let more = sum_by_more (λ x. x) cs row 0 h in (omega arith, omega arith)
 
 -- of any number

@@ -16,8 +16,8 @@ mod writing_laws;
 pub use merge::{merge_column_index, merge_column_index_shuffled, merge_column_index_stacked};
 pub use row_ids::RowIds;
 pub use serialize::{
-    SerializableColumnIndex, SerializableMultivalueIndex, SerializableOptionalIndex, collected,
-    collected_with_capacity, serialize_optional_index,
+    SerializableColumnIndex, SerializableMultivalueIndex, SerializableOptionalIndex,
+    serialize_optional_index,
 };
 pub use serialize_index::{serialize_column_index, serialize_multivalued_index};
 pub use shuffled::{ShuffledRowIds, ShuffledStartOffsets};

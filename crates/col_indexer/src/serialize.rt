@@ -234,18 +234,8 @@ fn serialize_stacked_starts<K: Sink>(
     serialize_list(alloc, &items.as_slice(), sink)
 }
 
-/// The items of a list, in memory.
-pub fn collected<T, I>(alloc: Global, list: &I) -> Result<Vec<T>, AllocError>
-where
-    T: Copy,
-    I: Iterable<T>,
-    ensures { IfOk result (λ v. v.items ≡ I.items list.now) }
-{
-    collected_with_capacity(alloc, list, 0)
-}
-
-/// The same, with room for so many items from the start.
-pub fn collected_with_capacity<T, I>(
+// The items of a list, in memory, with room for so many from the start.
+fn collected_with_capacity<T, I>(
     alloc: Global,
     list: &I,
     capacity: usize,

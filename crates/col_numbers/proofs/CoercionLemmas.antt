@@ -8,11 +8,11 @@ use Rattle.std.proofs.lemmas.Int.{ints}
 use Rattle.std.proofs.lemmas.List.Elements.{All-from_recursion, recursion_from_All, All-contains}
 use Rattle.std.proofs.lemmas.List.Sums.{AllPass-from_list_all, list_all-from_AllPass}
 use Rattle.col_model.specs.Column.{signed_of}
+use Rattle.col_model.proofs.TestLaws.{both-ways}
 use Rattle.col_values.specs.Monotonic.{Passes}
 use Rattle.col_values.specs.Values.{IsAtMost}
 use Rattle.col_values.specs.Codes.{is_below, number_cmp}
 use Rattle.col_numbers.specs.Views.{is_seen}
-use Rattle.col_numbers.proofs.ImageLemmas.{same_test}
 use Rattle.col_numbers.specs.Coercions.{fits_i64, is_not_negative, is_in_half, moved}
 
 -- ---- one bound tells of all
@@ -21,7 +21,7 @@ use Rattle.col_numbers.specs.Coercions.{fits_i64, is_not_negative, is_in_half, m
 pub bound_tells : {X : Type 0} (test : X → Bool) (values : List X) (bound : X) → (values ≡ [] → test bound ≡ true) → (0 < length values → Contains values bound) → (test bound ≡ true → All (Passes test) values) → test bound ≡ list_all test values
 bound_tells test [] bound none some each = none refl
 bound_tells test (x ∷ xs) bound none some each =
-    same_test _ _ (λ t. list_all-from_AllPass test (x ∷ xs) (each t)) (λ t. All-contains (Passes test) (x ∷ xs) bound (AllPass-from_list_all test (x ∷ xs) t) (some (omega arith)))
+    both-ways _ _ (λ t. list_all-from_AllPass test (x ∷ xs) (each t)) (λ t. All-contains (Passes test) (x ∷ xs) bound (AllPass-from_list_all test (x ∷ xs) t) (some (omega arith)))
 
 pub below_fits : (greatest n : ℕ) → IsAtMost number_cmp n greatest → fits_i64 greatest ≡ true → Passes fits_i64 n
 below_fits greatest n h t = grind (arith, nat_tests)

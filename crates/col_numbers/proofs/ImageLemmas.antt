@@ -1,5 +1,5 @@
 -- Lists of numbers that stand for values of a type.
-use Rattle.std.proofs.Common.{◌≡◌, ℕ, zero, suc, ◌<◌, ◌≤◌, ◌^◌, nat_lt, min, max, fold, Bool, true, false, List, [], ◌∷◌, length, Contains, Option, Some, None, refl, sym, ap, ◌∙◌, arith, subst, slice_index, cond, inl, inr}
+use Rattle.std.proofs.Common.{◌≡◌, ℕ, zero, suc, ◌<◌, ◌≤◌, ◌^◌, nat_lt, max, Bool, true, List, [], ◌∷◌, length, Contains, Option, Some, None, refl, sym, ap, ◌∙◌, arith, subst, slice_index, cond, inl, inr}
 use Rattle.std.specs.Option.{option_map, IfNone}
 use Rattle.std.proofs.lemmas.Option.{none-some}
 use Rattle.col_numbers.specs.CodecTypes.{code_of}
@@ -12,6 +12,8 @@ use Rattle.col_common.specs.Reading.{◌>>=◌, only_if}
 use Rattle.col_model.specs.Stats.{Stats, stats_of, stats_at, same_stats, least_of, greatest_of}
 use Rattle.col_model.specs.U64List.{values64, values_by}
 use Rattle.col_model.proofs.StatsLaws.{all_by, fold-max, fold-max-one}
+use Rattle.col_model.proofs.TestLaws.{both-ways}
+use Rattle.col_model.proofs.CollectLaws.{fold-min-one}
 use Rattle.col_values.specs.Bounds.{IsOfValues}
 use Rattle.col_values.specs.Monotonic.{Passes}
 use Rattle.col_values.specs.Laws.{ImagesReachDown}
@@ -19,14 +21,6 @@ use Rattle.col_values.specs.Codes.{is_below}
 use Rattle.col_numbers.specs.Views.{is_seen}
 
 -- ---- the bounds of a list are items of it
-
--- what holds of a and of each item holds of the least
-fold-min-one : (P : ℕ → Type 0) (a : ℕ) (xs : List ℕ) → P a → AllByRecursion P xs → P (fold min a xs)
-fold-min-one P a [] p all = p
-fold-min-one P a (x ∷ xs) p all = fold-min-one P (min a x) xs (lesser a x p all.0) all.1
-  where
-    lesser : (m n : ℕ) → P m → P n → P (min m n)
-    lesser m n p q = elim (cases_lt m n) [ inl h ↦ (let e : m ≡ min m n = omega arith in subst P e p) | inr h ↦ (let e : n ≡ min m n = omega arith in subst P e q) ]
 
 each-in : (xs : List ℕ) → AllByRecursion (Contains xs) xs
 each-in xs = recursion_from_All (Contains xs) xs (All-contains_itself xs)
@@ -44,12 +38,6 @@ greatest-in (x ∷ xs) v some e =
 
 -- ---- images
 
--- tests that follow from each other are the same
-pub same_test : (s t : Bool) → (s ≡ true → t ≡ true) → (t ≡ true → s ≡ true) → s ≡ t
-same_test true t f g = sym (f refl)
-same_test false true f g = g refl
-same_test false false f g = refl
-
 module _ (is_image : ℕ → Bool) where
   all-below : ImagesReachDown is_image → (xs : List ℕ) (top : ℕ) → AllByRecursion (λ x. x ≤ top) xs → is_image top ≡ true → list_all is_image xs ≡ true
   all-below down [] top below t = refl
@@ -61,7 +49,7 @@ module _ (is_image : ℕ → Bool) where
 
   -- where images reach down, the greatest item tells of all
   pub greatest-tells : ImagesReachDown is_image → (xs : List ℕ) → 0 < length xs → is_image (greatest_of xs) ≡ list_all is_image xs
-  greatest-tells down xs some = same_test _ _ (all-below down xs (greatest_of xs) (fold-max 0 xs).1) (greatest-image xs some)
+  greatest-tells down xs some = both-ways _ _ (all-below down xs (greatest_of xs) (fold-max 0 xs).1) (greatest-image xs some)
 
   all_passed : (xs : List ℕ) → AllByRecursion (λ n. n < 2 ^ 64) xs → list_all is_image xs ≡ true → AllByRecursion (Passes (is_seen (is_below (2 ^ 64)) (λ n. n) is_image)) xs
   all_passed [] fit t = tt

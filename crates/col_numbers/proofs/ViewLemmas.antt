@@ -16,21 +16,6 @@ use Rattle.col_values.proofs.HitLemmas.{no_lower, no_upper, moved_ends}
 use Rattle.col_numbers.specs.Views.{is_seen, IsLeastOf, IsGreatestOf}
 use Rattle.col_numbers.proofs.ImageLemmas.{least-in, greatest-in}
 
--- without values, a default is both bounds
-pub least_of_none : {T : Type 0} (cmp : T → T → Option Ordering) (is_default : T → Type 0) (values : List T) (v : T) → length values ≡ 0 → is_default v → IsLeastOf cmp is_default values v
-least_of_none cmp is_default values v none d = record {
-  without_values = λ e. d;
-  value = λ some. absurd (omega (arith, none, some));
-  below = λ k x within. absurd (omega (arith, none, within));
-}
-
-pub greatest_of_none : {T : Type 0} (cmp : T → T → Option Ordering) (is_default : T → Type 0) (values : List T) (v : T) → length values ≡ 0 → is_default v → IsGreatestOf cmp is_default values v
-greatest_of_none cmp is_default values v none d = record {
-  without_values = λ e. d;
-  value = λ some. absurd (omega (arith, none, some));
-  above = λ k x within. absurd (omega (arith, none, within));
-}
-
 below : (limit n : ℕ) → Passes (is_below limit) n → n < limit
 below limit n h = grind (arith, nat_tests)
 

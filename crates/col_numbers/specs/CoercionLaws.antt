@@ -21,16 +21,22 @@ pub i64_to_u64_laws : IsMonotonic (λ x y. Some (int_cmp x y)) number_cmp fits_u
 i64_to_u64_laws = record { compares = i64_compares; undoes = i64_undoes }
 
 pub u64_to_i64_laws : IsMonotonic number_cmp (λ x y. Some (int_cmp x y)) fits_i64 pos nat_abs
-u64_to_i64_laws = record { compares = λ x y h k. ap Some (grind (arith, nat_tests)); undoes = λ x h. refl }
+u64_to_i64_laws = record {
+  compares = λ x y h k. ap Some (grind (arith, nat_tests));
+  undoes = λ x h. refl;
+}
 
-moved_compares : (rises : Bool) (x y : ℕ) → Passes (is_in_half rises) x → Passes (is_in_half rises) y →
+moved_compares : (rises : Bool) (x y : ℕ) →
+    Passes (is_in_half rises) x → Passes (is_in_half rises) y →
     number_cmp (moved rises x) (moved rises y) ≡ number_cmp x y
 moved_compares true x y h k = ap Some (grind (arith, nat_tests))
 moved_compares false x y h k = ap Some (grind (arith, nat_tests))
 
-moved_undoes : (rises : Bool) (x : ℕ) → Passes (is_in_half rises) x → moved_back rises (moved rises x) ≡ x
+moved_undoes : (rises : Bool) (x : ℕ) → Passes (is_in_half rises) x →
+    moved_back rises (moved rises x) ≡ x
 moved_undoes true x h = omega arith
 moved_undoes false x h = grind (arith, nat_tests)
 
-pub moved_laws : (rises : Bool) → IsMonotonic number_cmp number_cmp (is_in_half rises) (moved rises) (moved_back rises)
+pub moved_laws : (rises : Bool) →
+    IsMonotonic number_cmp number_cmp (is_in_half rises) (moved rises) (moved_back rises)
 moved_laws rises = record { compares = moved_compares rises; undoes = moved_undoes rises }

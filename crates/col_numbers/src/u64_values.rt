@@ -1,5 +1,6 @@
 //! A list of u64 under any codec.
-ghost use Rattle.std.specs.Prelude.{◌≡◌, ◌≤◌, IfOk, IfErr, drop, length};
+ghost use Rattle.std.specs.Prelude.{◌≡◌, ◌≤◌, ◌<◌, ◌+◌, drop, length, slice_get, Some};
+ghost use Rattle.std.specs.Prelude.{IfOk, IfErr};
 ghost use Rattle.col_model.specs.Stats.{least_of, greatest_of};
 
 use col_codecs::{BitpackedReader, BlockwiseLinearReader, LinearReader};
@@ -32,6 +33,32 @@ impl U64Values {
             }
         }
     }
+
+    /// The number at an index and the one behind it, by one look at the codec.
+    #[inline(always)]
+    pub fn get_pair(&self, idx: u32) -> (u64, u64)
+        requires { idx + 1 < length (list_of self.now) }
+        ensures first { slice_get (list_of self.now) idx ≡ Some result.0 }
+        ensures second { slice_get (list_of self.now) (idx + 1) ≡ Some result.1 }
+    {
+        match self {
+            U64Values::Bitpacked(values) => pair_of(values, idx),
+            U64Values::Linear(values) => pair_of(values, idx),
+            U64Values::BlockwiseLinear(values) => pair_of(values, idx),
+        }
+    }
+}
+
+// The number at an index of a list and the one behind it.
+#[inline(always)]
+fn pair_of<V: ColumnValues<u64>>(values: &V, idx: u32) -> (u64, u64)
+    requires { idx + 1 < length (V.values values.now) }
+    ensures first { slice_get (V.values values.now) idx ≡ Some result.0 }
+    ensures second { slice_get (V.values values.now) (idx + 1) ≡ Some result.1 }
+{
+    // There are fewer numbers than 2 ^ 32.
+    let _count = values.num_vals();
+    (values.get_val(idx), values.get_val(idx + 1))
 }
 
 impl ColumnValues<u64> for U64Values {
