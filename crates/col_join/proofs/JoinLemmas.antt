@@ -9,6 +9,7 @@ use Rattle.col_common.specs.Outside.{SeenSink}
 use Rattle.col_common.specs.Serializing.{Serializes}
 use Rattle.col_common.specs.declared.error.ColumnarError.{ColumnarError}
 use Rattle.col_common.specs.declared.error.ColumnarError.TheVariants.{TooLarge, OutOfMemory, WriteFault}
+use Rattle.col_common.proofs.OnOkLemmas.{on_ok-map}
 use Rattle.col_column.specs.Columns.{IsCounted}
 use Rattle.col_column.specs.Written.{Refused, SerializesRows, Stores64, StandForRows}
 use Rattle.col_compact.specs.Covers.{IsTooLarge}
@@ -58,10 +59,6 @@ joins-written old new result t n content bytes small written again = record {
   written = λ e. written;
   too_large = λ e. absurd (true≢false (sym e ∙ small));
 }
-
-pub on_ok-map : {P Q : Type 0} (result : Result (Unit {0}) ColumnarError) → (P → Q) → OnOk result P → OnOk result Q
-on_ok-map (Ok done) f h = f h
-on_ok-map (Err e) f h = tt
 
 -- ---- merged values behind their index
 

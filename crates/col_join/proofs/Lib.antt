@@ -3,6 +3,6 @@ mod SingleLemmas
 mod LimitLemmas
 mod NumberLemmas
 mod JoinLemmas
-mod SlotLemmas
+pub mod SlotLemmas
 mod TextLemmas
 mod TextSlotLemmas

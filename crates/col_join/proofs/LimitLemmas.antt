@@ -4,8 +4,6 @@ use Rattle.std.specs.Prelude.{nat_le, ◌&&◌, ◌||◌, sum, count_by, sum_by,
 use Rattle.std.proofs.lemmas.Bool.{eqb-true, leb-false}
 use Rattle.std.proofs.lemmas.List.{length-map}
 use Rattle.std.proofs.lemmas.List.Sums.{sum_by-cons}
-use Rattle.std.proofs.lemmas.Option.{none-some}
-use Rattle.col_common.specs.Reading.{only_if}
 use Rattle.col_index.proofs.CountLaws.{offset_counts-rows}
 use Rattle.col_index.proofs.RowsLaws.{rows_from, rows_with_value-from}
 use Rattle.col_index.specs.Offsets.{cardinality_in}
@@ -19,7 +17,7 @@ use Rattle.col_model.specs.Positions.{rows_with_value}
 use Rattle.col_model.specs.Table.{Cell, Cardinality}
 use Rattle.col_model.specs.Table as tables
 use Rattle.col_order.specs.Orders.{counts_of, picks_of}
-use Rattle.col_value_merge.proofs.MergedRowLemmas.{picked-lengths, picks-there}
+use Rattle.col_value_merge.proofs.MergedRowLemmas.{picked-lengths, picks-there, only_if-is, only_if-true}
 use Rattle.col_value_merge.specs.Laws.{IsOrdered}
 use Rattle.col_value_merge.specs.Merges.{Merge, IsMerge, merged_rows}
 use Rattle.col_join.specs.Joins.{picked_content}
@@ -61,14 +59,6 @@ count-rows cs = ap length (rows_with_value-from cs) ∙ count-from 0 cs
 
 -- ---- the counts of a merged index
 
-only_if-is : {A : Type 0} (t : Bool) (x y : A) → only_if t x ≡ Some y → x ≡ y
-only_if-is true x y e = ap (λ o. unwrap_or o x) e
-only_if-is false x y e = absurd (none-some y e)
-
-only_if-true : {A : Type 0} (t : Bool) (x y : A) → only_if t x ≡ Some y → t ≡ true
-only_if-true true x y e = refl
-only_if-true false x y e = absurd (none-some y e)
-
 -- a shape's counts have its cardinality
 pub counts-are : (n : ℕ) (s : Shape) (counts : Counts) → counts_over n s ≡ Some counts → cardinality_in s ≡ counts.cardinality
 counts-are n (empty_shape m) counts e =
@@ -109,10 +99,6 @@ too_large-is {T = T} t cell m is ordered =
     || false || has_many_codes t (map (map cell) rows))
 
 -- ---- a merged index within the limits
-
--- it has more values than may be
-pub past-cells : (order : Order) (shapes : List Shape) → true ≡ nat_le (2 ^ 32) (sum (counts_picked order shapes)) → is_past_limits order shapes ≡ true
-past-cells order shapes e = ap (λ b. b || (is_multivalued (merged_cardinality order shapes) && nat_le (2 ^ 32 - 1) (count_by (λ c. not (c == 0)) (counts_picked order shapes)))) (sym e)
 
 or-true : (a : Bool) → (a || true) ≡ true
 or-true true = refl

@@ -1,12 +1,10 @@
 -- What stands in a joined column is what the definition of merged tables joins.
-use Rattle.std.proofs.Common.{◌≡◌, ℕ, zero, suc, ◌+◌, ◌<◌, ◌==◌, ◌&&◌, ◌||◌, nat_lt, nat_le, Bool, true, false, cond, List, [], ◌∷◌, ◌++◌, length, map, drop, get_or, slice_get, unwrap_or, option_map, Option, Some, None, refl, sym, ap, ap₂, ◌∙◌, arith}
+use Rattle.std.proofs.Common.{◌≡◌, ℕ, zero, suc, ◌+◌, ◌<◌, ◌==◌, ◌&&◌, nat_lt, Bool, true, false, cond, List, [], ◌∷◌, ◌++◌, length, map, drop, get_or, slice_get, unwrap_or, option_map, Option, Some, None, refl, sym, ap, ap₂, ◌∙◌, arith}
 use Rattle.std.specs.List.{list_all, list_any, enumerate_from, filter_map, cons_option, fold}
 use Rattle.std.specs.Prelude.{option_and_then}
-use Rattle.std.proofs.lemmas.Bool.{and_parts, eq-eqb, true≢false, lt-ltb}
+use Rattle.std.proofs.lemmas.Bool.{and_parts, eq-eqb, or_parts}
 use Rattle.std.proofs.lemmas.List.{drop-drop, get_or-drop, length-map, map-append}
-use Rattle.std.proofs.lemmas.List.Folds.{list_all-map}
-use Rattle.std.proofs.lemmas.Grind.{common_steps}
-use Rattle.std.proofs.lemmas.Option.{none-some, gets, slice_get_cases}
+use Rattle.std.proofs.lemmas.Option.{none-some}
 use Rattle.col_common.specs.Reading.{only_if}
 use Rattle.col_model.proofs.MergedSound.{distinct-none}
 use Rattle.col_model.specs.Category.{Slot}
@@ -20,13 +18,15 @@ use Rattle.col_model.specs.Table.{Cell, Cardinality, Column, Content}
 use Rattle.col_model.specs.Table as tables
 use Rattle.col_model.specs.U64List.{joined_lists}
 use Rattle.col_model.specs.Written.{text_of}
+use Rattle.col_model.proofs.ListLaws.{no-items}
 use Rattle.col_order.specs.Orders.{counts_of, picks_of}
 use Rattle.col_index.specs.Offsets.{cardinality_in}
 use Rattle.col_indexer.specs.Counted.{tightest_of}
+use Rattle.col_indexer.proofs.TightestLemmas.{segment_named, tightest-counts}
 use Rattle.col_column.proofs.RowLemmas.{row-empty}
 use Rattle.col_column.specs.Columns.{rows_by, row_at}
-use Rattle.col_value_merge.proofs.MergedCellLemmas.{row-map}
-use Rattle.col_value_merge.proofs.MergedRowLemmas.{picked-lengths, picks-there}
+use Rattle.col_column.proofs.CellLemmas.{row-map}
+use Rattle.col_value_merge.proofs.MergedRowLemmas.{picked-lengths, picks-there, slice_get-first}
 use Rattle.col_value_merge.specs.Merges.{Columns, segment_shape, segment_values, merged_rows, merge_of, AreColumns}
 use Rattle.col_join.proofs.LimitLemmas.{lengths-map}
 use Rattle.col_join.specs.Joins.{picked_content}
@@ -35,24 +35,11 @@ use Rattle.col_join.specs.Slots.{AreNumbers, IsKeptAs, AreKeptAs, PickedContentI
 -- ---- the cells of a picked row
 
 -- a test that no item passes, at one of them
-any-none : {A : Type 0} (test : A → Bool) (xs : List A) (i : ℕ) (x : A) → slice_get xs i ≡ Some x → list_any test xs ≡ false → test x ≡ false
+pub any-none : {A : Type 0} (test : A → Bool) (xs : List A) (i : ℕ) (x : A) → slice_get xs i ≡ Some x → list_any test xs ≡ false → test x ≡ false
 any-none test [] zero x e h = absurd (none-some x e)
 any-none test [] (suc i) x e h = absurd (none-some x e)
-any-none test (y ∷ ys) zero x e h = ap test (sym (ap (λ o. unwrap_or o x) e)) ∙ or-left (test y) (list_any test ys) h
-  where
-    or-left : (a b : Bool) → (a || b) ≡ false → a ≡ false
-    or-left true b h = absurd (true≢false h)
-    or-left false b h = refl
-any-none test (y ∷ ys) (suc i) x e h = any-none test ys i x e (or-right (test y) (list_any test ys) h)
-  where
-    or-right : (a b : Bool) → (a || b) ≡ false → b ≡ false
-    or-right true b h = absurd (true≢false h)
-    or-right false b h = h
-
--- a list without an item
-no-length : {A : Type 0} (xs : List A) → nat_lt 0 (length xs) ≡ false → xs ≡ []
-no-length [] e = refl
-no-length (x ∷ xs) e = absurd (true≢false (sym (lt-ltb 0 (suc (length xs)) (omega arith)) ∙ e))
+any-none test (y ∷ ys) zero x e h = ap test (sym (ap (λ o. unwrap_or o x) e)) ∙ (or_parts (test y) (list_any test ys) h).0
+any-none test (y ∷ ys) (suc i) x e h = any-none test ys i x e (or_parts (test y) (list_any test ys) h).1
 
 module _ {T : Type 0} (cell : T → Cell) (slot : Slot) (picked : List (ℕ × ℕ)) (part : Part) (s : Shape) (xs : List T) (k d : ℕ) where
   -- the cells of a row of the part
@@ -63,7 +50,7 @@ module _ {T : Type 0} (cell : T → Cell) (slot : Slot) (picked : List (ℕ × �
   pub empty-row : (c : Column) (i : ℕ) → slice_get picked i ≡ Some (k, d) → list_any (λ q. (q.0 == k) && nat_lt 0 (length (row_of c.content q.1))) picked ≡ false → row_of c.content d ≡ []
   empty-row c i at h =
       let none = any-none (λ (q : ℕ × ℕ). (q.0 == k) && nat_lt 0 (length (row_of c.content q.1))) picked i (k, d) at h in
-      no-length (row_of c.content d) (ap (λ b. b && nat_lt 0 (length (row_of c.content d))) (sym (eq-eqb k k refl)) ∙ none)
+      no-items (row_of c.content d) (ap (λ b. b && nat_lt 0 (length (row_of c.content d))) (sym (eq-eqb k k refl)) ∙ none)
 
   kept-cells : (o : Option Column) (i : ℕ) → slice_get picked i ≡ Some (k, d) → IsKeptAs cell part.row_count (option_and_then (λ c. only_if (list_any (λ q. (q.0 == k) && nat_lt 0 (length (row_of c.content q.1))) picked) c) o) s xs → cells-of o ≡ map cell (row_at (rows_by s xs) d)
   unfolding rows_by
@@ -75,17 +62,6 @@ module _ {T : Type 0} (cell : T → Cell) (slot : Slot) (picked : List (ℕ × �
       go false e is = empty-row c i at e ∙ rw is (sym (ap (map cell) (row-empty part.row_count xs d)))
 
 -- ---- segments
-
--- the segment of a row that passes the test is there
-pub row-named : (counts : List ℕ) (p : ℕ × ℕ) → has_row counts p ≡ true → p.0 < length counts
-row-named counts p h = grind (arith, common_steps, gets, slice_get_cases counts p.0)
-
--- the first item behind others
-pub get-first : {A : Type 0} (xs : List A) (k : ℕ) (y : A) (ys : List A) → drop k xs ≡ y ∷ ys → slice_get xs k ≡ Some y
-get-first [] zero y ys e = absurd (omega (arith, ap length e))
-get-first [] (suc k) y ys e = absurd (omega (arith, ap length e))
-get-first (x ∷ xs) zero y ys e = ap (λ zs. slice_get zs 0) e
-get-first (x ∷ xs) (suc k) y ys e = get-first xs k y ys e
 
 -- the part that a pick names
 pub part-at : (parts : List Part) (k : ℕ) → k < length parts → (p : Part) × (slice_get parts k ≡ Some p)
@@ -103,9 +79,9 @@ module _ {T : Type 0} (cell : T → Cell) (slot : Slot) (parts : List Part) (c :
   rows-kept [] i e all = refl
   rows-kept ((k, d) ∷ ps) i e all =
       let parts-of = and_parts (has_row (row_counts parts) (k, d)) (list_all (has_row (row_counts parts)) ps) all in
-      let within : k < length parts = omega (arith, (row-named (row_counts parts) (k, d) parts-of.0), length-map parts (λ p. p.row_count)) in
+      let within : k < length parts = omega (arith, (segment_named (row_counts parts) (k, d) parts-of.0), length-map parts (λ p. p.row_count)) in
       let named = part-at parts k within in
-      let here = kept-cells cell slot picked named.0 (segment_shape c k) (segment_values c k) k d (whole_column_in slot named.0) i (get-first picked i (k, d) ps e) (kept k named.0 named.1) in
+      let here = kept-cells cell slot picked named.0 (segment_shape c k) (segment_values c k) k d (whole_column_in slot named.0) i (slice_get-first picked i (k, d) ps e) (kept k named.0 named.1) in
       let later : drop (i + 1) picked ≡ ps = sym (drop-drop 1 i picked) ∙ ap (λ qs. drop 1 qs) e in
       ap₂ (λ a b. a ∷ b) (sym (cells-named slot parts k d named.0 named.1 ∙ here)) (rows-kept ps (i + 1) later parts-of.1)
 
@@ -115,7 +91,7 @@ module _ {T : Type 0} (cell : T → Cell) (slot : Slot) (parts : List Part) (c :
   cards-kept k [] (s ∷ ss) e f long = absurd (omega (arith, long))
   cards-kept k (p ∷ ps) [] e f long = absurd (omega (arith, long))
   cards-kept k (p ∷ ps) (s ∷ ss) e f long =
-      let at : slice_get parts k ≡ Some p = get-first parts k p ps e in
+      let at : slice_get parts k ≡ Some p = slice_get-first parts k p ps e in
       let shape : segment_shape c k ≡ s = ap (λ i. get_or c.shapes i (empty_shape 0)) (omega arith) ∙ sym (get_or-drop k c.shapes 0 (empty_shape 0)) ∙ ap (λ xs. get_or xs 0 (empty_shape 0)) f in
       let later : drop (k + 1) parts ≡ ps = sym (drop-drop 1 k parts) ∙ ap (λ qs. drop 1 qs) e in
       let shapes : drop (k + 1) c.shapes ≡ ss = sym (drop-drop 1 k c.shapes) ∙ ap (λ qs. drop 1 qs) f in
@@ -129,7 +105,7 @@ module _ {T : Type 0} (cell : T → Cell) (slot : Slot) (parts : List Part) (c :
   terms-kept : (k : ℕ) (ps : List Part) → drop k parts ≡ ps → joined_lists (map (λ d. d.content.terms) (filter_map (kept_column slot picked) (enumerate_from k ps))) ≡ []
   terms-kept k [] e = refl
   terms-kept k (p ∷ ps) e =
-      let at : slice_get parts k ≡ Some p = get-first parts k p ps e in
+      let at : slice_get parts k ≡ Some p = slice_get-first parts k p ps e in
       let later : drop (k + 1) parts ≡ ps = sym (drop-drop 1 k parts) ∙ ap (λ qs. drop 1 qs) e in
       go (kept_column slot picked (k, p)) (kept k p at) (terms-kept (k + 1) ps later)
     where
@@ -150,11 +126,6 @@ no-texts cell numbers (x ∷ xs) = ap (λ o. cons_option o (filter_map text_of (
 map-joined : {A B : Type 0} (f : A → B) (xss : List (List A)) → joined_lists (map (map f) xss) ≡ map f (joined_lists xss)
 map-joined f [] = refl
 map-joined f (xs ∷ xss) = ap (λ ys. map f xs ++ ys) (map-joined f xss) ∙ sym (map-append f xs (joined_lists xss))
-
--- the tightest cardinality is that of their counts
-pub tightest-counts : (rows : List (List Cell)) → tightest rows ≡ tightest_of (map length rows)
-tightest-counts rows =
-    λ i. cond (sym (list_all-map (λ c. c == 1) length rows) i) tables.full (cond (sym (list_all-map (λ c. nat_le c 1) length rows) i) tables.optional tables.multivalued)
 
 -- ---- the joined column
 

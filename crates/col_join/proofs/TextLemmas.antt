@@ -11,9 +11,10 @@ use Rattle.col_common.proofs.SerializingLemmas.{appends_none, serializes-no_memo
 use Rattle.col_model.specs.ColumnType.{ColumnType, has_terms}
 use Rattle.col_model.specs.ColumnType as types
 use Rattle.col_model.specs.Index.{Shape, empty_shape, full_shape, optional_shape, multivalued_shape}
-use Rattle.col_model.specs.Limits.{cell_count, is_multivalued, has_many_codes, is_too_large}
+use Rattle.col_model.specs.Limits.{cell_count, is_multivalued, is_too_large}
 use Rattle.col_model.specs.Order.{Order, picks}
-use Rattle.col_model.specs.Table.{Cell, Content}
+use Rattle.col_model.specs.Table.{Content}
+use Rattle.col_model.proofs.DecodedColumns.{codes-term}
 use Rattle.col_order.specs.Orders.{counts_of, picks_of}
 use Rattle.col_column.specs.Columns.{row_count, docs_in}
 use Rattle.col_indexer.specs.Merged.{is_over, merged_cardinality}
@@ -46,15 +47,6 @@ texts-fit columns order shapes fit same = ap (pointwise is_over (counts_of order
 
 -- ---- the limits
 
-no-codes : (t : ColumnType) (rows : List (List Cell)) → has_terms t ≡ true → has_many_codes t rows ≡ false
-no-codes types.i64 rows e = refl
-no-codes types.u64 rows e = refl
-no-codes types.bytes rows e = refl
-no-codes types.str rows e = refl
-no-codes types.bool rows e = refl
-no-codes types.ip rows e = absurd (cc)
-no-codes types.datetime rows e = refl
-
 or-false : (a : Bool) → (a || false) ≡ a
 or-false true = refl
 or-false false = refl
@@ -68,7 +60,7 @@ module _ (columns : List Texts) (order : Order) (fit : FitSegments order columns
       let lengths = texts-lengths columns order fit told all in
       let cells : cell_count rows ≡ sum (counts_picked order (shapes_of columns)) = count-lengths rows ∙ ap sum lengths in
       let some : count_by (λ row. not (length row == 0)) rows ≡ count_by (λ c. not (c == 0)) (counts_picked order (shapes_of columns)) = count-some rows ∙ ap (count_by (λ c. not (c == 0))) lengths in
-      let codes = no-codes t rows has in
+      let codes = codes-term t rows has in
       λ i. (nat_le (2 ^ 32) (cells i)
       || (is_multivalued (merged_cardinality order (shapes_of columns)) && nat_le (2 ^ 32 - 1) (some i))
       || has_long_terms columns order || codes i)

@@ -25,13 +25,14 @@ use Rattle.col_indexer.specs.Counted.{tightest_of}
 use Rattle.col_column.proofs.RowLemmas.{row-empty}
 use Rattle.col_column.specs.Columns.{rows_by, row_at, docs_in}
 use Rattle.col_numbers.specs.NumValues.{num_values_of}
+use Rattle.col_indexer.proofs.TightestLemmas.{segment_named, tightest-counts}
+use Rattle.col_column.proofs.CellLemmas.{row-map}
 use Rattle.col_text.specs.Texts.{Texts, texts_content}
 use Rattle.col_term_merge.specs.Numbering.{terms_of}
 use Rattle.col_text_merge.specs.Merged.{shapes_of, picked_cells}
 use Rattle.col_text_merge.proofs.CallerLemmas.{texts-lengths}
-use Rattle.col_value_merge.proofs.MergedCellLemmas.{row-map}
-use Rattle.col_value_merge.proofs.MergedRowLemmas.{picks-there}
-use Rattle.col_join.proofs.SlotLemmas.{empty-row, row-named, get-first, part-at, cells-named, tightest-counts}
+use Rattle.col_value_merge.proofs.MergedRowLemmas.{picks-there, slice_get-first}
+use Rattle.col_join.proofs.SlotLemmas.{empty-row, part-at, cells-named}
 use Rattle.col_join.specs.TextSlots.{IsTextsKeptAs, AreTextsKeptAs, MergedContentIsJoined}
 
 -- ---- the cells of a picked row
@@ -66,10 +67,10 @@ module _ (slot : Slot) (parts : List Part) (columns : List Texts) (picked : List
   text-rows [] i long e all = refl
   text-rows ((k, d) ∷ ps) i long e all =
       let tests = and_parts (has_row (row_counts parts) (k, d)) (list_all (has_row (row_counts parts)) ps) all in
-      let within : k < length parts = omega (arith, (row-named (row_counts parts) (k, d) tests.0), length-map parts (λ p. p.row_count)) in
+      let within : k < length parts = omega (arith, (segment_named (row_counts parts) (k, d) tests.0), length-map parts (λ p. p.row_count)) in
       let part = part-at parts k within in
       let column = text-at columns k (omega (arith, within, long)) in
-      let here = text-cells slot picked part.0 column.0 k d (whole_column_in slot part.0) i (get-first picked i (k, d) ps e) (kept k part.0 column.0 part.1 column.1) in
+      let here = text-cells slot picked part.0 column.0 k d (whole_column_in slot part.0) i (slice_get-first picked i (k, d) ps e) (kept k part.0 column.0 part.1 column.1) in
       let own : picked_cells columns (k, d) ≡ row_of (texts_content column.0) d = ap (λ o. unwrap_or (option_map (λ (c : Texts). row_of (texts_content c) d) o) []) column.1 in
       let later : drop (i + 1) picked ≡ ps = sym (drop-drop 1 i picked) ∙ ap (λ qs. drop 1 qs) e in
       ap₂ (λ a b. a ∷ b) (own ∙ sym (cells-named slot parts k d part.0 part.1 ∙ here)) (text-rows ps (i + 1) long later tests.1)
@@ -82,7 +83,7 @@ module _ (slot : Slot) (parts : List Part) (columns : List Texts) (picked : List
   text-cards k (p ∷ ps) (c ∷ cs) e f long =
       let later : drop (k + 1) parts ≡ ps = sym (drop-drop 1 k parts) ∙ ap (λ qs. drop 1 qs) e in
       let rest : drop (k + 1) columns ≡ cs = sym (drop-drop 1 k columns) ∙ ap (λ qs. drop 1 qs) f in
-      ap₂ (λ a b. a ∷ b) (go (kept_column slot picked (k, p)) (kept k p c (get-first parts k p ps e) (get-first columns k c cs f))) (text-cards (k + 1) ps cs later rest (omega (arith, long)))
+      ap₂ (λ a b. a ∷ b) (go (kept_column slot picked (k, p)) (kept k p c (slice_get-first parts k p ps e) (slice_get-first columns k c cs f))) (text-cards (k + 1) ps cs later rest (omega (arith, long)))
     where
       go : (o : Option Column) → IsTextsKeptAs p.row_count o c → unwrap_or (option_map (λ b. b.content.cardinality) o) (cond (p.row_count == 0) tables.full tables.optional) ≡ cardinality_in c.ords.shape
       go None is = sym (ap cardinality_in is.0)
@@ -96,7 +97,7 @@ module _ (slot : Slot) (parts : List Part) (columns : List Texts) (picked : List
   text-terms k (p ∷ ps) (c ∷ cs) e f long =
       let later : drop (k + 1) parts ≡ ps = sym (drop-drop 1 k parts) ∙ ap (λ qs. drop 1 qs) e in
       let rest : drop (k + 1) columns ≡ cs = sym (drop-drop 1 k columns) ∙ ap (λ qs. drop 1 qs) f in
-      go (kept_column slot picked (k, p)) (kept k p c (get-first parts k p ps e) (get-first columns k c cs f)) (text-terms (k + 1) ps cs later rest (omega (arith, long)))
+      go (kept_column slot picked (k, p)) (kept k p c (slice_get-first parts k p ps e) (slice_get-first columns k c cs f)) (text-terms (k + 1) ps cs later rest (omega (arith, long)))
     where
       behind : List Column
       behind = filter_map (kept_column slot picked) (enumerate_from (k + 1) ps)

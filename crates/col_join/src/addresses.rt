@@ -18,8 +18,8 @@ use col_value_merge::{MergedColumnValues, serialize_collected_u128};
 use std::alloc::Global;
 
 /// Writes the column of the rows that an order picks from columns of addresses: an index and a list
-/// for each segment. Where the addresses need more codes than 32 bits count, the index may have been
-/// written when it answers TooLarge.
+/// for each segment. Where the addresses need more codes than 32 bits count, the index may have
+/// been written when it answers TooLarge.
 pub fn join_addresses<K: Sink>(
     alloc: Global,
     column_indexes: &[ColumnIndex],

@@ -1,19 +1,21 @@
 //! How many values the rows have that an order picks.
 ghost use Rattle.std.specs.Prelude.{◌≡◌, ◌^◌, ◌<◌, true, map, length, sum, nat_le, slice_index_or};
-ghost use Rattle.std.specs.List.{list_any};
 ghost use Rattle.col_model.specs.Index.{empty_shape};
 ghost use Rattle.col_model.specs.Order.{stack, shuffle};
 ghost use Rattle.col_model.specs.Positions.{count_in};
 ghost use Rattle.col_order.specs.Orders.{counts_of};
 ghost use Rattle.col_order.specs.RowOrders.{order_of};
 ghost use Rattle.col_index.specs.Indexes.{shape_of};
+ghost use Rattle.col_numbers.specs.Readers.{list_of};
 ghost use Rattle.col_indexer.specs.Counted.{counts_in};
 ghost use Rattle.col_indexer.specs.Merged.{is_over, FitSegments};
-ghost use Rattle.col_join.specs.Limits.{counts_picked, may_have_several};
+ghost use Rattle.col_join.specs.Limits.{counts_picked, StepsAtMost, HasAtMost, HaveAtMost};
 
 use col_common::{RowAddr, RowId};
 use col_index::ColumnIndex;
+use col_numbers::U64Values;
 use col_order::{MergeRowOrder, ShuffleMergeOrder, StackMergeOrder};
+use col_values::ColumnValues;
 
 /// Whether the rows that an order picks from indexes have more values than 32 bits count.
 pub(crate) fn has_many_cells(
@@ -48,37 +50,59 @@ fn has_many_stacked(column_indexes: &[ColumnIndex], order: &StackMergeOrder) -> 
     false
 }
 
-// The same of the rows that are named, which aren't looked at where none has two values.
+// The same of the rows that are named, which aren't looked at where so many rows have few values,
+// whichever they are.
 fn has_many_named(column_indexes: &[ColumnIndex], order: &ShuffleMergeOrder) -> bool
     requires { FitSegments order.now.counts (map shape_of column_indexes.now) }
     ensures { let shuffled = shuffle order.now.counts order.now.addresses in
         result ≡ nat_le (2 ^ 32)
         (sum (counts_picked shuffled (map shape_of column_indexes.now))) }
 {
-    let _num_rows = order.num_rows();
-    if !has_multivalued(column_indexes) {
+    let num_rows = u64::from(order.num_rows());
+    let most = most_in_rows(column_indexes);
+    if num_rows.saturating_mul(most) <= u64::from(u32::MAX) {
         return false;
     }
     has_many_shuffled(column_indexes, order)
 }
 
-// Whether some index is one of rows with several values.
-fn has_multivalued(column_indexes: &[ColumnIndex]) -> bool
-    ensures { result ≡ list_any may_have_several column_indexes.now }
+// A count that no row of the indexes is above.
+fn most_in_rows(column_indexes: &[ColumnIndex]) -> u64
+    ensures { HaveAtMost result column_indexes.now }
 {
-    column_indexes
-        .iter()
-        .any(|column_index| may_have_several(column_index))
+    let mut most = 0;
+    for column_index in column_indexes {
+        most = most_in_row(column_index).max(most);
+    }
+    most
 }
 
-// Whether the index is one of rows with several values.
-fn may_have_several(column_index: &ColumnIndex) -> bool
-    ensures { result ≡ may_have_several column_index.now }
+// The same of one index.
+fn most_in_row(column_index: &ColumnIndex) -> u64
+    ensures { HasAtMost result column_index.now }
 {
     match column_index {
-        ColumnIndex::Multivalued(_) => true,
-        _ => false,
+        ColumnIndex::Full | ColumnIndex::Empty { .. } => 1,
+        ColumnIndex::Optional(index) => {
+            index.rows_rise();
+            1
+        }
+        ColumnIndex::Multivalued(index) => greatest_step(index.get_start_index_column()),
     }
+}
+
+// How far apart two starts are at most, one behind the other.
+fn greatest_step(starts: &U64Values) -> u64
+    ensures { StepsAtMost result 0 (list_of starts.now) }
+{
+    let mut greatest = 0;
+    let mut before = 0;
+    for at in 0..starts.num_vals() {
+        let start = starts.get_val(at);
+        greatest = start.saturating_sub(before).max(greatest);
+        before = start;
+    }
+    greatest
 }
 
 // The same of the rows that are named, which are walked.

@@ -1,16 +1,14 @@
 -- The column of a slot is the one that the definition joins.
 use Rattle.std.proofs.Common.{◌≡◌, ◌⊎◌, inl, inr, ℕ, zero, suc, ◌<◌, ◌==◌, Bool, true, false, cond, List, [], ◌∷◌, length, map, get_or, slice_get, unwrap_or, option_map, Some, None, Ok, Err, refl, sym, ap, ap₂, ◌∙◌, subst, arith}
-use Rattle.std.specs.Prelude.{Option, Result, ◌&&◌, ◌||◌, is_none, is_some, IfErr}
+use Rattle.std.specs.Prelude.{Option, Result, ◌&&◌, ◌||◌, is_none, is_some}
 use Rattle.std.specs.List.{list_all, list_any, AllByRecursion}
 use Rattle.std.proofs.lemmas.Bool.{true≢false, false≢true, ne_eqb, cases_lt}
 use Rattle.std.proofs.lemmas.List.{length-map, get_or_past}
 use Rattle.std.proofs.lemmas.List.FromFn.{get_or-map-range_with_len, length-map-range_with_len}
-use Rattle.std.proofs.lemmas.Option.{none-some}
+use Rattle.std.proofs.lemmas.Option.{none-some, slice_get_within}
 use Rattle.col_common.specs.Outside.{SeenSink}
-use Rattle.col_common.specs.Refused.{code_of}
 use Rattle.col_common.specs.declared.error.ColumnarError.{ColumnarError}
 use Rattle.col_common.specs.declared.error.ColumnarError.TheVariants.{OutOfMemory, WriteFault, CannotCoerce, NumericalConflict, TooLarge}
-use Rattle.col_common.proofs.SerializingLemmas.{appends_none}
 use Rattle.col_model.proofs.SharedTypes.{some≢none}
 use Rattle.col_model.specs.Category.{Slot}
 use Rattle.col_model.specs.ColumnType as types
@@ -29,10 +27,10 @@ use Rattle.col_value_merge.proofs.MergedRowLemmas.{picks-there}
 use Rattle.col_value_merge.specs.Merges.{Columns, segment_shape, segment_values, merge_of}
 use Rattle.col_join.specs.Joins.{picked_content, JoinsColumn}
 use Rattle.col_join.specs.Slots.{AreNumbers, IsKeptAs, AreKeptAs, PickedContentIsJoined}
-use Rattle.col_slot.specs.JoinedSlots.{AreOpened, IsSlotRefusal, HasSlotCause, AddsJoined, IsRefusedAs, AreKept, IsJoinedContent, WritesJoined, WritesSlot, AreFlags, IsTypeFor}
+use Rattle.col_slot.specs.JoinedSlots.{AreOpened, AddsJoined, IsRefusedAs, AreKept, IsJoinedContent, WritesJoined, WritesSlot, AreFlags, IsTypeFor}
 use Rattle.col_slot.specs.Kept.{has_value, keeps, kept_flags, IsCountedIn, IsOwn, IsOwnIn}
 use Rattle.col_slot.specs.Segments.{where_set, kept_of, column_seen, IsIn, HaveRows, IsSegmentAs, AreSegments, is_read_as}
-use Rattle.col_slot.proofs.PartLemmas.{are-kept, kept-columns, kept-category, not-bad, required-category, kept-each, within-some}
+use Rattle.col_slot.proofs.PartLemmas.{are-kept, kept-columns, kept-category, not-bad, required-category, kept-each}
 use Rattle.col_slot.proofs.SegmentLemmas.{all-read}
 use Rattle.col_slot.proofs.SharedLemmas.{shared-read, wanted-type}
 
@@ -55,7 +53,7 @@ content-joined {T = T} cell t order kept c law numbers ordered are slot parts sa
   where
     each : AreKeptAs cell slot (picks_of order) parts c
     each k p e =
-        let within : k < length (counts_of order) = omega (arith, within-some parts k p e, ap length same, length-map parts (λ (r : Part). r.row_count)) in
+        let within : k < length (counts_of order) = omega (arith, slice_get_within parts k p e, ap length same, length-map parts (λ (r : Part). r.row_count)) in
         let count : get_or (counts_of order) k 0 ≡ p.row_count = ap (λ counts. get_or counts k 0) (sym same) ∙ row-count-at parts k p e in
         subst (λ o. IsKeptAs cell p.row_count o (segment_shape c k) (segment_values c k)) (sym (is.each k p e))
         (segment-kept cell slot.name (get_or (counts_of order) k 0) p.row_count (get_or kept k None) (segment_shape c k) (segment_values c k) count (are.each k within))
@@ -106,62 +104,6 @@ same-err e f h = ap (λ r. unwrap_or (error_of r) e) h
 -- the refusals of a column that is too large
 abbrev IsRefusal : Result (Unit {0}) ColumnarError → Type 0
 IsRefusal result = (result ≡ Err TooLarge) ⊎ (result ≡ Err OutOfMemory) ⊎ (result ≡ Err WriteFault)
-
--- the code of a result's refusal
-abbrev pub code-in : {A : Type 0} → Result A ColumnarError → ℕ
-code-in (Ok x) = 0
-code-in (Err e) = code_of e
-
--- what was stopped before the first byte
-pub stopped-cause : {A : Type 0} (a : SeenSink) (result : Result A ColumnarError) → (result ≡ Err WriteFault → ⊥) → IfErr result IsSlotRefusal → HasSlotCause a a result
-stopped-cause a result none causes = record { grown = ([], appends_none a); later = omega arith; write_fault = λ e. absurd (none e); causes = causes }
-
-pub memory-cause : {A : Type 0} (a : SeenSink) → HasSlotCause {A = A} a a (Err OutOfMemory)
-memory-cause a = stopped-cause a (Err OutOfMemory) (λ e. omega (arith, ap code-in e)) (inl refl)
-
-pub conflict-cause : {A : Type 0} (a : SeenSink) (e : ColumnarError) → e ≡ NumericalConflict → HasSlotCause {A = A} a a (Err e)
-conflict-cause {A = A} a e is = subst (λ f. HasSlotCause {A = A} a a (Err f)) (sym is) (stopped-cause a (Err NumericalConflict) (λ f. omega (arith, ap code-in f)) (inr (inr (inr (inl refl)))))
-
-coerce-cause : {A : Type 0} (a : SeenSink) → HasSlotCause {A = A} a a (Err CannotCoerce)
-coerce-cause a = stopped-cause a (Err CannotCoerce) (λ e. omega (arith, ap code-in e)) (inr (inr (inl refl)))
-
-pub none-cause : (a : SeenSink) → HasSlotCause {A = Option ColumnType} a a (Ok None)
-none-cause a = stopped-cause a (Ok None) (λ e. absurd cc) tt
-
--- what was written
-causes-of : (result : Result (Unit {0}) ColumnarError) → IfErr result (λ e. (e ≡ OutOfMemory) ⊎ (e ≡ WriteFault)) → IfErr result IsSlotRefusal
-causes-of (Ok done) h = tt
-causes-of (Err e) (inl h) = inl h
-causes-of (Err e) (inr h) = inr (inl h)
-
-refused-causes : (result : Result (Unit {0}) ColumnarError) → (result ≡ Err TooLarge) ⊎ (result ≡ Err OutOfMemory) ⊎ (result ≡ Err WriteFault) → IfErr result IsSlotRefusal
-refused-causes (Ok done) h = tt
-refused-causes (Err e) (inl h) = inr (inr (inr (inr (same-err e TooLarge h))))
-refused-causes (Err e) (inr (inl h)) = inl (same-err e OutOfMemory h)
-refused-causes (Err e) (inr (inr h)) = inr (inl (same-err e WriteFault h))
-
-joins-cause : (old new : SeenSink) (result : Result (Unit {0}) ColumnarError) (t : types.ColumnType) (n : ℕ) (content : Content) → JoinsColumn old new result t n content → HasSlotCause old new result
-joins-cause old new result t n content joins = by (is_too_large t content) refl
-  where
-    by : (b : Bool) → is_too_large t content ≡ b → HasSlotCause old new result
-    by true e = let r = joins.too_large e in record { grown = r.grown; later = r.later; write_fault = r.write_fault; causes = refused-causes result r.refused }
-    by false e = let r = joins.written e in record { grown = r.grown; later = r.later; write_fault = r.write_fault; causes = causes-of result r.causes }
-
-write-cause : (order : Order) (kept : List (Option DynamicColumn)) (t : types.ColumnType) (old new : SeenSink) (result : Result (Unit {0}) ColumnarError) → WritesSlot order kept t old new result → HasSlotCause old new result
-write-cause order kept t old new result (inl h) = subst (λ a. HasSlotCause old a result) (sym h.0) (subst (HasSlotCause old old) (sym h.1) (memory-cause old))
-write-cause order kept t old new result (inr (inl h)) = subst (λ a. HasSlotCause old a result) (sym h.0) (subst (HasSlotCause old old) (sym h.1) (coerce-cause old))
-write-cause order kept t old new result (inr (inr h)) = joins-cause old new result t (length (picks_of order)) h.1.content h.1.joins
-
--- the same of the call around it
-pub refused-cause : (order : Order) (kept : List (Option DynamicColumn)) (t : types.ColumnType) (old new : SeenSink) (e : ColumnarError) → WritesSlot order kept t old new (Err e) → HasSlotCause {A = Option ColumnType} old new (Err e)
-refused-cause order kept t old new e h =
-    let r = write-cause order kept t old new (Err e) h in
-    record { grown = r.grown; later = r.later; write_fault = λ f. r.write_fault (ap Err (same-err e WriteFault f)); causes = r.causes }
-
-pub made-cause : (order : Order) (kept : List (Option DynamicColumn)) (t : types.ColumnType) (old new : SeenSink) (done : Unit {0}) (found : Option ColumnType) → WritesSlot order kept t old new (Ok done) → HasSlotCause {A = Option ColumnType} old new (Ok found)
-made-cause order kept t old new done found h =
-    let r = write-cause order kept t old new (Ok done) h in
-    record { grown = r.grown; later = r.later; write_fault = λ f. absurd cc; causes = tt }
 
 -- ---- flags
 

@@ -1,11 +1,11 @@
 -- Which segments keep a column.
-use Rattle.std.proofs.Common.{◌≡◌, ◌⊎◌, inl, inr, ℕ, zero, suc, ◌+◌, ◌<◌, ◌≤◌, ◌==◌, not, Bool, true, false, List, [], ◌∷◌, length, map, take, get_or, set, replicate, slice_get, Option, Some, None, refl, sym, ap, ap₂, ◌∙◌, subst, arith}
+use Rattle.std.proofs.Common.{◌≡◌, ◌⊎◌, inl, inr, ℕ, zero, suc, ◌+◌, ◌<◌, ◌≤◌, ◌==◌, not, Bool, true, false, List, [], ◌∷◌, length, map, take, drop, get_or, set, replicate, slice_get, Option, Some, None, refl, sym, ap, ap₂, ◌∙◌, subst, arith}
 use Rattle.std.specs.Prelude.{◌&&◌, ◌||◌, sum}
 use Rattle.std.specs.List.{list_all, list_any, range_with_len, AllByRecursion}
 use Rattle.std.proofs.lemmas.Bool.{cases_eq, eq-eqb, ne_eqb}
-use Rattle.std.proofs.lemmas.List.Folds.{list_any_more}
+use Rattle.std.proofs.lemmas.List.Folds.{list_any_more, list_any-append}
 use Rattle.std.proofs.lemmas.Option.{none-some}
-use Rattle.std.proofs.lemmas.List.{get_or-map, get_or-set_same, get_or-set_other, length-map, length-set, take_all}
+use Rattle.std.proofs.lemmas.List.{get_or-map, get_or-set_same, get_or-set_other, length-map, length-set, take_all, take-append-drop}
 use Rattle.std.proofs.lemmas.List.FromFn.{fill_by_all, length-map-range_with_len, get_or-map-range_with_len}
 use Rattle.std.proofs.lemmas.List.Sums.{sum_by-cons}
 use Rattle.col_common.specs.declared.row.RowAddr.{RowAddr}
@@ -22,7 +22,7 @@ use Rattle.col_order.specs.declared.merge_row_order.MergeRowOrder.TheVariants.{S
 use Rattle.col_column.specs.Columns.{row_count, IsCounted}
 use Rattle.col_dynamic.specs.Dynamic.{dynamic_shape, value_count}
 use Rattle.col_dynamic.specs.declared.dynamic_column.DynamicColumn.{DynamicColumn}
-use Rattle.col_slot.specs.Kept.{has_value, has_values, keeps, kept_flags, IsCountedIn}
+use Rattle.col_slot.specs.Kept.{has_value, has_values, keeps, kept_flags, AreSet, IsCountedIn}
 use Rattle.col_slot.specs.Segments.{HaveRows}
 
 -- ---- rows that are named one by one
@@ -73,6 +73,42 @@ module _ (columns : List (Option DynamicColumn)) (ps : List (ℕ × ℕ)) (i n :
   found-more =
       fill_by_all (keeps columns (take (i + 1) ps)) after n false
       (length-set flags p.0 (get_or flags p.0 false || found) ∙ long) (λ k lt. flag-after k lt (cases_eq p.0 k))
+
+-- a set flag stays set
+set-kept : (flags : List Bool) (n j : ℕ) (found : Bool) → j < length flags → AreSet flags n → AreSet (set flags j (get_or flags j false || found)) n
+set-kept flags n j found there are k h = by-place (cases_eq j k)
+  where
+    by-place : (j ≡ k) ⊎ (j ≡ k → ⊥) → get_or (set flags j (get_or flags j false || found)) k false ≡ true
+    by-place (inl same) =
+        ap (λ i. get_or (set flags j (get_or flags j false || found)) i false) (sym same)
+        ∙ get_or-set_same flags j (get_or flags j false || found) false there
+        ∙ ap (λ i. get_or flags i false || found) same
+        ∙ ap (λ b. b || found) (are k h)
+    by-place (inr other) =
+        get_or-set_other flags j k (get_or flags j false || found) false (λ e. other (sym e)) ∙ are k h
+
+-- the same of flags after one row more
+pub set-noted : (flags new : List Bool) (n j : ℕ) (found : Bool) → new ≡ set flags j (get_or flags j false || found) → j < length flags → AreSet flags n → AreSet new n
+set-noted flags new n j found e there are = subst (λ fs. AreSet fs n) (sym e) (set-kept flags n j found there are)
+
+-- which are as many
+pub long-noted : (flags new : List Bool) (n j : ℕ) (b : Bool) → new ≡ set flags j b → n ≤ length flags → n ≤ length new
+long-noted flags new n j b e h = omega (arith, h, ap length e, length-set flags j b)
+
+-- one flag more that is set
+pub set-more : (flags : List Bool) (n : ℕ) → AreSet flags n → get_or flags n false ≡ true → AreSet flags (n + 1)
+set-more flags n are more k h = by-place (cases_eq k n)
+  where
+    by-place : (k ≡ n) ⊎ (k ≡ n → ⊥) → get_or flags k false ≡ true
+    by-place (inl same) = ap (λ i. get_or flags i false) same ∙ more
+    by-place (inr other) = are k (omega (arith, h, other))
+
+-- what some of the first items pass, some item passes
+any-front : {X : Type 0} (test : X → Bool) (xs : List X) (i : ℕ) → list_any test (take i xs) ≡ true → list_any test xs ≡ true
+any-front test xs i h =
+    ap (list_any test) (sym (take-append-drop i xs))
+    ∙ list_any-append test (take i xs) (drop i xs)
+    ∙ ap (λ b. b || list_any test (drop i xs)) h
 
 -- ---- all rows of a stack
 
@@ -165,3 +201,16 @@ walked columns addrs addresses counts i d flags new found same all h long before
 pub all-walked : (columns : List (Option DynamicColumn)) (addrs : List RowAddr) (addresses : List (ℕ × ℕ)) (i : ℕ) (flags : List Bool) → map address_of addrs ≡ addresses → length addrs ≤ i → flags ≡ map (keeps columns (take i addresses)) (range_with_len 0 (length columns)) → flags ≡ kept_flags columns addresses
 all-walked columns addrs addresses i flags same h before =
     before ∙ ap (λ ps. kept_flags columns ps) (take_all i addresses (omega (arith, h, length-map addrs address_of, ap length same)))
+
+-- flags that are all set before the last address are those after it
+pub all-set : (columns : List (Option DynamicColumn)) (addresses : List (ℕ × ℕ)) (i : ℕ) (flags : List Bool) → AreSet flags (length flags) → flags ≡ map (keeps columns (take i addresses)) (range_with_len 0 (length columns)) → flags ≡ kept_flags columns addresses
+all-set columns addresses i flags are before = fill_by_all (keeps columns addresses) flags (length columns) false long each
+  where
+    long : length flags ≡ length columns
+    long = ap length before ∙ length-map-range_with_len (keeps columns (take i addresses)) 0 (length columns)
+
+    each : (k : ℕ) → k < length columns → get_or flags k false ≡ keeps columns addresses k
+    each k h =
+        let flag = are k (omega (arith, h, long)) in
+        let at = ap (λ fs. get_or fs k false) before ∙ get_or-map-range_with_len (keeps columns (take i addresses)) 0 (length columns) k k false h (omega arith) in
+        flag ∙ sym (any-front (λ q. (q.0 == k) && has_value (get_or columns k None) q.1) addresses i (sym at ∙ flag))

@@ -14,7 +14,7 @@ use Rattle.col_column.specs.Columns.{IsCounted, rows_by}
 use Rattle.col_dynamic.proofs.CoercionLemmas.{all-rows}
 
 -- the cells of a column each of whose values has one of the type
-own-cells : {T : Type 0} (t : ColumnType) (cell : T → Cell) (s : Shape) (xs : List T) → IsCounted s (length xs) → list_all (λ x. is_of_type t (cell x)) xs ≡ true → list_all (is_of_type t) (joined_lists (map (map cell) (rows_by s xs))) ≡ true
+pub own-cells : {T : Type 0} (t : ColumnType) (cell : T → Cell) (s : Shape) (xs : List T) → IsCounted s (length xs) → list_all (λ x. is_of_type t (cell x)) xs ≡ true → list_all (is_of_type t) (joined_lists (map (map cell) (rows_by s xs))) ≡ true
 own-cells t cell s xs counted all =
     rows-all (is_of_type t) (map (map cell) (rows_by s xs)) ∙ all-rows (is_of_type t) cell s xs counted ∙ all
 

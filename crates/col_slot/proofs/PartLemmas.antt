@@ -6,7 +6,7 @@ use Rattle.std.proofs.lemmas.Bool.{and_parts, cases_eq, ne_eqb, lt-ltb}
 use Rattle.std.proofs.lemmas.Grind.{common_steps}
 use Rattle.std.proofs.lemmas.List.{length-map}
 use Rattle.std.proofs.lemmas.List.FromFn.{get_or-map-range_with_len}
-use Rattle.std.proofs.lemmas.Option.{none-some, gets, slice_get_cases}
+use Rattle.std.proofs.lemmas.Option.{none-some, gets, slice_get_cases, slice_get_within}
 use Rattle.col_common.specs.Reading.{only_if}
 use Rattle.col_model.proofs.OrderedColumns.{same-slots}
 use Rattle.col_model.specs.Category.{Slot, category_of, same_slot}
@@ -23,17 +23,17 @@ use Rattle.col_types.specs.Cells.{unsigned_cell, bool_cell}
 use Rattle.col_numbers.specs.NumValues.{num_values_of}
 use Rattle.col_column.specs.Columns.{row_count, rows_by, row_at, content_seen}
 use Rattle.col_column.specs.IpValues.{ip_values_of}
+use Rattle.col_column.proofs.CellLemmas.{row-map}
 use Rattle.col_dynamic.specs.Dynamic.{content_of, dynamic_shape, value_count}
 use Rattle.col_dynamic.specs.declared.dynamic_column.DynamicColumn.{DynamicColumn}
 use Rattle.col_dynamic.specs.declared.dynamic_column.DynamicColumn.TheVariants as columns
-use Rattle.col_value_merge.proofs.MergedCellLemmas.{row-map}
 use Rattle.col_value_merge.proofs.MergedRowLemmas.{row-length}
 use Rattle.col_value_merge.specs.Merges.{IsColumn}
 use Rattle.col_slot.specs.JoinedSlots.{part_seen, AreOpened, AreKept}
 use Rattle.col_slot.specs.Kept.{has_value, keeps, kept_flags, IsCountedBy, IsCountedIn}
 use Rattle.col_slot.specs.Segments.{where_set, kept_of, column_seen, IsIn, HaveRows}
 use Rattle.col_slot.proofs.KeptLemmas.{column-at, counted-at}
-use Rattle.col_slot.proofs.SegmentLemmas.{set-at, length-set}
+use Rattle.col_slot.proofs.SegmentLemmas.{set-at, length-set, item-at}
 
 -- ---- a row has as many cells as the index counts
 
@@ -88,17 +88,6 @@ kept-each P (None ∷ os) (true ∷ fs) each = kept-each P os fs (λ j c e. each
 kept-each P (Some c ∷ os) (true ∷ fs) each = (each 0 c refl, kept-each P os fs (λ j c e. each (suc j) c e))
 
 -- ---- lists
-
-pub within-some : {A : Type 0} (xs : List A) (k : ℕ) (x : A) → slice_get xs k ≡ Some x → k < length xs
-within-some [] zero x e = absurd (none-some x e)
-within-some [] (suc k) x e = absurd (none-some x e)
-within-some (y ∷ ys) zero x e = omega arith
-within-some (y ∷ ys) (suc k) x e = let later = within-some ys k x e in omega (arith, later)
-
-pub some-at : {A : Type 0} (xs : List A) (k : ℕ) → k < length xs → (x : A) × (slice_get xs k ≡ Some x)
-some-at [] k h = absurd (omega arith)
-some-at (x ∷ xs) zero h = (x, refl)
-some-at (x ∷ xs) (suc k) h = some-at xs k (omega arith)
 
 filter-map : {A B : Type 0} (f : A → Option B) (xs : List A) → filter_map f xs ≡ filter_map (λ o. o) (map f xs)
 filter-map f [] = refl
@@ -157,7 +146,7 @@ module _ (counts : List ℕ) (cols : List (Option DynamicColumn)) (picked : List
   pub kept-part : (k : ℕ) (p : Part) → slice_get parts k ≡ Some p → kept_column slot picked (k, p) ≡ option_map (column_seen slot.name) (get_or (where_set cols (kept_flags cols picked)) k None)
   kept-part k p e =
       let test : Column → Bool = λ c. list_any (λ q. (q.0 == k) && nat_lt 0 (length (row_of c.content q.1))) picked in
-      let within : k < length cols = omega (arith, within-some parts k p e, long) in
+      let within : k < length cols = omega (arith, slice_get_within parts k p e, long) in
       ap (option_and_then (λ c. only_if (test c) c)) (ap (option_and_then whole_column) (opened.each k p e) ∙ whole-seen slot.name (get_or cols k None))
       ∙ seen-if (get_or flags k false) (get_or cols k None) slot.name test (λ c f. flag-at k c within f)
       ∙ ap (option_map (column_seen slot.name)) (sym (set-at cols flags k))
@@ -183,8 +172,8 @@ module _ (counts : List ℕ) (cols : List (Option DynamicColumn)) (picked : List
 
   column-category : (k : ℕ) (c : DynamicColumn) → get_or cols k None ≡ Some c → IsIn slot.category c
   column-category k c e =
-      let within : k < length parts = omega (arith, within-some cols k (Some c) (column-at cols k c e), long) in
-      let part = some-at parts k within in
+      let within : k < length parts = omega (arith, slice_get_within cols k (Some c) (column-at cols k c e), long) in
+      let part = item-at parts k within in
       ap (λ (s : Slot). s.category) (found-part slot part.0.columns (part_seen slot.name c) (opened.each k part.0 part.1 ∙ ap (option_map (part_seen slot.name)) e))
 
   -- all of them are of the slot's category

@@ -5,7 +5,6 @@ use Rattle.std.specs.Ordering.{partial_le}
 use Rattle.std.proofs.lemmas.Bool.{true≢false}
 use Rattle.std.proofs.lemmas.Bool.Decides.{nat_tests}
 use Rattle.std.proofs.lemmas.Int.{ints}
-use Rattle.std.proofs.lemmas.List.{length-map}
 use Rattle.std.proofs.lemmas.Option.{none-some, same_Some}
 use Rattle.std.proofs.lemmas.List.Sums.{list_all-from_AllPass}
 use Rattle.col_model.proofs.SoundTables.{rows-all}
@@ -19,34 +18,22 @@ use Rattle.col_values.specs.Codes.{number_cmp, is_i64}
 use Rattle.col_values.specs.Monotonic.{Passes}
 use Rattle.col_types.specs.Cells.{unsigned_cell, bool_cell}
 use Rattle.col_numbers.specs.NumValues.{num_values_of}
-use Rattle.col_column.proofs.FirstLemmas.{length-rows}
 use Rattle.col_numbers.specs.declared.num_values.NumValues.{NumValues}
 use Rattle.col_column.specs.declared.ip_values.IpValues.{IpValues}
 use Rattle.col_column.specs.Columns.{Seen, IsCounted, row_count, rows_by, content_seen}
-use Rattle.col_dynamic.proofs.CoercionLemmas.{all-rows}
 use Rattle.col_dynamic.specs.Dynamic.{type_of, content_of, dynamic_shape, value_count, is_of, fits_type, as_bool, as_i64, as_u64, as_datetime, as_ip_addr}
 use Rattle.col_dynamic.specs.declared.dynamic_column.DynamicColumn.{DynamicColumn}
 use Rattle.col_dynamic.specs.declared.dynamic_column.DynamicColumn.TheVariants as columns
+use Rattle.col_dynamic.proofs.RowLemmas.{cell-rows, seen-rows}
 use Rattle.col_slot.specs.Segments.{same_category, is_read_as, IsPart}
+use Rattle.col_slot.proofs.OwnLemmas.{own-cells}
 
 -- ---- how many rows there are
-
-rows-long : {T : Type 0} (cell : T → Cell) (s : Shape) (xs : List T) → length (map (map cell) (rows_by s xs)) ≡ row_count s (length xs)
-rows-long cell s xs = length-map (rows_by s xs) (map cell) ∙ length-rows s xs
-
-dynamic-long : (c : DynamicColumn) → length (content_of c).rows ≡ row_count (dynamic_shape c) (value_count c)
-dynamic-long (columns.Bool c) = rows-long _ _ _
-dynamic-long (columns.I64 c) = rows-long _ _ _
-dynamic-long (columns.U64 c) = rows-long _ _ _
-dynamic-long (columns.IpAddr c) = rows-long _ _ _
-dynamic-long (columns.DateTime c) = rows-long _ _ _
-dynamic-long (columns.Bytes c) = rows-long _ _ _
-dynamic-long (columns.Str c) = rows-long _ _ _
 
 -- An index and values with a column's content are a part with the column's rows.
 pub same-rows : {T : Type 0} (cell : T → Cell) (c : DynamicColumn) (s : Shape) (xs : List T) → content_of c ≡ content_seen [] cell s xs → row_count s (length xs) ≡ row_count (dynamic_shape c) (value_count c)
 same-rows cell c s xs same =
-    sym (rows-long cell s xs) ∙ sym (ap (λ (content : Content). length content.rows) same) ∙ dynamic-long c
+    sym (cell-rows cell s xs) ∙ sym (ap (λ (content : Content). length content.rows) same) ∙ seen-rows c
 
 -- An index and values, which a column with the same content was taken apart as, are a part.
 pub same-part : {V T : Type 0} (list : V → List T) (cell : T → Cell) (c : DynamicColumn) (d : Seen V) (s : Shape) (v : V) → content_of c ≡ content_seen [] cell d.shape (list d.values) → s ≡ d.shape → v ≡ d.values → IsCounted s (length (list v)) → IsPart (λ v. length (list v)) (λ s v. content_seen [] cell s (list v)) (row_count (dynamic_shape c) (value_count c)) (Some c) s v
@@ -111,11 +98,6 @@ is-u64 (columns.Str c) content e same = other types.str types.u64 refl refl e
 
 -- ---- columns of a category with one type
 
--- a column each of whose values is of its type
-own-read : {T : Type 0} (t : ColumnType) (cell : T → Cell) (s : Shape) (xs : List T) → IsCounted s (length xs) → list_all (λ x. is_of_type t (cell x)) xs ≡ true → list_all (is_of_type t) (joined_lists (map (map cell) (rows_by s xs))) ≡ true
-own-read t cell s xs counted all =
-    rows-all (is_of_type t) (map (map cell) (rows_by s xs)) ∙ all-rows (is_of_type t) cell s xs counted ∙ all
-
 flags-all : (row : List Bool) → list_all (is_of_type types.bool) (map bool_cell row) ≡ true
 flags-all [] = refl
 flags-all (true ∷ row) = flags-all row
@@ -157,12 +139,12 @@ is-address (columns.Bytes c) d e = absurd (none-some d e)
 is-address (columns.Str c) d e = absurd (none-some d e)
 
 pub times-read : (s : Shape) (xs : List ℤ) → IsCounted s (length xs) → All (Passes is_i64) xs → list_all (is_of_type types.datetime) (joined_lists (map (map number) (rows_by s xs))) ≡ true
-times-read s xs counted all = own-read types.datetime number s xs counted (list_all-from_AllPass is_i64 xs all)
+times-read s xs counted all = own-cells types.datetime number s xs counted (list_all-from_AllPass is_i64 xs all)
 
 within : (a b : ℕ) → partial_le number_cmp a b ≡ true → b < 2 ^ 128 → is_of_type types.ip (unsigned_cell a) ≡ true
 within a b h lt = grind (arith, ints, nat_tests)
 
 pub addresses-read : (s : Shape) (xs : List ℕ) (greatest : ℕ) → IsCounted s (length xs) → All (λ x. partial_le number_cmp x greatest ≡ true) xs → greatest < 2 ^ 128 → list_all (is_of_type types.ip) (joined_lists (map (map unsigned_cell) (rows_by s xs))) ≡ true
 addresses-read s xs greatest counted above lt =
-    own-read types.ip unsigned_cell s xs counted
+    own-cells types.ip unsigned_cell s xs counted
     (list_all-from_AllPass (λ x. is_of_type types.ip (unsigned_cell x)) xs (λ k d h. within (get_or xs k d) greatest (above k d h) lt))

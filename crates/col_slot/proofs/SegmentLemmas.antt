@@ -163,7 +163,7 @@ ok-then (Ok a) p f = f a p
 ok-then (Err e) p f = tt
 
 -- an item that is there
-item-at : {A : Type 0} (xs : List A) (k : ℕ) → k < length xs → (x : A) × (slice_get xs k ≡ Some x)
+pub item-at : {A : Type 0} (xs : List A) (k : ℕ) → k < length xs → (x : A) × (slice_get xs k ≡ Some x)
 item-at [] k h = absurd (omega arith)
 item-at (x ∷ xs) zero h = (x, refl)
 item-at (x ∷ xs) (suc k) h = item-at xs k (omega arith)

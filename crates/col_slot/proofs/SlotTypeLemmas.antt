@@ -1,10 +1,9 @@
 -- The type that the columns of a slot share, by what is seen of them.
-use Rattle.std.proofs.Common.{◌≡◌, ◌∙◌, ℕ, ◌+◌, ◌<◌, ◌≤◌, ◌||◌, Bool, true, false, List, [], ◌∷◌, length, take, drop, map, filter_map, get_or, slice_get, option_map, Option, Some, None, refl, sym, ap}
+use Rattle.std.proofs.Common.{◌≡◌, ◌∙◌, ℕ, ◌≤◌, ◌||◌, Bool, true, false, List, [], ◌∷◌, length, drop, map, filter_map, slice_get, option_map, Option, Some, None, refl, sym, ap}
 use Rattle.std.specs.List.{list_any, AllByRecursion}
 use Rattle.std.proofs.lemmas.Bool.{true≢false}
-use Rattle.std.proofs.lemmas.List.{drop_more, drop_all}
-use Rattle.std.proofs.lemmas.List.Folds.{list_any_more}
-use Rattle.col_model.proofs.SharedTypes.{number_type, type_by, shared-type, some≢none, same-some}
+use Rattle.std.proofs.lemmas.List.{drop_all}
+use Rattle.col_model.proofs.SharedTypes.{number_type, type_by, shared-type, some≢none, same-some, own-type}
 use Rattle.col_model.proofs.SharedTypes as shared
 use Rattle.col_model.specs.Category.{Category, category_of, only_type}
 use Rattle.col_model.specs.ColumnType.{ColumnType, is_numerical}
@@ -21,55 +20,9 @@ use Rattle.col_slot.proofs.SegmentLemmas.{any-kept}
 
 -- ---- the first column that is kept
 
--- an item that is there is the first of what is left
-pub first-there : {A : Type 0} (os : List (Option A)) (i : ℕ) (a : A) → i < length os → get_or os i None ≡ Some a → slice_get (filter_map (λ o. o) (drop i os)) 0 ≡ Some a
-first-there os i a h e =
-    ap (λ rest. slice_get (filter_map (λ o. o) rest) 0) (drop_more os i None h)
-    ∙ ap (λ o. slice_get (filter_map (λ o. o) (o ∷ drop (i + 1) os)) 0) e
-
--- an item that isn't leaves what is left
-pub first-later : {A : Type 0} (os : List (Option A)) (i : ℕ) → i < length os → get_or os i None ≡ None → filter_map (λ o. o) (drop i os) ≡ filter_map (λ o. o) (drop (i + 1) os)
-first-later os i h e =
-    ap (filter_map (λ o. o)) (drop_more os i None h)
-    ∙ ap (λ o. filter_map (λ o. o) (o ∷ drop (i + 1) os)) e
-
 -- behind the last item nothing is left
 pub first-none : {A : Type 0} (os : List (Option A)) (i : ℕ) → length os ≤ i → filter_map (λ o. o) (drop i os) ≡ []
 first-none os i h = ap (filter_map (λ o. o)) (drop_all i os h)
-
--- ---- what is seen of all columns
-
--- of one segment more, which keeps its column, or doesn't
-pub seen-more : (kept : List (Option DynamicColumn)) (i : ℕ) (c : DynamicColumn) (before after : NumbersSeen) → i < length kept → get_or kept i None ≡ Some c → HaveSeen (take i kept) before → after.some_signed ≡ (before.some_signed || is_signed c) → after.some_low ≡ (before.some_low || is_low c) → after.some_high ≡ (before.some_high || is_high c) → HaveSeen (take (i + 1) kept) after
-seen-more kept i c before after h at seen signed low high =
-    record {
-      some_signed = by is_signed before.some_signed after.some_signed seen.some_signed signed;
-      some_low = by is_low before.some_low after.some_low seen.some_low low;
-      some_high = by is_high before.some_high after.some_high seen.some_high high;
-    }
-  where
-    by : (p : DynamicColumn → Bool) (b a : Bool) → b ≡ list_any (passes p) (take i kept) → a ≡ (b || p c) → a ≡ list_any (passes p) (take (i + 1) kept)
-    by p b a was is =
-        is ∙ ap (λ b. b || p c) was ∙ ap (λ o. list_any (passes p) (take i kept) || passes p o) (sym at)
-        ∙ sym (list_any_more (passes p) kept i None h)
-
-pub seen-same : (kept : List (Option DynamicColumn)) (i : ℕ) (n : NumbersSeen) → i < length kept → get_or kept i None ≡ None → HaveSeen (take i kept) n → HaveSeen (take (i + 1) kept) n
-seen-same kept i n h at seen =
-    record {
-      some_signed = by is_signed n.some_signed seen.some_signed;
-      some_low = by is_low n.some_low seen.some_low;
-      some_high = by is_high n.some_high seen.some_high;
-    }
-  where
-    or-none : (b : Bool) → b ≡ (b || false)
-    or-none true = refl
-    or-none false = refl
-
-    by : (p : DynamicColumn → Bool) (b : Bool) → b ≡ list_any (passes p) (take i kept) → b ≡ list_any (passes p) (take (i + 1) kept)
-    by p b was =
-        was ∙ or-none (list_any (passes p) (take i kept))
-        ∙ ap (λ o. list_any (passes p) (take i kept) || passes p o) (sym at)
-        ∙ sym (list_any_more (passes p) kept i None h)
 
 -- ---- the type
 
@@ -81,16 +34,6 @@ all-seen : (category : Category) (name : List ℕ) (cs : List DynamicColumn) →
 all-seen category name [] all = tt
 all-seen category name (c ∷ cs) all = (all.0, all-seen category name cs all.1)
 
--- a category with one type has no numbers
-only : (t : ColumnType) → is_numerical t ≡ false → only_type (category_of t) ≡ Some t
-only types.i64 e = absurd (true≢false e)
-only types.u64 e = absurd (true≢false e)
-only types.bytes e = refl
-only types.str e = refl
-only types.bool e = refl
-only types.ip e = refl
-only types.datetime e = refl
-
 many : (t : ColumnType) → is_numerical t ≡ true → only_type (category_of t) ≡ None
 many types.i64 e = refl
 many types.u64 e = refl
@@ -100,18 +43,13 @@ many types.bool e = absurd (true≢false (sym e))
 many types.ip e = absurd (true≢false (sym e))
 many types.datetime e = absurd (true≢false (sym e))
 
--- no columns share no type
-pub none-shared : (name : List ℕ) (cs : List DynamicColumn) → option_map type_of (slice_get cs 0) ≡ None → shared_type (map (column_seen name) cs) ≡ None
-none-shared name [] e = refl
-none-shared name (c ∷ cs) e = absurd (some≢none (type_of c) e)
-
 -- of another category than the numerical one
 pub only-shared : (category : Category) (name : List ℕ) (cs : List DynamicColumn) (t : ColumnType) → AllByRecursion (IsIn category) cs → option_map type_of (slice_get cs 0) ≡ Some t → is_numerical t ≡ false → shared_type (map (column_seen name) cs) ≡ Some t
 only-shared category name [] t all e h = absurd (some≢none t (sym e))
 only-shared category name (c ∷ cs) t all e h =
     let columns = map (column_seen name) cs in
     let is : type_of c ≡ t = same-some (type_of c) t e in
-    let one : only_type category ≡ Some t = ap only_type (sym all.0) ∙ ap (λ u. only_type (category_of u)) is ∙ only t h in
+    let one : only_type category ≡ Some t = ap only_type (sym all.0) ∙ ap (λ u. only_type (category_of u)) is ∙ own-type t h in
     shared-type category (column_seen name c) columns (all-seen category name (c ∷ cs) all)
     ∙ ap (λ o. type_by o (list_any shared.low (column_seen name c ∷ columns)) (list_any shared.high (column_seen name c ∷ columns)) (list_any shared.is_i64 (column_seen name c ∷ columns))) one
 

@@ -1,14 +1,12 @@
 -- What stands in a joined column of terms is what the definition of merged tables joins.
-use Rattle.std.proofs.Common.{◌≡◌, inr, ℕ, zero, suc, ◌+◌, ◌<◌, ◌==◌, ◌&&◌, nat_lt, nat_le, Bool, true, false, cond, List, [], ◌∷◌, ◌++◌, length, map, drop, get_or, slice_get, unwrap_or, option_map, Option, Some, None, Result, refl, sym, ap, ap₂, ◌∙◌, subst, arith}
+use Rattle.std.proofs.Common.{◌≡◌, inr, ℕ, zero, suc, ◌+◌, ◌<◌, ◌==◌, ◌&&◌, nat_lt, Bool, true, false, cond, List, [], ◌∷◌, ◌++◌, length, map, drop, get_or, slice_get, unwrap_or, option_map, Option, Some, None, Result, refl, sym, ap, ap₂, ◌∙◌, subst, arith}
 use Rattle.std.specs.Prelude.{option_and_then, filter_map}
 use Rattle.std.specs.List.{list_all, list_any, enumerate_from, cons_option, fold, AllByRecursion}
 use Rattle.std.specs.Ordering.{nat_cmp}
 use Rattle.std.specs.Cmp.Lexicographic.{slice_cmp}
-use Rattle.std.proofs.lemmas.Bool.{and_parts, or_parts, eq-eqb, true≢false, lt-ltb}
-use Rattle.std.proofs.lemmas.Grind.{common_steps}
+use Rattle.std.proofs.lemmas.Bool.{and_parts, eq-eqb}
 use Rattle.std.proofs.lemmas.List.{drop-drop, length-map}
-use Rattle.std.proofs.lemmas.List.Folds.{list_all-map}
-use Rattle.std.proofs.lemmas.Option.{none-some, gets, slice_get_cases}
+use Rattle.std.proofs.lemmas.Option.{none-some}
 use Rattle.col_common.specs.Outside.{SeenSink}
 use Rattle.col_common.specs.Reading.{only_if}
 use Rattle.col_common.specs.declared.error.ColumnarError.{ColumnarError}
@@ -27,39 +25,31 @@ use Rattle.col_model.specs.Table.{Cell, Cardinality, Column, Content}
 use Rattle.col_model.specs.Table as tables
 use Rattle.col_model.specs.U64List.{joined_lists}
 use Rattle.col_model.specs.Written.{texts_of}
+use Rattle.col_model.proofs.ListLaws.{no-items}
 use Rattle.col_order.specs.Orders.{counts_of, picks_of}
 use Rattle.col_numbers.specs.NumValues.{num_values_of}
 use Rattle.col_index.specs.Offsets.{cardinality_in}
 use Rattle.col_indexer.specs.Counted.{tightest_of}
+use Rattle.col_indexer.proofs.TightestLemmas.{segment_named, tightest-counts}
 use Rattle.col_column.proofs.RowLemmas.{row-empty}
 use Rattle.col_column.specs.Columns.{rows_by, row_at, docs_in}
+use Rattle.col_column.proofs.CellLemmas.{row-map}
 use Rattle.col_text.specs.Texts.{Texts, texts_content}
 use Rattle.col_dynamic.specs.declared.dynamic_column.DynamicColumn.{DynamicColumn}
 use Rattle.col_term_merge.specs.Numbering.{terms_of}
-use Rattle.col_value_merge.proofs.MergedCellLemmas.{row-map}
-use Rattle.col_value_merge.proofs.MergedRowLemmas.{picks-there}
+use Rattle.col_value_merge.proofs.MergedRowLemmas.{picks-there, slice_get-first}
 use Rattle.col_value_merge.specs.Merges.{IsColumn}
 use Rattle.col_join.specs.Joins.{JoinsColumn}
 use Rattle.col_text_merge.specs.Merged.{shapes_of, picked_cells, merged_content}
+use Rattle.col_join.proofs.SlotLemmas.{any-none}
 use Rattle.col_slot.specs.JoinedSlots.{AreKept, IsJoinedContent, WritesSlot}
 use Rattle.col_slot.specs.Segments.{column_seen}
 use Rattle.col_slot.specs.Texts.{text_type, IsTextAs, IsCountedText, AreTexts}
 use Rattle.col_slot.proofs.JoinedLemmas.{row-count-at}
-use Rattle.col_slot.proofs.PartLemmas.{row-count, row-within, some-at}
+use Rattle.col_slot.proofs.PartLemmas.{row-count, row-within}
+use Rattle.col_slot.proofs.SegmentLemmas.{item-at}
 
 -- ---- a column that holds nothing in picked rows
-
--- a test that no item passes, at one of them
-any-none : {A : Type 0} (test : A → Bool) (xs : List A) (i : ℕ) (x : A) → slice_get xs i ≡ Some x → list_any test xs ≡ false → test x ≡ false
-any-none test [] zero x e h = absurd (none-some x e)
-any-none test [] (suc i) x e h = absurd (none-some x e)
-any-none test (y ∷ ys) zero x e h = ap test (sym (ap (λ o. unwrap_or o x) e)) ∙ (or_parts (test y) (list_any test ys) h).0
-any-none test (y ∷ ys) (suc i) x e h = any-none test ys i x e (or_parts (test y) (list_any test ys) h).1
-
--- a list without an item
-no-length : {A : Type 0} (xs : List A) → nat_lt 0 (length xs) ≡ false → xs ≡ []
-no-length [] e = refl
-no-length (x ∷ xs) e = absurd (true≢false (sym (lt-ltb 0 (suc (length xs)) (omega arith)) ∙ e))
 
 -- a column of terms without a value
 no-rows : (n : ℕ) (x : Texts) (d : ℕ) → x.ords.shape ≡ empty_shape n → row_of (texts_content x) d ≡ []
@@ -82,7 +72,7 @@ module _ (slot : Slot) (picked : List (ℕ × ℕ)) (n k d : ℕ) (x : Texts) wh
   empty-row : (c : Column) (i : ℕ) → slice_get picked i ≡ Some (k, d) → list_any (λ q. (q.0 == k) && nat_lt 0 (length (row_of c.content q.1))) picked ≡ false → row_of c.content d ≡ []
   empty-row c i at h =
       let none = any-none (λ (q : ℕ × ℕ). (q.0 == k) && nat_lt 0 (length (row_of c.content q.1))) picked i (k, d) at h in
-      no-length (row_of c.content d) (ap (λ b. b && nat_lt 0 (length (row_of c.content d))) (sym (eq-eqb k k refl)) ∙ none)
+      no-items (row_of c.content d) (ap (λ b. b && nat_lt 0 (length (row_of c.content d))) (sym (eq-eqb k k refl)) ∙ none)
 
   -- the text column of what is kept
   seen-cells : (o : Option DynamicColumn) → IsTextAs n o x → cells-of (option_map (column_seen slot.name) o) ≡ row_of (texts_content x) d
@@ -99,16 +89,6 @@ module _ (slot : Slot) (picked : List (ℕ × ℕ)) (n k d : ℕ) (x : Texts) wh
 
 -- ---- segments
 
-row-named : (counts : List ℕ) (p : ℕ × ℕ) → has_row counts p ≡ true → p.0 < length counts
-row-named counts p h = grind (arith, common_steps, gets, slice_get_cases counts p.0)
-
--- the first item behind others
-get-first : {A : Type 0} (xs : List A) (k : ℕ) (y : A) (ys : List A) → drop k xs ≡ y ∷ ys → slice_get xs k ≡ Some y
-get-first [] zero y ys e = absurd (omega (arith, ap length e))
-get-first [] (suc k) y ys e = absurd (omega (arith, ap length e))
-get-first (x ∷ xs) zero y ys e = ap (λ zs. slice_get zs 0) e
-get-first (x ∷ xs) (suc k) y ys e = get-first xs k y ys e
-
 module _ (slot : Slot) (parts : List Part) (texts : List Texts) (kept : List (Option DynamicColumn)) (picked : List (ℕ × ℕ)) (is : AreKept slot picked parts kept) (long : length texts ≡ length parts) (each : (k : ℕ) (x : Texts) → slice_get texts k ≡ Some x → IsTextAs (get_or (row_counts parts) k 0) (get_or kept k None) x) where
   cells-named : (k d : ℕ) (p : Part) → slice_get parts k ≡ Some p → cells_in slot parts (k, d) ≡ unwrap_or (option_map (λ c. row_of c.content d) (whole_column_in slot p)) []
   cells-named k d p e = ap (λ o. unwrap_or (option_map (λ c. row_of c.content d) (option_and_then (whole_column_in slot) o)) []) e
@@ -118,12 +98,12 @@ module _ (slot : Slot) (parts : List Part) (texts : List Texts) (kept : List (Op
   rows-kept [] i e all = refl
   rows-kept ((k, d) ∷ ps) i e all =
       let of = and_parts (has_row (row_counts parts) (k, d)) (list_all (has_row (row_counts parts)) ps) all in
-      let within : k < length parts = omega (arith, row-named (row_counts parts) (k, d) of.0, length-map parts (λ (p : Part). p.row_count)) in
-      let part = some-at parts k within in
-      let text = some-at texts k (omega (arith, within, long)) in
+      let within : k < length parts = omega (arith, segment_named (row_counts parts) (k, d) of.0, length-map parts (λ (p : Part). p.row_count)) in
+      let part = item-at parts k within in
+      let text = item-at texts k (omega (arith, within, long)) in
       let here =
       cells-named k d part.0 part.1
-      ∙ kept-cells slot picked (get_or (row_counts parts) k 0) k d text.0 (whole_column_in slot part.0) i (get-first picked i (k, d) ps e)
+      ∙ kept-cells slot picked (get_or (row_counts parts) k 0) k d text.0 (whole_column_in slot part.0) i (slice_get-first picked i (k, d) ps e)
       ∙ ap (λ o. unwrap_or (option_map (λ c. row_of c.content d) o) []) (is.each k part.0 part.1)
       ∙ seen-cells slot picked (get_or (row_counts parts) k 0) k d text.0 (get_or kept k None) (each k text.0 text.1) in
       let later : drop (i + 1) picked ≡ ps = sym (drop-drop 1 i picked) ∙ ap (λ qs. drop 1 qs) e in
@@ -135,8 +115,8 @@ module _ (slot : Slot) (parts : List Part) (texts : List Texts) (kept : List (Op
   cards-kept k [] (x ∷ xs) e f same = absurd (omega (arith, same))
   cards-kept k (p ∷ ps) [] e f same = absurd (omega (arith, same))
   cards-kept k (p ∷ ps) (x ∷ xs) e f same =
-      let at : slice_get parts k ≡ Some p = get-first parts k p ps e in
-      let text : slice_get texts k ≡ Some x = get-first texts k x xs f in
+      let at : slice_get parts k ≡ Some p = slice_get-first parts k p ps e in
+      let text : slice_get texts k ≡ Some x = slice_get-first texts k x xs f in
       let later : drop (k + 1) parts ≡ ps = sym (drop-drop 1 k parts) ∙ ap (λ qs. drop 1 qs) e in
       let behind : drop (k + 1) texts ≡ xs = sym (drop-drop 1 k texts) ∙ ap (λ qs. drop 1 qs) f in
       ap₂ (λ a b. a ∷ b)
@@ -154,8 +134,8 @@ module _ (slot : Slot) (parts : List Part) (texts : List Texts) (kept : List (Op
   terms-kept k [] (x ∷ xs) e f same = absurd (omega (arith, same))
   terms-kept k (p ∷ ps) [] e f same = absurd (omega (arith, same))
   terms-kept k (p ∷ ps) (x ∷ xs) e f same =
-      let at : slice_get parts k ≡ Some p = get-first parts k p ps e in
-      let text : slice_get texts k ≡ Some x = get-first texts k x xs f in
+      let at : slice_get parts k ≡ Some p = slice_get-first parts k p ps e in
+      let text : slice_get texts k ≡ Some x = slice_get-first texts k x xs f in
       let later : drop (k + 1) parts ≡ ps = sym (drop-drop 1 k parts) ∙ ap (λ qs. drop 1 qs) e in
       let behind : drop (k + 1) texts ≡ xs = sym (drop-drop 1 k texts) ∙ ap (λ qs. drop 1 qs) f in
       ap (λ o. joined_lists (map (λ d. d.content.terms) (cons_option o (filter_map (kept_column slot picked) (enumerate_from (k + 1) ps))))) (is.each k p at)
@@ -166,11 +146,6 @@ module _ (slot : Slot) (parts : List Part) (texts : List Texts) (kept : List (Op
       go (Some c) it more = ap₂ (λ a b. a ++ b) (ap (λ (content : Content). content.terms) it) more
 
 -- ---- the joined column
-
--- the tightest cardinality is that of their counts
-tightest-counts : (rows : List (List Cell)) → tightest rows ≡ tightest_of (map length rows)
-tightest-counts rows =
-    λ i. cond (sym (list_all-map (λ c. c == 1) length rows) i) tables.full (cond (sym (list_all-map (λ c. nat_le c 1) length rows) i) tables.optional tables.multivalued)
 
 -- a segment's columns of terms, as an index with ordinals
 text-column : (counts : List ℕ) (texts : List Texts) (k : ℕ) (x : Texts) → map (λ c. docs_in num_values_of c.ords) texts ≡ counts → AllByRecursion IsCountedText texts → slice_get texts k ≡ Some x → IsColumn (get_or counts k 0) x.ords.shape (num_values_of x.ords.values)
@@ -195,8 +170,8 @@ unfolding picked_counts
 text-lengths counts texts fit all [] named = refl
 text-lengths counts texts fit all ((k, d) ∷ ps) named =
     let of = and_parts (has_row counts (k, d)) (list_all (has_row counts) ps) named in
-    let within : k < length texts = omega (arith, row-named counts (k, d) of.0, ap length fit, length-map texts (λ (c : Texts). docs_in num_values_of c.ords)) in
-    let text = some-at texts k within in
+    let within : k < length texts = omega (arith, segment_named counts (k, d) of.0, ap length fit, length-map texts (λ (c : Texts). docs_in num_values_of c.ords)) in
+    let text = item-at texts k within in
     let x = text.0 in
     ap₂ (λ a b. a ∷ b)
     (ap (λ o. length (unwrap_or (option_map (λ c. row_of (texts_content c) d) o) [])) text.1

@@ -4,7 +4,7 @@ use Rattle.std.specs.Prelude.{filter_map}
 use Rattle.std.specs.List.{list_all}
 use Rattle.std.proofs.lemmas.List.{take_all, length_push}
 use Rattle.std.proofs.lemmas.List.Folds.{list_all_more, list_all_at}
-use Rattle.std.proofs.lemmas.Option.{none-some}
+use Rattle.std.proofs.lemmas.Option.{none-some, slice_get_within}
 use Rattle.col_model.specs.ColumnType.{ColumnType, has_terms}
 use Rattle.col_model.specs.ColumnType as types
 use Rattle.col_model.specs.Index.{empty_shape}
@@ -17,7 +17,6 @@ use Rattle.col_dynamic.specs.declared.dynamic_column.DynamicColumn.TheVariants a
 use Rattle.col_slot.specs.Segments.{is_read_as, is_none_or}
 use Rattle.col_slot.specs.Texts.{IsTextPart, IsCountedText, AreTexts}
 use Rattle.col_slot.proofs.OwnLemmas.{bytes-own, texts-own}
-use Rattle.col_slot.proofs.PartLemmas.{within-some}
 use Rattle.col_slot.proofs.SegmentLemmas.{get-more, all-kept}
 
 -- the columns of the first i segments
@@ -29,7 +28,7 @@ pub record AreTextsUpTo (t : ColumnType) (counts : List ℕ) (kept : List (Optio
 module _ (t : ColumnType) (counts : List ℕ) (kept : List (Option DynamicColumn)) where
   -- before the first
   pub no-texts : AreTextsUpTo t counts kept 0 []
-  no-texts = record { long = refl; each = λ k x e. absurd (omega (arith, within-some [] k x e)); read = refl }
+  no-texts = record { long = refl; each = λ k x e. absurd (omega (arith, slice_get_within [] k x e)); read = refl }
 
   -- one more
   pub one-text : (i : ℕ) (texts more : List Texts) (x : Texts) → i < length kept → AreTextsUpTo t counts kept i texts → is_none_or (is_read_as t) (get_or kept i None) ≡ true → IsTextPart (get_or counts i 0) (get_or kept i None) x → more ≡ texts ++ x ∷ [] → AreTextsUpTo t counts kept (i + 1) more

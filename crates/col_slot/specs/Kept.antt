@@ -1,5 +1,5 @@
 -- Which segments keep a column. States docs/RULES.md, Merged tables.
-use Rattle.std.specs.Prelude.{◌≡◌, ℕ, ◌==◌, ◌&&◌, not, Bool, true, false, List, map, length, slice_index_or, Option, Some, None}
+use Rattle.std.specs.Prelude.{◌≡◌, ℕ, ◌<◌, ◌==◌, ◌&&◌, not, Bool, true, false, List, map, length, slice_index_or, Option, Some, None}
 use Rattle.std.specs.List.{list_any, range_with_len}
 use Rattle.col_model.specs.Positions.{count_in}
 use Rattle.col_column.specs.Columns.{IsCounted}
@@ -25,6 +25,10 @@ keeps columns picked k =
 -- the same for each segment
 abbrev pub kept_flags : List (Option DynamicColumn) → List (ℕ × ℕ) → List Bool
 kept_flags columns picked = map (keeps columns picked) (range_with_len 0 (length columns))
+
+-- the flags before a place are set
+abbrev pub AreSet : List Bool → ℕ → Type 0
+AreSet flags n = (k : ℕ) → k < n → slice_index_or flags k false ≡ true
 
 -- a column has just the values that its index counts
 abbrev pub IsCountedBy : DynamicColumn → Type 0

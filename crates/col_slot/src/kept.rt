@@ -1,8 +1,8 @@
 //! Which segments keep a column: those of which a picked row has a value.
-ghost use Rattle.std.specs.Prelude.{◌≡◌, ◌<◌, ◌||◌, map, length, replicate, slice_set, slice_index_or, false, None, IfOk};
+ghost use Rattle.std.specs.Prelude.{◌≡◌, ◌<◌, ◌≤◌, ◌||◌, map, length, replicate, slice_set, slice_index_or, false, None, IfOk};
 ghost use Rattle.col_order.specs.Orders.{counts_of, picks_of};
 ghost use Rattle.col_order.specs.RowOrders.{order_of};
-ghost use Rattle.col_slot.specs.Kept.{has_value, has_values, kept_flags};
+ghost use Rattle.col_slot.specs.Kept.{has_value, has_values, kept_flags, AreSet};
 ghost use Rattle.col_slot.specs.Segments.{HaveRows};
 
 use crate::told::columns_are_counted;
@@ -63,16 +63,39 @@ fn kept_shuffled(
     Ok(kept)
 }
 
-// Sets the flag of each segment of which a row that is named has a value.
+// Sets the flag of each segment of which a row that is named has a value. No more rows are looked
+// at than set all flags.
 fn note_named(kept: &mut [bool], columns: &[Option<DynamicColumn>], order: &ShuffleMergeOrder)
     requires segments { length columns.now ≡ length order.now.counts }
     requires flags { kept.old ≡ replicate (length columns.now) false }
     ensures { kept.new ≡ kept_flags columns.now order.now.addresses }
 {
     order.rows_are_there();
+    let mut unset = 0;
     for addr in order.iter_new_to_old_row_addrs() {
+        unset = first_unset(kept, unset);
+        if unset == kept.len() {
+            return;
+        }
         note(kept, columns, *addr);
     }
+}
+
+// The first flag from a place on that isn't set, where all before that place are; else how many
+// flags there are.
+#[inline(always)]
+fn first_unset(kept: &[bool], from: usize) -> usize
+    requires within { from ≤ length kept.now }
+    requires set { AreSet kept.now from }
+    ensures within { result ≤ length kept.now }
+    ensures set { AreSet kept.now result }
+    ensures unset { slice_index_or kept.now result false ≡ false }
+{
+    let mut at = from;
+    while at < kept.len() && kept[at] {
+        at += 1;
+    }
+    at
 }
 
 // Whether the row that an address names has a value.
@@ -90,7 +113,8 @@ fn has_value_at(columns: &[Option<DynamicColumn>], addr: RowAddr) -> bool
 fn note(kept: &mut [bool], columns: &[Option<DynamicColumn>], addr: RowAddr)
     requires columns { addr.segment_ord < length columns.now }
     requires flags { addr.segment_ord < length kept.old }
-    ensures { let found = has_value (slice_index_or columns.now addr.segment_ord None) addr.row_id in
+    ensures { let found = has_value (slice_index_or columns.now addr.segment_ord None)
+        addr.row_id in
         kept.new ≡ slice_set kept.old addr.segment_ord
         (slice_index_or kept.old addr.segment_ord false || found) }
 {

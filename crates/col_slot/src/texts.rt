@@ -16,7 +16,8 @@ use col_join::join_texts;
 use col_order::{MergeRowOrder, orders_are_picks};
 use std::alloc::Global;
 
-/// Writes the joined column of terms of the columns whose flags are set, each of texts, or of byte strings.
+/// Writes the joined column of terms of the columns whose flags are set, each of texts, or of byte
+/// strings.
 pub(crate) fn write_texts<K: Sink>(
     alloc: Global,
     columns: &mut [Option<DynamicColumn>],
@@ -36,8 +37,9 @@ pub(crate) fn write_texts<K: Sink>(
     join_texts(alloc, &texts, merge_row_order, sink)
 }
 
-// The columns of terms of segments, which are taken out of the columns whose flags are set; an empty
-// one for another segment. CannotCoerce comes exactly where one that is taken isn't of the type.
+// The columns of terms of segments, which are taken out of the columns whose flags are set; an
+// empty one for another segment. CannotCoerce comes exactly where one that is taken isn't of the
+// type.
 fn segment_texts(
     alloc: Global,
     columns: &mut [Option<DynamicColumn>],

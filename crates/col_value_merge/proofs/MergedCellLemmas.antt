@@ -1,58 +1,36 @@
 -- Cells of merged columns are those of the rows that the order picks.
-use Rattle.std.proofs.Common.{◌≡◌, ℕ, ◌<◌, ◌^◌, List, [], ◌∷◌, length, map, drop, slice_get, slice_index, unwrap_or, option_map, Option, Some, None, refl, sym, ap, ap₂, ◌∙◌, arith}
+use Rattle.std.proofs.Common.{◌≡◌, ℕ, List, [], ◌∷◌, length, map, slice_get, slice_index, Some, None, refl, sym, ap, ap₂, ◌∙◌}
 use Rattle.std.specs.List.{AllByRecursion}
-use Rattle.std.proofs.lemmas.List.{length-map, take-map, drop-map}
+use Rattle.std.proofs.lemmas.List.{length-map}
 use Rattle.std.proofs.lemmas.List.Elements.{recursion_from_All}
-use Rattle.std.proofs.lemmas.Option.{slice_get-map}
 use Rattle.col_model.specs.Category.{Slot}
 use Rattle.col_model.specs.Dictionary.{cut}
 use Rattle.col_model.specs.File.{Part}
 use Rattle.col_model.specs.Index.{Shape, empty_shape}
 use Rattle.col_model.specs.Merge.{cells_in, whole_column_in}
 use Rattle.col_model.specs.Table.{Cell, Column}
-use Rattle.col_order.specs.Orders.{counts_of, picks_of}
+use Rattle.col_order.specs.Orders.{picks_of}
 use Rattle.col_column.specs.Columns.{counts_by, rows_by, row_at}
 use Rattle.col_column.proofs.RowLemmas.{row-empty}
-use Rattle.col_indexer.specs.Merged.{FitOrder, IsMerged, merged_counts}
+use Rattle.col_indexer.specs.Merged.{IsMerged, merged_counts}
 use Rattle.col_indexer.specs.Spelling.{Index, index_shape}
-use Rattle.col_value_merge.specs.Laws.{IsOrdered, CountsPicked, MergedCellsArePicked}
-use Rattle.col_value_merge.specs.Merges.{Columns, segment_shape, segment_values, picked_row, merged_rows, Merge, IsMerge, values_of}
+use Rattle.col_column.proofs.CellLemmas.{cut-map, row-map}
+use Rattle.col_value_merge.specs.Laws.{CountsPicked, MergedCellsArePicked}
+use Rattle.col_value_merge.specs.Merges.{Columns, segment_shape, segment_values, picked_row, merged_rows, Merge}
 use Rattle.col_value_merge.specs.TermColumns.{remapped}
-use Rattle.col_value_merge.proofs.ColumnListLemmas.{columns-fit}
-use Rattle.col_value_merge.proofs.MergedRowLemmas.{length-merged, picks-there, merged-rows}
+use Rattle.col_value_merge.proofs.MergedRowLemmas.{merged-rows}
 
 -- ---- the premises of merged indexes
 
--- columns whose picked values are few have a merged index
-pub merge-fits : {T : Type 0} (m : Merge T) → IsMerge m → IsOrdered m → length (values_of m) < 2 ^ 32 → FitOrder m.order m.columns.shapes
-merge-fits m is ordered few = record {
-  segments = columns-fit (counts_of m.order) m.columns.shapes m.columns.lists is;
-  few = omega (arith, length-merged m.columns (counts_of m.order) is (picks_of m.order) (picks-there m.order ordered));
-}
-
--- and that counts the picked rows
+-- a merged index counts the picked rows
 pub merged-counts : {T : Type 0} (m : Merge T) (i : Index) → IsMerged m.order m.columns.shapes i → CountsPicked m (index_shape i) (merged_counts m.order m.columns.shapes)
 merged-counts m i is = (is, refl)
 
 -- ---- cells
 
--- rows of values that are turned
-cut-map : {A B : Type 0} (f : A → B) (cs : List ℕ) (xs : List A) → cut cs (map f xs) ≡ map (map f) (cut cs xs)
-unfolding cut
-cut-map f [] xs = refl
-cut-map f (c ∷ cs) xs = ap₂ (λ a b. a ∷ b) (take-map f c xs) (ap (cut cs) (drop-map f c xs) ∙ cut-map f cs (drop c xs))
-
 pub rows-map : {A B : Type 0} (f : A → B) (s : Shape) (xs : List A) → rows_by s (map f xs) ≡ map (map f) (rows_by s xs)
 unfolding rows_by
 rows-map f s xs = ap (λ n. cut (counts_by s n) (map f xs)) (length-map xs f) ∙ cut-map f (counts_by s (length xs)) xs
-
--- a row of cells
-pub row-map : {A B : Type 0} (f : A → B) (rows : List (List A)) (d : ℕ) → row_at (map (map f) rows) d ≡ map f (row_at rows d)
-row-map {A = A} f rows d = ap (λ o. unwrap_or o []) (slice_get-map (map f) rows d) ∙ go (slice_get rows d)
-  where
-    go : (o : Option (List A)) → unwrap_or (option_map (map f) o) [] ≡ map f (unwrap_or o [])
-    go None = refl
-    go (Some xs) = refl
 
 -- a picked row of ordinals that are turned
 pub row-remapped : (m ords : List ℕ) (s : Shape) (d : ℕ) → row_at (rows_by s (remapped m ords)) d ≡ remapped m (row_at (rows_by s ords) d)

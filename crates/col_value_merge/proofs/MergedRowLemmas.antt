@@ -84,12 +84,12 @@ module _ {T : Type 0} (c : Columns T) (counts : List ℕ) (are : AreColumns coun
 -- ---- the rows of an order are there
 
 -- what a test lets through
-only_if-true : {A : Type 0} (t : Bool) (x y : A) → only_if t x ≡ Some y → t ≡ true
+pub only_if-true : {A : Type 0} (t : Bool) (x y : A) → only_if t x ≡ Some y → t ≡ true
 only_if-true true x y e = refl
 only_if-true false x y e = absurd (none-some y e)
 
 -- the first item behind others
-slice_get-first : {A : Type 0} (xs : List A) (k : ℕ) (y : A) (ys : List A) → drop k xs ≡ y ∷ ys → slice_get xs k ≡ Some y
+pub slice_get-first : {A : Type 0} (xs : List A) (k : ℕ) (y : A) (ys : List A) → drop k xs ≡ y ∷ ys → slice_get xs k ≡ Some y
 slice_get-first [] zero y ys e = absurd (omega (arith, ap length e))
 slice_get-first [] (suc k) y ys e = absurd (omega (arith, ap length e))
 slice_get-first (x ∷ xs) zero y ys e = ap (λ zs. slice_get zs 0) e
@@ -119,7 +119,7 @@ picks-there (shuffle counts addresses) e =
 -- ---- a merged column
 
 -- what a test lets through
-only_if-is : {A : Type 0} (t : Bool) (x y : A) → only_if t x ≡ Some y → x ≡ y
+pub only_if-is : {A : Type 0} (t : Bool) (x y : A) → only_if t x ≡ Some y → x ≡ y
 only_if-is true x y e = ap (λ o. unwrap_or o x) e
 only_if-is false x y e = absurd (none-some y e)
 

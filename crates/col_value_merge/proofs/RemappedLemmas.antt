@@ -23,7 +23,7 @@ module _ (texts : List Texts) (mappings : List (List ℕ)) (k : ℕ) (within : k
   both-there = zipped-within texts mappings k (let long = length-map (zip texts mappings) (λ p. remapped p.1 (ords_of p.0)) in omega arith)
 
 -- the values of a segment
-segment-is : (texts : List Texts) (mappings : List (List ℕ)) (k : ℕ) (os m : List ℕ) → slice_get (map ords_of texts) k ≡ Some os → slice_get mappings k ≡ Some m → segment_values (remapped_columns texts mappings) k ≡ remapped m os
+pub segment-is : (texts : List Texts) (mappings : List (List ℕ)) (k : ℕ) (os m : List ℕ) → slice_get (map ords_of texts) k ≡ Some os → slice_get mappings k ≡ Some m → segment_values (remapped_columns texts mappings) k ≡ remapped m os
 segment-is [] mappings k os m e f = absurd (none-some os e)
 segment-is (t ∷ ts) [] k os m e f = absurd (none-some m f)
 segment-is (t ∷ ts) (n ∷ ns) zero os m e f = ap₂ remapped (ap (λ o. unwrap_or o []) f) (ap (λ o. unwrap_or o []) e)

@@ -5,6 +5,7 @@
 
 mod in_memory;
 mod laws;
+mod lists;
 mod merged_column_values;
 mod remapped_term_ordinals;
 mod runs;

@@ -1,9 +1,10 @@
 //! The values of columns, in a merged order.
-ghost use Rattle.std.specs.Prelude.{◌≡◌, ◌+◌, ◌++◌, length, map, take, OnOk};
+ghost use Rattle.std.specs.Prelude.{◌≡◌, map};
 ghost use Rattle.col_index.specs.Indexes.{shape_of};
 ghost use Rattle.col_order.specs.RowOrders.{order_of};
 
 use crate::in_memory::InMemory;
+use crate::lists::append_list;
 use crate::runs::{next_value, picked_values};
 use crate::segments::Segments;
 use col_common::{Iterable, RowId, Walk};
@@ -118,34 +119,6 @@ where
     fn append_segment(&self, segment: usize, values: &mut Vec<T>) -> Result<(), AllocError> {
         append_list(&self.column_values[segment], values)
     }
-}
-
-// Appends the values of a list, which are read a block at a time.
-fn append_list<T, V>(list: &V, values: &mut Vec<T>) -> Result<(), AllocError>
-where
-    T: PartialOrd + Copy,
-    V: ColumnValues<T>,
-    ensures { OnOk result (values.new.items ≡ values.old.items ++ V.values list.now) }
-{
-    let num_vals = list.num_vals();
-    if num_vals == 0 {
-        return Ok(());
-    }
-    let start = values.len();
-    values.resize(start + num_vals as usize, list.get_val(0))?;
-    read_list(list, values.as_mut_slice(), start);
-    Ok(())
-}
-
-// Writes the values of a list to the end of others, from a place on.
-fn read_list<T, V>(list: &V, values: &mut [T], start: usize)
-where
-    T: PartialOrd + Copy,
-    V: ColumnValues<T>,
-    requires { start + length (V.values list.now) ≡ length values.old }
-    ensures { values.new ≡ take start values.old ++ V.values list.now }
-{
-    list.get_range(0, &mut values[start..]);
 }
 
 impl<'a, T, V> Iterable<T> for MergedColumnValues<'a, T, V>

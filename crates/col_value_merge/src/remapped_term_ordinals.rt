@@ -1,10 +1,11 @@
 //! The ordinals of terms of columns, in a merged order, as ordinals of merged terms.
-ghost use Rattle.std.specs.Prelude.{◌≡◌, ◌<◌, map, length, slice_get, slice_index, Some};
+ghost use Rattle.std.specs.Prelude.{◌≡◌, ◌<◌, ◌≤◌, ◌++◌, map, drop, take, length, slice_get, slice_index, Some, OnOk};
 ghost use Rattle.col_numbers.specs.NumValues.{num_values_of};
 ghost use Rattle.col_order.specs.RowOrders.{order_of};
-ghost use Rattle.col_value_merge.specs.TermColumns.{ords_of};
+ghost use Rattle.col_value_merge.specs.TermColumns.{ords_of, remapped};
 
 use crate::in_memory::InMemory;
+use crate::lists::append_list;
 use crate::runs::{next_value, picked_values};
 use crate::segments::Segments;
 use col_common::{Iterable, RowId, Walk};
@@ -98,6 +99,46 @@ impl<'a> Segments<u64> for RemappedColumns<'a> {
     fn get_val(&self, segment: usize, idx: u32) -> u64 {
         let ord = ords_of(self.bytes_columns, segment).get_val(idx);
         item_at(mapping_of(self.term_ord_mapping, segment), ord)
+    }
+
+    fn append_segment(&self, segment: usize, values: &mut Vec<u64>) -> Result<(), AllocError> {
+        append_mapped(
+            ords_of(self.bytes_columns, segment),
+            mapping_of(self.term_ord_mapping, segment),
+            values,
+        )
+    }
+}
+
+// Appends the ordinals of a list, each as a mapping has it.
+fn append_mapped(
+    ords: &NumValues<u64>,
+    mapping: &[u64],
+    values: &mut Vec<u64>,
+) -> Result<(), AllocError>
+    ensures { OnOk result (values.new.items
+        ≡ values.old.items ++ remapped mapping.now (num_values_of ords.now)) }
+{
+    let start = values.len();
+    append_list(ords, values)?;
+    map_from(values.as_mut_slice(), start, mapping);
+    Ok(())
+}
+
+// Turns ordinals from a place on into the items of a mapping.
+fn map_from(ords: &mut [u64], start: usize, mapping: &[u64])
+    requires { start ≤ length ords.old }
+    ensures { ords.new ≡ take start ords.old ++ remapped mapping.now (drop start ords.old) }
+{
+    map_all(&mut ords[start..], mapping);
+}
+
+// Turns ordinals into the items of a mapping.
+fn map_all(ords: &mut [u64], mapping: &[u64])
+    ensures { ords.new ≡ remapped mapping.now ords.old }
+{
+    for at in 0..ords.len() {
+        ords[at] = item_at(mapping, ords[at]);
     }
 }
 

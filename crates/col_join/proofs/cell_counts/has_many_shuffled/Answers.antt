@@ -3,7 +3,8 @@ use Rattle.std.specs.List.{list_all}
 use Rattle.col_index.specs.Indexes.{shape_of}
 use Rattle.col_model.specs.Order.{has_row}
 use Rattle.col_model.specs.Positions.{picked_counts}
-use Rattle.col_join.proofs.CountLemmas.{named-there, walked, all-walked, too-many, one-more, counted}
+use Rattle.col_indexer.proofs.ShuffleLemmas.{segment-there}
+use Rattle.col_join.proofs.CountLemmas.{walked, all-walked, too-many, one-more, counted}
 use Rattle.col_join.proofs.cell_counts.has_many_shuffled.Goals as goal
 
 pub num_at-requires : goal.num_at-requires
@@ -11,7 +12,7 @@ num_at-requires c =
     let order = c.args.order.now in
     let addrs = c.iter_new_to_old_row_addrs-addr-items.result.now in
     let named = ap (λ all. list_all (has_row order.counts) all) c.iter_new_to_old_row_addrs-addr-items.ensures ∙ c.rows_are_there.ensures in
-    named-there c.args.column_indexes.now addrs order.counts c.loop-addr.addr-index (record { segment_ord = 0; row_id = 0 }) c.requires named c.loop-addr-test.true
+    segment-there c.args.column_indexes.now addrs order.counts c.loop-addr.addr-index (record { segment_ord = 0; row_id = 0 }) c.requires named c.loop-addr-test.true
 
 pub returns-then-count-from : goal.returns-then-count-from
 returns-then-count-from c =

@@ -1,6 +1,6 @@
 use Rattle.std.proofs.Common.{arith}
 use Rattle.col_index.specs.Indexes.{shape_of}
-use Rattle.col_join.proofs.CountLemmas.{positions-counts}
+use Rattle.col_indexer.proofs.ValueCountLemmas.{positions-counts}
 use Rattle.col_join.proofs.cell_counts.num_in_row.Goals as goal
 
 pub overflow_sub-result : goal.overflow_sub-result
