@@ -1,4 +1,5 @@
 mod ContentLemmas
+mod PlaceLemmas
 mod RecordingLemmas
 mod EntryLemmas
 mod TypingLemmas

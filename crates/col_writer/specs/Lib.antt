@@ -9,4 +9,5 @@ pub use Rattle.col_record.specs.Values
 pub mod Contents
 pub mod Columns
 pub mod Listed
+pub mod Places
 pub mod Usage

@@ -13,6 +13,7 @@ ghost use Rattle.col_writer.specs.Contents.{IsNew};
 
 mod column_types;
 mod mem_usage;
+mod places;
 mod serialize;
 mod sort_order;
 
@@ -20,20 +21,21 @@ use col_common::{ColumnarError, DateTime, DocId, Ipv6Addr};
 use col_record::{NumericalColumnWriter, PlainColumnWriter, StrOrBytesColumnWriter};
 use col_types::NumericalValue;
 use col_values::MonotonicallyMappableToU64;
+use indexmap::IndexMap;
+use places::{LastPlaces, place_of};
 use std::alloc::Global;
-use std::collections::HashMap;
 use std::marker::Model;
 
 /// Values by document and column name. Contracts see what was recorded.
-#[derive(Drop)]
 pub struct ColumnarWriter {
     alloc: Global,
-    numerical: HashMap<String, NumericalColumnWriter>,
-    bytes: HashMap<String, StrOrBytesColumnWriter>,
-    strs: HashMap<String, StrOrBytesColumnWriter>,
-    bools: HashMap<String, PlainColumnWriter<bool>>,
-    ip_addrs: HashMap<String, PlainColumnWriter<Ipv6Addr>>,
-    datetimes: HashMap<String, PlainColumnWriter<u64>>,
+    numerical: IndexMap<String, NumericalColumnWriter>,
+    bytes: IndexMap<String, StrOrBytesColumnWriter>,
+    strs: IndexMap<String, StrOrBytesColumnWriter>,
+    bools: IndexMap<String, PlainColumnWriter<bool>>,
+    ip_addrs: IndexMap<String, PlainColumnWriter<Ipv6Addr>>,
+    datetimes: IndexMap<String, PlainColumnWriter<u64>>,
+    last: LastPlaces,
 }
 
 impl Model for ColumnarWriter {
@@ -47,6 +49,28 @@ impl Model for ColumnarWriter {
         (columns_of w.numerical w.bytes w.strs w.bools w.ip_addrs w.datetimes) };
 }
 
+// By hand, so that a drop of a writer is one call in proofs.
+impl Drop for ColumnarWriter {
+    fn drop(self) {
+        let ColumnarWriter {
+            alloc: _,
+            numerical,
+            bytes,
+            strs,
+            bools,
+            ip_addrs,
+            datetimes,
+            last: _,
+        } = self;
+        drop(numerical);
+        drop(bytes);
+        drop(strs);
+        drop(bools);
+        drop(ip_addrs);
+        drop(datetimes);
+    }
+}
+
 impl ColumnarWriter {
     /// A writer without columns.
     pub fn new(alloc: Global) -> ColumnarWriter
@@ -54,12 +78,13 @@ impl ColumnarWriter {
     {
         ColumnarWriter {
             alloc,
-            numerical: HashMap::new(alloc),
-            bytes: HashMap::new(alloc),
-            strs: HashMap::new(alloc),
-            bools: HashMap::new(alloc),
-            ip_addrs: HashMap::new(alloc),
-            datetimes: HashMap::new(alloc),
+            numerical: IndexMap::new(alloc),
+            bytes: IndexMap::new(alloc),
+            strs: IndexMap::new(alloc),
+            bools: IndexMap::new(alloc),
+            ip_addrs: IndexMap::new(alloc),
+            datetimes: IndexMap::new(alloc),
+            last: LastPlaces::new(),
         }
     }
 
@@ -74,8 +99,9 @@ impl ColumnarWriter {
         ensures { Answers self.old self.new result (content_after self.old
             (recorded doc name.now (value_type value) (number (number_of value)))) }
     {
-        if let Some(column) = self.numerical.get_mut(name) {
-            return column.record_numerical_value(doc, value);
+        if let Some(place) = place_of(&self.numerical, self.last.numerical, name) {
+            self.last.numerical = place;
+            return self.numerical[place].record_numerical_value(doc, value);
         }
         self.add_numerical(doc, name, value)
     }
@@ -110,8 +136,9 @@ impl ColumnarWriter {
         ensures { Answers self.old self.new result (content_after self.old
             (recorded doc name.now types.bytes (text value.now))) }
     {
-        if let Some(column) = self.bytes.get_mut(name) {
-            return column.record_bytes(doc, value);
+        if let Some(place) = place_of(&self.bytes, self.last.bytes, name) {
+            self.last.bytes = place;
+            return self.bytes[place].record_bytes(doc, value);
         }
         self.add_bytes(doc, name, value)
     }
@@ -136,8 +163,9 @@ impl ColumnarWriter {
         ensures { Answers self.old self.new result (content_after self.old
             (recorded doc name.now types.str (text value.now))) }
     {
-        if let Some(column) = self.strs.get_mut(name) {
-            return column.record_bytes(doc, value.as_bytes());
+        if let Some(place) = place_of(&self.strs, self.last.strs, name) {
+            self.last.strs = place;
+            return self.strs[place].record_bytes(doc, value.as_bytes());
         }
         self.add_str(doc, name, value.as_bytes())
     }
@@ -162,8 +190,9 @@ impl ColumnarWriter {
         ensures { Answers self.old self.new result (content_after self.old
             (recorded doc name.now types.bool (bool_cell value))) }
     {
-        if let Some(column) = self.bools.get_mut(name) {
-            return column.record(doc, value);
+        if let Some(place) = place_of(&self.bools, self.last.bools, name) {
+            self.last.bools = place;
+            return self.bools[place].record(doc, value);
         }
         self.add_bool(doc, name, value)
     }
@@ -193,8 +222,9 @@ impl ColumnarWriter {
         ensures { Answers self.old self.new result (content_after self.old
             (recorded doc name.now types.ip (unsigned_cell value))) }
     {
-        if let Some(column) = self.ip_addrs.get_mut(name) {
-            return column.record(doc, value);
+        if let Some(place) = place_of(&self.ip_addrs, self.last.ip_addrs, name) {
+            self.last.ip_addrs = place;
+            return self.ip_addrs[place].record(doc, value);
         }
         self.add_ip_addr(doc, name, value)
     }
@@ -233,8 +263,9 @@ impl ColumnarWriter {
         ensures { Answers self.old self.new result (content_after self.old
             (recorded doc name.now types.datetime (time_cell code))) }
     {
-        if let Some(column) = self.datetimes.get_mut(name) {
-            return column.record(doc, code);
+        if let Some(place) = place_of(&self.datetimes, self.last.datetimes, name) {
+            self.last.datetimes = place;
+            return self.datetimes[place].record(doc, code);
         }
         self.add_time(doc, name, code)
     }

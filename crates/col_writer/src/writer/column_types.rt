@@ -9,6 +9,7 @@ ghost use Rattle.col_record.specs.Answers.{Answers};
 ghost use Rattle.col_writer.specs.Contents.{IsNew};
 
 use super::ColumnarWriter;
+use super::places::place_of;
 use col_common::ColumnarError;
 use col_record::{NumericalColumnWriter, PlainColumnWriter, StrOrBytesColumnWriter};
 use col_types::{ColumnType, NumericalType};
@@ -42,8 +43,9 @@ impl ColumnarWriter {
     pub fn record_tie_breaker_column(&mut self, name: &str, start: i64) -> Result<(), ColumnarError>
         ensures { Answers self.old self.new result (content_after self.old (tied name.now start)) }
     {
-        if let Some(column) = self.numerical.get_mut(name) {
-            return column.set_tie_start(start);
+        if let Some(place) = place_of(&self.numerical, self.last.numerical, name) {
+            self.last.numerical = place;
+            return self.numerical[place].set_tie_start(start);
         }
         self.add_tie_breaker(name, start)
     }
@@ -70,8 +72,9 @@ impl ColumnarWriter {
         ensures { Answers self.old self.new result (content_after self.old
             (typed name.now (numerical_kind_of numerical_type) false)) }
     {
-        if let Some(column) = self.numerical.get_mut(name) {
-            return column.force_numerical_type(numerical_type);
+        if let Some(place) = place_of(&self.numerical, self.last.numerical, name) {
+            self.last.numerical = place;
+            return self.numerical[place].force_numerical_type(numerical_type);
         }
         self.add_typed_numerical(name, numerical_type)
     }
@@ -99,8 +102,8 @@ impl ColumnarWriter {
         ensures { Answers self.old self.new result (content_after self.old
             (typed name.now types.bytes sorts)) }
     {
-        if let Some(column) = self.bytes.get_mut(name) {
-            column.set_type(sorts);
+        if let Some(place) = place_of(&self.bytes, self.last.bytes, name) {
+            self.bytes[place].set_type(sorts);
             return Ok(());
         }
         self.add_typed_bytes(name, sorts)
@@ -125,8 +128,8 @@ impl ColumnarWriter {
         ensures { Answers self.old self.new result (content_after self.old
             (typed name.now types.str sorts)) }
     {
-        if let Some(column) = self.strs.get_mut(name) {
-            column.set_type(sorts);
+        if let Some(place) = place_of(&self.strs, self.last.strs, name) {
+            self.strs[place].set_type(sorts);
             return Ok(());
         }
         self.add_typed_str(name, sorts)
@@ -151,8 +154,8 @@ impl ColumnarWriter {
         ensures { Answers self.old self.new result (content_after self.old
             (typed name.now types.bool false)) }
     {
-        if let Some(column) = self.bools.get_mut(name) {
-            column.is_forced = true;
+        if let Some(place) = place_of(&self.bools, self.last.bools, name) {
+            self.bools[place].is_forced = true;
             return Ok(());
         }
         self.add_typed_bool(name)
@@ -177,8 +180,8 @@ impl ColumnarWriter {
         ensures { Answers self.old self.new result (content_after self.old
             (typed name.now types.ip false)) }
     {
-        if let Some(column) = self.ip_addrs.get_mut(name) {
-            column.is_forced = true;
+        if let Some(place) = place_of(&self.ip_addrs, self.last.ip_addrs, name) {
+            self.ip_addrs[place].is_forced = true;
             return Ok(());
         }
         self.add_typed_ip_addr(name)
@@ -203,8 +206,8 @@ impl ColumnarWriter {
         ensures { Answers self.old self.new result (content_after self.old
             (typed name.now types.datetime false)) }
     {
-        if let Some(column) = self.datetimes.get_mut(name) {
-            column.is_forced = true;
+        if let Some(place) = place_of(&self.datetimes, self.last.datetimes, name) {
+            self.datetimes[place].is_forced = true;
             return Ok(());
         }
         self.add_typed_datetime(name)

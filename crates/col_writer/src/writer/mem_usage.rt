@@ -9,7 +9,7 @@ ghost use Rattle.col_writer.specs.Usage.{mem_usage, records_bytes, named_bytes, 
 use super::ColumnarWriter;
 use col_common::Ipv6Addr;
 use col_record::{NumericalColumnWriter, PlainColumnWriter, StrOrBytesColumnWriter};
-use std::collections::HashMap;
+use indexmap::IndexMap;
 
 // How many bytes a record has: its document, and its value as it is kept.
 const NUM_BYTES_NUMBER: u64 = 12;
@@ -87,12 +87,12 @@ impl RecordBytes for PlainColumnWriter<u64> {
 }
 
 // How many bytes the names, the records and the texts of some columns have.
-fn columns_bytes<C: RecordBytes>(columns: &HashMap<String, C>) -> u64
+fn columns_bytes<C: RecordBytes>(columns: &IndexMap<String, C>) -> u64
     ensures bytes { result ≡ counted (named_bytes C.bytes columns.now.entries) }
     ensures differ { IsDistinct bytes_eq (map (λ p. string_bytes p.0) columns.now.entries) }
 {
     let mut bytes: u64 = 0;
-    for (name, column) in columns.iter() {
+    for (name, column) in columns {
         bytes = bytes
             .saturating_add(name.len() as u64)
             .saturating_add(column.num_bytes());

@@ -16,8 +16,8 @@ use super::ColumnarWriter;
 use col_common::{ColumnarError, Ipv6Addr, RowId, Sink};
 use col_entry::{EntryColumn, NamedColumn, serialize_table};
 use col_record::{NumericalColumnWriter, PlainColumnWriter, StrOrBytesColumnWriter};
+use indexmap::IndexMap;
 use std::alloc::AllocError;
-use std::collections::HashMap;
 
 impl ColumnarWriter {
     /// Writes a file of as many rows as there are documents, with a column for each name and
@@ -68,21 +68,21 @@ impl ColumnarWriter {
 }
 
 // That the names of columns differ.
-fn names_differ<C>(columns: &HashMap<String, C>)
+fn names_differ<C>(columns: &IndexMap<String, C>)
     ensures { IsDistinct bytes_eq (map (λ p. string_bytes p.0) columns.now.entries) }
 {
-    let _ = columns.iter();
+    let _ = columns.into_iter();
 }
 
 // Lists the columns of numbers.
 fn list_numerical<'a>(
     found: &mut Vec<NamedColumn<'a>>,
-    columns: &'a HashMap<String, NumericalColumnWriter>,
+    columns: &'a IndexMap<String, NumericalColumnWriter>,
 ) -> Result<(), AllocError>
     ensures { OnOk result (map named_entry found.new.items ≡ map named_entry found.old.items
         ++ under categories.numerical columns.now.entries) }
 {
-    for (name, column) in columns.iter() {
+    for (name, column) in columns {
         found.push(NamedColumn {
             name: name.as_str(),
             column: EntryColumn::Numerical(column),
@@ -94,12 +94,12 @@ fn list_numerical<'a>(
 // Lists the columns of bytes.
 fn list_bytes<'a>(
     found: &mut Vec<NamedColumn<'a>>,
-    columns: &'a HashMap<String, StrOrBytesColumnWriter>,
+    columns: &'a IndexMap<String, StrOrBytesColumnWriter>,
 ) -> Result<(), AllocError>
     ensures { OnOk result (map named_entry found.new.items ≡ map named_entry found.old.items
         ++ under categories.bytes (each_entry (text_entry types.bytes) columns.now.entries)) }
 {
-    for (name, column) in columns.iter() {
+    for (name, column) in columns {
         found.push(NamedColumn {
             name: name.as_str(),
             column: EntryColumn::Bytes(column),
@@ -111,12 +111,12 @@ fn list_bytes<'a>(
 // Lists the columns of text.
 fn list_strs<'a>(
     found: &mut Vec<NamedColumn<'a>>,
-    columns: &'a HashMap<String, StrOrBytesColumnWriter>,
+    columns: &'a IndexMap<String, StrOrBytesColumnWriter>,
 ) -> Result<(), AllocError>
     ensures { OnOk result (map named_entry found.new.items ≡ map named_entry found.old.items
         ++ under categories.str (each_entry (text_entry types.str) columns.now.entries)) }
 {
-    for (name, column) in columns.iter() {
+    for (name, column) in columns {
         found.push(NamedColumn {
             name: name.as_str(),
             column: EntryColumn::Str(column),
@@ -128,13 +128,13 @@ fn list_strs<'a>(
 // Lists the columns of bools.
 fn list_bools<'a>(
     found: &mut Vec<NamedColumn<'a>>,
-    columns: &'a HashMap<String, PlainColumnWriter<bool>>,
+    columns: &'a IndexMap<String, PlainColumnWriter<bool>>,
 ) -> Result<(), AllocError>
     ensures { OnOk result (map named_entry found.new.items ≡ map named_entry found.old.items
         ++ under categories.bool
         (each_entry (plain_entry types.bool bool_cell) columns.now.entries)) }
 {
-    for (name, column) in columns.iter() {
+    for (name, column) in columns {
         found.push(NamedColumn {
             name: name.as_str(),
             column: EntryColumn::Bool(column),
@@ -146,13 +146,13 @@ fn list_bools<'a>(
 // Lists the columns of addresses.
 fn list_ip_addrs<'a>(
     found: &mut Vec<NamedColumn<'a>>,
-    columns: &'a HashMap<String, PlainColumnWriter<Ipv6Addr>>,
+    columns: &'a IndexMap<String, PlainColumnWriter<Ipv6Addr>>,
 ) -> Result<(), AllocError>
     ensures { OnOk result (map named_entry found.new.items ≡ map named_entry found.old.items
         ++ under categories.ip
         (each_entry (plain_entry types.ip unsigned_cell) columns.now.entries)) }
 {
-    for (name, column) in columns.iter() {
+    for (name, column) in columns {
         found.push(NamedColumn {
             name: name.as_str(),
             column: EntryColumn::IpAddr(column),
@@ -164,13 +164,13 @@ fn list_ip_addrs<'a>(
 // Lists the columns of points in time.
 fn list_datetimes<'a>(
     found: &mut Vec<NamedColumn<'a>>,
-    columns: &'a HashMap<String, PlainColumnWriter<u64>>,
+    columns: &'a IndexMap<String, PlainColumnWriter<u64>>,
 ) -> Result<(), AllocError>
     ensures { OnOk result (map named_entry found.new.items ≡ map named_entry found.old.items
         ++ under categories.datetime
         (each_entry (plain_entry types.datetime time_cell) columns.now.entries)) }
 {
-    for (name, column) in columns.iter() {
+    for (name, column) in columns {
         found.push(NamedColumn {
             name: name.as_str(),
             column: EntryColumn::DateTime(column),

@@ -1,5 +1,6 @@
 use Rattle.std.proofs.Common.{rules, ◌∙◌, ap, sym, refl, Some}
-use Rattle.std.proofs.lemmas.Map.Text.{hash_map_updates_text}
+use Rattle.indexmap.specs.IndexMap.{with_value_at}
+use Rattle.col_writer.proofs.PlaceLemmas.{updates-at_place, column-at_place}
 use Rattle.std.specs.FinMap.{find}
 use Rattle.col_model.specs.ColumnType as types
 use Rattle.col_model.specs.Category.{Slot, slot_cmp}
@@ -16,16 +17,14 @@ pub returns-in-Some : goal.returns-in-Some
 returns-in-Some c =
     let w = c.self.inside in
     let m = columns_of w.numerical w.bytes w.strs w.bools w.ip_addrs w.datetimes in
-    let changed = c.get_mut.follows.lender c.record.new.self in
-    let up = hash_map_updates_text c.args.name.now w.bools changed (Some c.record.new.self) ((c.get_mut.follows.holds c.record.new.self).3 (search rules)) in
-    record-found m categories.bool (plain_entry types.bool bool_cell) w.bools.entries changed.entries c.args.self.now c.args.name.now c.in-Some.column.now c.record.new.self c.record.result c.args.doc types.bool (bool_cell c.args.value)
-    (record { is = c.self.view_is; these = refl }) refl (sym c.in-Some.ensures.value) up
-    (plain-answers types.bool bool_cell c.in-Some.column.now c.record.new.self c.args.doc c.args.value c.record.result c.record.ensures.column c.record.ensures.forced)
+    let changed = with_value_at w.bools c.in-Some.place c.record.new.self in
+    let up = updates-at_place c.args.name.now w.bools c.in-Some.place c.in-Some.ensures.found c.record.new.self in
+    record-found m categories.bool (plain_entry types.bool bool_cell) w.bools.entries changed.entries c.args.self.now c.args.name.now c.index_mut.result.now c.record.new.self c.record.result c.args.doc types.bool (bool_cell c.args.value)
+    (record { is = c.self.view_is; these = refl }) refl (column-at_place c.args.name.now w.bools c.in-Some.place c.in-Some.ensures.found c.index_mut.result.now c.index_mut.ensures.value) up
+    (plain-answers types.bool bool_cell c.index_mut.result.now c.record.new.self c.args.doc c.args.value c.record.result c.record.ensures.column c.record.ensures.forced)
 
 pub add_bool-requires : goal.add_bool-requires
 add_bool-requires c =
     let w = c.self.inside in
     let m = columns_of w.numerical w.bytes w.strs w.bools w.ip_addrs w.datetimes in
-    let slot : Slot = record { name = c.args.name.now; category = categories.bool } in
-    ap (λ n. find slot_cmp slot (content_of (columns_of w.numerical w.bytes w.strs n w.ip_addrs w.datetimes))) c.get_mut.follows.holds-at-none
-    ∙ new-name m categories.bool (plain_entry types.bool bool_cell) w.bools.entries (content_of m) c.args.name.now (record { is = refl; these = refl }) (sym c.in_default.ensures.value)
+    new-name m categories.bool (plain_entry types.bool bool_cell) w.bools.entries c.args.self.now c.args.name.now (record { is = c.self.view_is; these = refl }) c.in_default.ensures.absent

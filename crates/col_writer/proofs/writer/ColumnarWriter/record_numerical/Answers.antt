@@ -1,5 +1,6 @@
 use Rattle.std.proofs.Common.{rules, ◌∙◌, ap, sym, subst, ◌≡◌, Some, None}
-use Rattle.std.proofs.lemmas.Map.Text.{hash_map_updates_text}
+use Rattle.indexmap.specs.IndexMap.{with_value_at}
+use Rattle.col_writer.proofs.PlaceLemmas.{updates-at_place, column-at_place}
 use Rattle.col_model.specs.Table.{number}
 use Rattle.col_model.specs.Category.{Slot, slot_cmp}
 use Rattle.col_model.specs.Category as categories
@@ -20,20 +21,20 @@ returns-in-Some c =
     let w = c.self.inside in
     let m = columns_of w.numerical w.bytes w.strs w.bools w.ip_addrs w.datetimes in
     let name = c.args.name.now in
-    let changed = c.get_mut.follows.lender c.record_numerical_value.new.self in
-    let found : entry_at name w.numerical.entries ≡ Some c.in-Some.column.now = sym c.in-Some.ensures.value in
-    let up = hash_map_updates_text name w.numerical changed (Some c.record_numerical_value.new.self) ((c.get_mut.follows.holds c.record_numerical_value.new.self).3 (search rules)) in
+    let changed = with_value_at w.numerical c.in-Some.place c.record_numerical_value.new.self in
+    let found : entry_at name w.numerical.entries ≡ Some c.index_mut.result.now = column-at_place name w.numerical c.in-Some.place c.in-Some.ensures.found c.index_mut.result.now c.index_mut.ensures.value in
+    let up = updates-at_place name w.numerical c.in-Some.place c.in-Some.ensures.found c.record_numerical_value.new.self in
     let puts = puts-with m categories.numerical changed.entries name c.record_numerical_value.new.self (updates name c.record_numerical_value.new.self w.numerical.entries changed.entries up) in
     let call = recorded c.args.doc name (value_type c.args.value) (number (number_of c.args.value)) in
     let P : Recorded → Type 0 = λ v. Answers v (content_of (with_entries m categories.numerical changed.entries)) c.record_numerical_value.result (content_after v call) in
     subst P c.self.view_is
-    (lifted-found _ m (with_entries m categories.numerical changed.entries) c.in-Some.column.now c.record_numerical_value.new.self c.record_numerical_value.result _ _ found puts c.record_numerical_value.ensures
-    (number-lifts m name c.args.value c.args.doc c.in-Some.column.now (entry_of-found (record { name = name; category = categories.numerical }) c.in-Some.column.now m found)))
+    (lifted-found _ m (with_entries m categories.numerical changed.entries) c.index_mut.result.now c.record_numerical_value.new.self c.record_numerical_value.result _ _ found puts c.record_numerical_value.ensures
+    (number-lifts m name c.args.value c.args.doc c.index_mut.result.now (entry_of-found (record { name = name; category = categories.numerical }) c.index_mut.result.now m found)))
 
 pub add_numerical-requires : goal.add_numerical-requires
 add_numerical-requires c =
     let w = c.self.inside in
     let m = columns_of w.numerical w.bytes w.strs w.bools w.ip_addrs w.datetimes in
     let slot : Slot = record { name = c.args.name.now; category = categories.numerical } in
-    let none : entry_at c.args.name.now w.numerical.entries ≡ None = sym c.in_default.ensures.value in
-    ap (λ n. find slot_cmp slot (content_of (columns_of n w.bytes w.strs w.bools w.ip_addrs w.datetimes))) c.get_mut.follows.holds-at-none ∙ find-content m slot ∙ none
+    let none : entry_at c.args.name.now w.numerical.entries ≡ None = c.in_default.ensures.absent in
+    ap (find slot_cmp slot) (sym c.self.view_is) ∙ find-content m slot ∙ none

@@ -1,7 +1,8 @@
 use Rattle.std.proofs.Common.{rules, ◌∙◌, ap, sym, refl, Some, subst, List, ℕ}
 use Rattle.col_record.specs.Answers.{Answers}
 use Rattle.col_record.specs.Posted.{posted_after}
-use Rattle.std.proofs.lemmas.Map.Text.{hash_map_updates_text}
+use Rattle.indexmap.specs.IndexMap.{with_value_at}
+use Rattle.col_writer.proofs.PlaceLemmas.{updates-at_place, column-at_place}
 use Rattle.std.specs.FinMap.{find}
 use Rattle.col_model.specs.ColumnType as types
 use Rattle.col_model.specs.Table.{text}
@@ -18,17 +19,15 @@ pub returns-in-Some : goal.returns-in-Some
 returns-in-Some c =
     let w = c.self.inside in
     let m = columns_of w.numerical w.bytes w.strs w.bools w.ip_addrs w.datetimes in
-    let changed = c.get_mut.follows.lender c.record_bytes.new.self in
-    let up = hash_map_updates_text c.args.name.now w.strs changed (Some c.record_bytes.new.self) ((c.get_mut.follows.holds c.record_bytes.new.self).3 (search rules)) in
-    let P : List ℕ → Type 0 = λ t. Answers c.in-Some.column.now.values c.record_bytes.new.self.values c.record_bytes.result (posted_after c.in-Some.column.now.values c.args.doc t) in
-    record-found m categories.str (text_entry types.str) w.strs.entries changed.entries c.args.self.now c.args.name.now c.in-Some.column.now c.record_bytes.new.self c.record_bytes.result c.args.doc types.str (text c.args.value.now)
-    (record { is = c.self.view_is; these = refl }) refl (sym c.in-Some.ensures.value) up
-    (text-answers types.str c.in-Some.column.now c.record_bytes.new.self c.args.doc c.args.value.now c.record_bytes.result (subst P c.as_bytes.ensures.value c.record_bytes.ensures.values) c.record_bytes.ensures.forced c.record_bytes.ensures.sorts)
+    let changed = with_value_at w.strs c.in-Some.place c.record_bytes.new.self in
+    let up = updates-at_place c.args.name.now w.strs c.in-Some.place c.in-Some.ensures.found c.record_bytes.new.self in
+    let P : List ℕ → Type 0 = λ t. Answers c.index_mut.result.now.values c.record_bytes.new.self.values c.record_bytes.result (posted_after c.index_mut.result.now.values c.args.doc t) in
+    record-found m categories.str (text_entry types.str) w.strs.entries changed.entries c.args.self.now c.args.name.now c.index_mut.result.now c.record_bytes.new.self c.record_bytes.result c.args.doc types.str (text c.args.value.now)
+    (record { is = c.self.view_is; these = refl }) refl (column-at_place c.args.name.now w.strs c.in-Some.place c.in-Some.ensures.found c.index_mut.result.now c.index_mut.ensures.value) up
+    (text-answers types.str c.index_mut.result.now c.record_bytes.new.self c.args.doc c.args.value.now c.record_bytes.result (subst P c.as_bytes.ensures.value c.record_bytes.ensures.values) c.record_bytes.ensures.forced c.record_bytes.ensures.sorts)
 
 pub add_str-requires : goal.add_str-requires
 add_str-requires c =
     let w = c.self.inside in
     let m = columns_of w.numerical w.bytes w.strs w.bools w.ip_addrs w.datetimes in
-    let slot : Slot = record { name = c.args.name.now; category = categories.str } in
-    ap (λ n. find slot_cmp slot (content_of (columns_of w.numerical w.bytes n w.bools w.ip_addrs w.datetimes))) c.get_mut.follows.holds-at-none
-    ∙ new-name m categories.str (text_entry types.str) w.strs.entries (content_of m) c.args.name.now (record { is = refl; these = refl }) (sym c.in_default.ensures.value)
+    new-name m categories.str (text_entry types.str) w.strs.entries c.args.self.now c.args.name.now (record { is = c.self.view_is; these = refl }) c.in_default.ensures.absent

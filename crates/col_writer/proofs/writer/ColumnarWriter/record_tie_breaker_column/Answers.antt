@@ -1,6 +1,7 @@
 use Rattle.std.proofs.lemmas.Int.{ints}
 use Rattle.std.proofs.Common.{arith, to_z, of_z, w64, rules, ◌∙◌, ap, sym, subst, ◌≡◌, Some, None}
-use Rattle.std.proofs.lemmas.Map.Text.{hash_map_updates_text}
+use Rattle.indexmap.specs.IndexMap.{with_value_at}
+use Rattle.col_writer.proofs.PlaceLemmas.{updates-at_place, column-at_place}
 use Rattle.std.specs.FinMap.{find}
 use Rattle.col_model.specs.Category.{Slot, slot_cmp}
 use Rattle.col_model.specs.Category as categories
@@ -21,20 +22,20 @@ returns-in-Some c =
     let name = c.args.name.now in
     let same : to_z w64 (of_z w64 c.args.start) ≡ c.args.start = omega (arith, ints) in
     let e = c.set_tie_start.new.self in
-    let changed = c.get_mut.follows.lender e in
+    let changed = with_value_at w.numerical c.in-Some.place e in
     let slot : Slot = record { name = name; category = categories.numerical } in
-    let found : entry_at name w.numerical.entries ≡ Some c.in-Some.column.now = sym c.in-Some.ensures.value in
-    let up = hash_map_updates_text name w.numerical changed (Some e) ((c.get_mut.follows.holds e).3 (search rules)) in
+    let found : entry_at name w.numerical.entries ≡ Some c.index_mut.result.now = column-at_place name w.numerical c.in-Some.place c.in-Some.ensures.found c.index_mut.result.now c.index_mut.ensures.value in
+    let up = updates-at_place name w.numerical c.in-Some.place c.in-Some.ensures.found e in
     let puts = puts-with m categories.numerical changed.entries name e (updates name e w.numerical.entries changed.entries up) in
     let P : Recorded → Type 0 = λ v. Answers v (content_of (with_entries m categories.numerical changed.entries)) c.set_tie_start.result (content_after v (tied name c.args.start)) in
     subst P c.self.view_is
-    (lifted-found slot m (with_entries m categories.numerical changed.entries) c.in-Some.column.now e c.set_tie_start.result _ _ found puts c.set_tie_start.ensures
-    (tied-follows name c.args.start _ same (content_of m) c.in-Some.column.now (entry_of-found slot c.in-Some.column.now m found)))
+    (lifted-found slot m (with_entries m categories.numerical changed.entries) c.index_mut.result.now e c.set_tie_start.result _ _ found puts c.set_tie_start.ensures
+    (tied-follows name c.args.start _ same (content_of m) c.index_mut.result.now (entry_of-found slot c.index_mut.result.now m found)))
 
 pub add_tie_breaker-requires : goal.add_tie_breaker-requires
 add_tie_breaker-requires c =
     let w = c.self.inside in
     let m = columns_of w.numerical w.bytes w.strs w.bools w.ip_addrs w.datetimes in
     let slot : Slot = record { name = c.args.name.now; category = categories.numerical } in
-    let none : entry_at c.args.name.now w.numerical.entries ≡ None = sym c.in_default.ensures.value in
-    ap (λ n. find slot_cmp slot (content_of (columns_of n w.bytes w.strs w.bools w.ip_addrs w.datetimes))) c.get_mut.follows.holds-at-none ∙ find-content m slot ∙ none
+    let none : entry_at c.args.name.now w.numerical.entries ≡ None = c.in_default.ensures.absent in
+    ap (find slot_cmp slot) (sym c.self.view_is) ∙ find-content m slot ∙ none

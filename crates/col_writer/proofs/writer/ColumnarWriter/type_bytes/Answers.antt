@@ -1,5 +1,6 @@
 use Rattle.std.proofs.Common.{rules, ◌∙◌, ap, sym, refl, Some, Ok}
-use Rattle.std.proofs.lemmas.Map.Text.{hash_map_updates_text}
+use Rattle.indexmap.specs.IndexMap.{with_value_at}
+use Rattle.col_writer.proofs.PlaceLemmas.{updates-at_place, column-at_place}
 use Rattle.std.specs.FinMap.{find}
 use Rattle.col_model.specs.ColumnType as types
 use Rattle.col_model.specs.Category.{Slot, slot_cmp}
@@ -18,15 +19,13 @@ pub returns-in-Some : goal.returns-in-Some
 returns-in-Some c =
     let w = c.self.inside in
     let m = columns_of w.numerical w.bytes w.strs w.bools w.ip_addrs w.datetimes in
-    let changed = c.get_mut.follows.lender c.set_type.new.self in
-    let up = hash_map_updates_text c.args.name.now w.bytes changed (Some c.set_type.new.self) ((c.get_mut.follows.holds c.set_type.new.self).3 (search rules)) in
-    call-found m categories.bytes (text_entry types.bytes) w.bytes.entries changed.entries c.args.self.now c.args.name.now c.in-Some.column.now c.set_type.new.self (Ok tt) (typed c.args.name.now types.bytes c.args.sorts) (λ e. typed_entry e types.bytes c.args.sorts)
-    (record { is = c.self.view_is; these = refl }) (typed-follows c.args.name.now types.bytes c.args.sorts categories.bytes refl) (sym c.in-Some.ensures.value) up (text-typed types.bytes c.in-Some.column.now c.set_type.new.self c.args.sorts c.set_type.ensures.values c.set_type.ensures.forced c.set_type.ensures.sorts refl)
+    let changed = with_value_at w.bytes c.in-Some.place c.set_type.new.self in
+    let up = updates-at_place c.args.name.now w.bytes c.in-Some.place c.in-Some.ensures.found c.set_type.new.self in
+    call-found m categories.bytes (text_entry types.bytes) w.bytes.entries changed.entries c.args.self.now c.args.name.now c.index_mut.result.now c.set_type.new.self (Ok tt) (typed c.args.name.now types.bytes c.args.sorts) (λ e. typed_entry e types.bytes c.args.sorts)
+    (record { is = c.self.view_is; these = refl }) (typed-follows c.args.name.now types.bytes c.args.sorts categories.bytes refl) (column-at_place c.args.name.now w.bytes c.in-Some.place c.in-Some.ensures.found c.index_mut.result.now c.index_mut.ensures.value) up (text-typed types.bytes c.index_mut.result.now c.set_type.new.self c.args.sorts c.set_type.ensures.values c.set_type.ensures.forced c.set_type.ensures.sorts refl)
 
 pub add_typed_bytes-requires : goal.add_typed_bytes-requires
 add_typed_bytes-requires c =
     let w = c.self.inside in
     let m = columns_of w.numerical w.bytes w.strs w.bools w.ip_addrs w.datetimes in
-    let slot : Slot = record { name = c.args.name.now; category = categories.bytes } in
-    ap (λ n. find slot_cmp slot (content_of (columns_of w.numerical n w.strs w.bools w.ip_addrs w.datetimes))) c.get_mut.follows.holds-at-none
-    ∙ new-name m categories.bytes (text_entry types.bytes) w.bytes.entries (content_of m) c.args.name.now (record { is = refl; these = refl }) (sym c.in_default.ensures.value)
+    new-name m categories.bytes (text_entry types.bytes) w.bytes.entries c.args.self.now c.args.name.now (record { is = c.self.view_is; these = refl }) c.in_default.ensures.absent

@@ -1,5 +1,6 @@
 use Rattle.std.proofs.Common.{rules, ◌∙◌, ap, sym, refl, Some, Ok, true, false}
-use Rattle.std.proofs.lemmas.Map.Text.{hash_map_updates_text}
+use Rattle.indexmap.specs.IndexMap.{with_value_at}
+use Rattle.col_writer.proofs.PlaceLemmas.{updates-at_place, column-at_place}
 use Rattle.std.specs.FinMap.{find}
 use Rattle.col_model.specs.ColumnType as types
 use Rattle.col_model.specs.Category.{Slot, slot_cmp}
@@ -19,15 +20,13 @@ pub returns-in-Some : goal.returns-in-Some
 returns-in-Some c =
     let w = c.self.inside in
     let m = columns_of w.numerical w.bytes w.strs w.bools w.ip_addrs w.datetimes in
-    let changed = c.get_mut.follows.lender (record { column = c.in-Some.column.now.column; is_forced = true }) in
-    let up = hash_map_updates_text c.args.name.now w.datetimes changed (Some (record { column = c.in-Some.column.now.column; is_forced = true })) ((c.get_mut.follows.holds (record { column = c.in-Some.column.now.column; is_forced = true })).3 (search rules)) in
-    call-found m categories.datetime (plain_entry types.datetime time_cell) w.datetimes.entries changed.entries c.args.self.now c.args.name.now c.in-Some.column.now (record { column = c.in-Some.column.now.column; is_forced = true }) (Ok tt) (typed c.args.name.now types.datetime false) (λ e. typed_entry e types.datetime false)
-    (record { is = c.self.view_is; these = refl }) (typed-follows c.args.name.now types.datetime false categories.datetime refl) (sym c.in-Some.ensures.value) up (plain-typed types.datetime time_cell c.in-Some.column.now (record { column = c.in-Some.column.now.column; is_forced = true }) refl refl refl)
+    let changed = with_value_at w.datetimes c.in-Some.place (record { column = c.index_mut.result.now.column; is_forced = true }) in
+    let up = updates-at_place c.args.name.now w.datetimes c.in-Some.place c.in-Some.ensures.found (record { column = c.index_mut.result.now.column; is_forced = true }) in
+    call-found m categories.datetime (plain_entry types.datetime time_cell) w.datetimes.entries changed.entries c.args.self.now c.args.name.now c.index_mut.result.now (record { column = c.index_mut.result.now.column; is_forced = true }) (Ok tt) (typed c.args.name.now types.datetime false) (λ e. typed_entry e types.datetime false)
+    (record { is = c.self.view_is; these = refl }) (typed-follows c.args.name.now types.datetime false categories.datetime refl) (column-at_place c.args.name.now w.datetimes c.in-Some.place c.in-Some.ensures.found c.index_mut.result.now c.index_mut.ensures.value) up (plain-typed types.datetime time_cell c.index_mut.result.now (record { column = c.index_mut.result.now.column; is_forced = true }) refl refl refl)
 
 pub add_typed_datetime-requires : goal.add_typed_datetime-requires
 add_typed_datetime-requires c =
     let w = c.self.inside in
     let m = columns_of w.numerical w.bytes w.strs w.bools w.ip_addrs w.datetimes in
-    let slot : Slot = record { name = c.args.name.now; category = categories.datetime } in
-    ap (λ n. find slot_cmp slot (content_of (columns_of w.numerical w.bytes w.strs w.bools w.ip_addrs n))) c.get_mut.follows.holds-at-none
-    ∙ new-name m categories.datetime (plain_entry types.datetime time_cell) w.datetimes.entries (content_of m) c.args.name.now (record { is = refl; these = refl }) (sym c.in_default.ensures.value)
+    new-name m categories.datetime (plain_entry types.datetime time_cell) w.datetimes.entries c.args.self.now c.args.name.now (record { is = c.self.view_is; these = refl }) c.in_default.ensures.absent

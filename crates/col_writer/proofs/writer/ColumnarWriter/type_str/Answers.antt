@@ -1,5 +1,6 @@
 use Rattle.std.proofs.Common.{rules, ◌∙◌, ap, sym, refl, Some, Ok}
-use Rattle.std.proofs.lemmas.Map.Text.{hash_map_updates_text}
+use Rattle.indexmap.specs.IndexMap.{with_value_at}
+use Rattle.col_writer.proofs.PlaceLemmas.{updates-at_place, column-at_place}
 use Rattle.std.specs.FinMap.{find}
 use Rattle.col_model.specs.ColumnType as types
 use Rattle.col_model.specs.Category.{Slot, slot_cmp}
@@ -18,15 +19,13 @@ pub returns-in-Some : goal.returns-in-Some
 returns-in-Some c =
     let w = c.self.inside in
     let m = columns_of w.numerical w.bytes w.strs w.bools w.ip_addrs w.datetimes in
-    let changed = c.get_mut.follows.lender c.set_type.new.self in
-    let up = hash_map_updates_text c.args.name.now w.strs changed (Some c.set_type.new.self) ((c.get_mut.follows.holds c.set_type.new.self).3 (search rules)) in
-    call-found m categories.str (text_entry types.str) w.strs.entries changed.entries c.args.self.now c.args.name.now c.in-Some.column.now c.set_type.new.self (Ok tt) (typed c.args.name.now types.str c.args.sorts) (λ e. typed_entry e types.str c.args.sorts)
-    (record { is = c.self.view_is; these = refl }) (typed-follows c.args.name.now types.str c.args.sorts categories.str refl) (sym c.in-Some.ensures.value) up (text-typed types.str c.in-Some.column.now c.set_type.new.self c.args.sorts c.set_type.ensures.values c.set_type.ensures.forced c.set_type.ensures.sorts refl)
+    let changed = with_value_at w.strs c.in-Some.place c.set_type.new.self in
+    let up = updates-at_place c.args.name.now w.strs c.in-Some.place c.in-Some.ensures.found c.set_type.new.self in
+    call-found m categories.str (text_entry types.str) w.strs.entries changed.entries c.args.self.now c.args.name.now c.index_mut.result.now c.set_type.new.self (Ok tt) (typed c.args.name.now types.str c.args.sorts) (λ e. typed_entry e types.str c.args.sorts)
+    (record { is = c.self.view_is; these = refl }) (typed-follows c.args.name.now types.str c.args.sorts categories.str refl) (column-at_place c.args.name.now w.strs c.in-Some.place c.in-Some.ensures.found c.index_mut.result.now c.index_mut.ensures.value) up (text-typed types.str c.index_mut.result.now c.set_type.new.self c.args.sorts c.set_type.ensures.values c.set_type.ensures.forced c.set_type.ensures.sorts refl)
 
 pub add_typed_str-requires : goal.add_typed_str-requires
 add_typed_str-requires c =
     let w = c.self.inside in
     let m = columns_of w.numerical w.bytes w.strs w.bools w.ip_addrs w.datetimes in
-    let slot : Slot = record { name = c.args.name.now; category = categories.str } in
-    ap (λ n. find slot_cmp slot (content_of (columns_of w.numerical w.bytes n w.bools w.ip_addrs w.datetimes))) c.get_mut.follows.holds-at-none
-    ∙ new-name m categories.str (text_entry types.str) w.strs.entries (content_of m) c.args.name.now (record { is = refl; these = refl }) (sym c.in_default.ensures.value)
+    new-name m categories.str (text_entry types.str) w.strs.entries c.args.self.now c.args.name.now (record { is = c.self.view_is; these = refl }) c.in_default.ensures.absent
