@@ -1,12 +1,13 @@
 -- Rows of values and rows of cells.
-use Rattle.std.proofs.Common.{◌≡◌, ◌∙◌, ℕ, ◌&&◌, ◌||◌, nat_lt, nat_le, Bool, List, [], ◌∷◌, length, filter, map, slice_get, unwrap_or, option_map, Option, Some, None, refl, sym, ap, ap₂}
+use Rattle.std.proofs.Common.{◌≡◌, ◌∙◌, ℕ, ◌&&◌, ◌||◌, nat_lt, nat_le, Bool, List, [], ◌∷◌, length, filter, map, slice_get, unwrap_or, option_map, Option, Some, None, refl, sym, ap, ap₂, drop}
 use Rattle.std.specs.List.{list_any, range_with_len}
 use Rattle.std.specs.declared.cmp.Ordering.{Ordering}
-use Rattle.std.proofs.lemmas.List.{length-map}
+use Rattle.std.proofs.lemmas.List.{length-map, take-map, drop-map}
 use Rattle.std.proofs.lemmas.List.Elements.{filter_agree}
 use Rattle.std.proofs.lemmas.Option.{slice_get-map}
 use Rattle.col_model.specs.Lookup as lookup
 use Rattle.col_model.specs.Table.{Cell}
+use Rattle.col_model.specs.Dictionary.{cut}
 use Rattle.col_values.specs.Values as values
 use Rattle.col_types.specs.Cells.{AreCells}
 use Rattle.col_column.specs.Columns.{rows_by, row_at}
@@ -17,7 +18,7 @@ any-map : {A B : Type 0} (f : A → B) (p : A → Bool) (q : B → Bool) → ((x
 any-map f p q same [] = refl
 any-map f p q same (x ∷ xs) = ap₂ (λ a b. a || b) (same x) (any-map f p q same xs)
 
-row-map : {A B : Type 0} (f : A → B) (rows : List (List A)) (d : ℕ) → row_at (map (map f) rows) d ≡ map f (row_at rows d)
+pub row-map : {A B : Type 0} (f : A → B) (rows : List (List A)) (d : ℕ) → row_at (map (map f) rows) d ≡ map f (row_at rows d)
 row-map {A = A} f rows d = ap (λ o. unwrap_or o []) (slice_get-map (map f) rows d) ∙ by (slice_get rows d)
   where
     by : (o : Option (List A)) → unwrap_or (option_map (map f) o) [] ≡ map f (unwrap_or o [])
@@ -36,3 +37,9 @@ by_cells partial_cmp cell cells terms s xs low high from to =
     in
     filter_agree _ _ (λ d. ap (λ b. nat_le from d && nat_lt d to && b) (alike d)) (range_with_len 0 (length rows))
     ∙ ap (λ n. filter (λ d. nat_le from d && nat_lt d to && list_any (lookup.is_between (cell low) (cell high)) (row_at (map (map cell) rows) d)) (range_with_len 0 n)) (sym (length-map rows (map cell)))
+
+-- rows of values that are turned
+pub cut-map : {A B : Type 0} (f : A → B) (cs : List ℕ) (xs : List A) → cut cs (map f xs) ≡ map (map f) (cut cs xs)
+unfolding cut
+cut-map f [] xs = refl
+cut-map f (c ∷ cs) xs = ap₂ (λ a b. a ∷ b) (take-map f c xs) (ap (cut cs) (drop-map f c xs) ∙ cut-map f cs (drop c xs))

@@ -2,11 +2,11 @@ pub mod RowLemmas
 pub mod LookupLemmas
 pub mod FirstLemmas
 pub mod CellLemmas
-mod OpenCountLemmas
+pub mod OpenCountLemmas
 mod OpenRowsLemmas
-mod OpenCellLemmas
-mod OpenSeenLemmas
+pub mod OpenCellLemmas
+pub mod OpenSeenLemmas
 mod SerializeNumberLemmas
-mod SerializeRowLemmas
+pub mod SerializeRowLemmas
 mod SerializeAddressLemmas
 mod SerializeTieLemmas

@@ -15,7 +15,7 @@ use Rattle.col_column.specs.Opened.{counted_rows}
 use Rattle.col_column.proofs.OpenRowsLemmas.{images, made_of, mapped-made_of, made_of-as, number_rows-made}
 
 -- a list that is mapped is cut as it was
-map-cut : {A B : Type 0} (f : A → B) (ns : List ℕ) (xs : List A) → map (map f) (cut ns xs) ≡ cut ns (map f xs)
+pub map-cut : {A B : Type 0} (f : A → B) (ns : List ℕ) (xs : List A) → map (map f) (cut ns xs) ≡ cut ns (map f xs)
 unfolding cut
 map-cut f [] xs = refl
 map-cut f (n ∷ ns) xs = rw (take-map, drop-map) (ap (λ rest. map f (take n xs) ∷ rest) (map-cut f ns (drop n xs)))

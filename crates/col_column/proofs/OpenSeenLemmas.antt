@@ -36,7 +36,7 @@ indexed-as view rows count values (Some s) = at (is_some (counts_exactly rows co
     at false = refl
 
 -- numbers that all stand for values
-all-pass : (xs : List ℕ) → list_all (λ n. true) xs ≡ true
+pub all-pass : (xs : List ℕ) → list_all (λ n. true) xs ≡ true
 all-pass [] = refl
 all-pass (x ∷ xs) = all-pass xs
 

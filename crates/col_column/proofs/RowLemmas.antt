@@ -2,14 +2,12 @@
 use Rattle.std.proofs.Common.{◌≡◌, ℕ, zero, suc, ◌+◌, ◌-◌, ◌<◌, ◌≤◌, List, [], ◌∷◌, length, take, drop, sum, get_or, replicate, slice_get, slice_range, Option, Some, None, refl, sym, ap, add-one, ◌∙◌, if◌then◌else◌, subst, arith}
 use Rattle.std.proofs.lemmas.Bool.{lt-ltb}
 use Rattle.std.proofs.lemmas.List.{drop-drop}
-use Rattle.std.proofs.lemmas.List.Sums.{sum_by-cons, sum_by-take-le}
+use Rattle.std.proofs.lemmas.List.Sums.{sum_by-take-le}
 use Rattle.col_model.specs.Dictionary.{cut}
 use Rattle.col_model.specs.Index.{Shape, empty_shape, full_shape, optional_shape, multivalued_shape}
 use Rattle.col_model.specs.Positions.{start_of, positions_in, index_range}
+use Rattle.col_model.proofs.ListLaws.{sum-cons}
 use Rattle.col_column.specs.Columns.{Seen, row_count, docs_in, IsCounted, rows_by, rows_in, row_at, AreOf}
-
-sum-cons : (k : ℕ) (ks : List ℕ) → sum (k ∷ ks) ≡ k + sum ks
-sum-cons k ks = sum_by-cons (λ k. k) k ks
 
 -- how many runs a cut gives
 pub length-cut : {T : Type 0} (cs : List ℕ) (xs : List T) → length (cut cs xs) ≡ length cs

@@ -1,7 +1,6 @@
 -- Numbers of a column and the bytes around them, as they are written.
-use Rattle.std.proofs.Common.{◌≡◌, ℕ, ◌<◌, ◌^◌, ◌&&◌, Bool, true, false, cond, List, [], ◌∷◌, ◌++◌, length, slice_get, unwrap_or, Option, Some, None, Result, Ok, Err, refl, sym, ap, ◌∙◌, subst, append_assoc, true≢false}
+use Rattle.std.proofs.Common.{◌≡◌, ℕ, ◌<◌, ◌^◌, ◌&&◌, Bool, true, false, cond, List, [], ◌∷◌, ◌++◌, length, slice_get, unwrap_or, Option, Some, None, Result, Ok, refl, sym, ap, ◌∙◌, subst, append_assoc, true≢false}
 use Rattle.std.specs.Option.{IfSome}
-use Rattle.std.specs.Prelude.{OnOk}
 use Rattle.std.specs.Int.{w64, to_le_bytes}
 use Rattle.std.specs.List.{AllByRecursion, list_all}
 use Rattle.std.proofs.lemmas.Option.{same_Some, none-some}
@@ -17,11 +16,6 @@ use Rattle.col_model.proofs.DecodedNumbers.{values64-within}
 use Rattle.col_numbers.specs.Written.{AppendsList}
 use Rattle.col_indexer.specs.Spelling.{Index, index_bytes}
 use Rattle.col_column.specs.Written.{numbers_bytes, number_column_bytes}
-
--- what holds anyway holds after Ok
-pub on_ok : {P : Type 0} (result : Result (Unit {0}) ColumnarError) → P → OnOk result P
-on_ok (Ok done) p = p
-on_ok (Err e) p = tt
 
 -- ---- which codec is chosen
 

@@ -27,7 +27,7 @@ counts-read : (index : List ℕ) (s : Shape) (n : ℕ) → shape index 2 ≡ Som
 unfolding counts
 counts-read index s n e = rw e (counts_over-seen s n)
 
-sum-counts_by : (s : Shape) (n : ℕ) → IsCounted s n → sum (counts_by s n) ≡ n
+pub sum-counts_by : (s : Shape) (n : ℕ) → IsCounted s n → sum (counts_by s n) ≡ n
 sum-counts_by (empty_shape m) n h = sum_by-replicate (λ x. x) m 0 ∙ omega arith
 sum-counts_by full_shape n h = sum_by-replicate (λ x. x) n 1 ∙ omega arith
 sum-counts_by (optional_shape cs) n h = h

@@ -9,3 +9,4 @@ pub mod FlagLemmas
 pub mod MemberLemmas
 pub mod OrderingLemmas
 pub mod DecodingLemmas
+pub mod OnOkLemmas

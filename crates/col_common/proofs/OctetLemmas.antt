@@ -81,7 +81,7 @@ bytes_are (suc k) n = (rw (byte_is k n) (mod_below (n / 256 ^ k) 256 (lit< tt)),
 pub are_octets : (n : ℕ) → AllByRecursion (λ d. d < 256) (to_be_bytes w128 n)
 are_octets n = bytes_are 16 n
 
-then_equal : (a b : Ordering) → ordering_then a b ≡ Equal → (a ≡ Equal) × (b ≡ Equal)
+pub then_equal : (a b : Ordering) → ordering_then a b ≡ Equal → (a ≡ Equal) × (b ≡ Equal)
 then_equal Less b h = cc
 then_equal Equal b h = (refl, h)
 then_equal Greater b h = cc

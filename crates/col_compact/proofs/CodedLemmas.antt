@@ -1,11 +1,10 @@
 -- Codes and their numbers have the same least and the same greatest item.
-use Rattle.std.proofs.Common.{◌≡◌, ℕ, zero, suc, ◌+◌, ◌-◌, ◌^◌, ◌<◌, ◌≤◌, ◌*◌, ◌==◌, ◌&&◌, ◌||◌, Bool, true, false, List, [], ◌∷◌, ◌++◌, length, map, fold, min, max, slice_index_or, Option, Some, None, refl, sym, ◌∙◌, ap, subst, inl, inr, arith}
+use Rattle.std.proofs.Common.{◌≡◌, ℕ, zero, suc, ◌+◌, ◌-◌, ◌^◌, ◌<◌, ◌≤◌, ◌*◌, ◌==◌, ◌&&◌, ◌||◌, Bool, true, false, List, [], ◌∷◌, length, map, fold, min, max, slice_index_or, Option, Some, None, refl, sym, ◌∙◌, ap, subst, inl, inr, arith}
 use Rattle.std.specs.Prelude.{nat_le, nat_lt}
 use Rattle.std.specs.Int.{is_in_range}
 use Rattle.std.specs.List.{list_all, AllByRecursion}
 use Rattle.std.proofs.lemmas.Bool.{cases_lt, eq-eqb, ne_eqb, eqb-true, le-leb, lt-leb, leb-true, and_parts}
 use Rattle.std.specs.List.{range_with_len}
-use Rattle.std.proofs.lemmas.List.FromFn.{map-range_with_len_more}
 use Rattle.std.proofs.lemmas.List.Sums.{fold-append}
 use Rattle.col_bits.specs.Packed.{item, items}
 use Rattle.col_model.specs.Stats.{least_of, greatest_of}
@@ -13,6 +12,7 @@ use Rattle.std.specs.Int.{w64}
 use Rattle.std.proofs.lemmas.List.FromFn.{length-map-range_with_len, get_or-map-range_with_len}
 use Rattle.col_common.specs.Reading.{◌>>=◌, only_if, parts_by_second}
 use Rattle.col_bits.specs.Packed.{is_packed}
+use Rattle.col_bits.proofs.ItemLemmas.{items-push}
 use Rattle.col_model.specs.AddressList.{AddressFooter, address_footer, are_bounds, range_size, code_count, coded_number, first_start, last_end}
 use Rattle.col_model.proofs.ItemLaws.{packed-items}
 use Rattle.col_compact.specs.Coded.{Coded, are_codes, coded_by, coded_list, coded_in}
@@ -222,9 +222,6 @@ ends_known ms space codes some e =
 
 -- ---- codes that are read one after another
 
-items_push : (bytes : List ℕ) (w n : ℕ) → items bytes w 0 (n + 1) ≡ items bytes w 0 n ++ item bytes w n ∷ []
-items_push bytes w n = map-range_with_len_more (item bytes w) 0 n n (omega arith)
-
 -- the least and the greatest of the first items
 pub record AreBounds (bytes : List ℕ) (w n least greatest : ℕ) : Type 0 where
   pub some : 1 ≤ n
@@ -236,9 +233,9 @@ bounds_more bytes w zero low high x low2 high2 b e l h = absurd (let some = b.so
 bounds_more bytes w (suc n) low high x low2 high2 b e l h = record {
   some = omega arith;
   least_is = l ∙ ap (λ a. min a x) b.least_is ∙ ap (λ a. min (least_of (items bytes w 0 (suc n))) a) e
-      ∙ sym (fold-append min (item bytes w 0) (map (item bytes w) (range_with_len 1 n)) (item bytes w (suc n) ∷ [])) ∙ ap least_of (sym (items_push bytes w (suc n)));
+      ∙ sym (fold-append min (item bytes w 0) (map (item bytes w) (range_with_len 1 n)) (item bytes w (suc n) ∷ [])) ∙ ap least_of (sym (items-push bytes w (suc n)));
   greatest_is = h ∙ ap (λ a. max a x) b.greatest_is ∙ ap (λ a. max (greatest_of (items bytes w 0 (suc n))) a) e
-      ∙ sym (fold-append max 0 (items bytes w 0 (suc n)) (item bytes w (suc n) ∷ [])) ∙ ap greatest_of (sym (items_push bytes w (suc n)));
+      ∙ sym (fold-append max 0 (items bytes w 0 (suc n)) (item bytes w (suc n) ∷ [])) ∙ ap greatest_of (sym (items-push bytes w (suc n)));
 }
 
 -- the same by an item of a block

@@ -1,14 +1,13 @@
 -- Codes that are read, and lookups by codes.
-use Rattle.std.proofs.Common.{◌≡◌, ℕ, zero, suc, ◌+◌, ◌-◌, ◌^◌, ◌<◌, ◌≤◌, ◌==◌, ◌&&◌, Bool, true, false, List, length, map, filter, min, slice_index, slice_get, Option, Some, None, refl, sym, ◌∙◌, ap, subst, inl, inr, arith}
+use Rattle.std.proofs.Common.{◌≡◌, ℕ, ◌+◌, ◌-◌, ◌^◌, ◌<◌, ◌≤◌, ◌==◌, ◌&&◌, Bool, true, false, List, length, map, min, slice_index, slice_get, Option, Some, None, refl, sym, ◌∙◌, ap, subst, inl, inr, arith}
 use Rattle.std.specs.Prelude.{nat_le, option_map, ◌⊎◌}
 use Rattle.std.specs.Int.{w64, is_in_range}
-use Rattle.std.specs.List.{All, list_all, range_with_len}
-use Rattle.std.specs.Ordering.{nat_cmp, is_le, partial_le}
+use Rattle.std.specs.List.{list_all}
+use Rattle.std.specs.Ordering.{partial_le}
 use Rattle.std.proofs.lemmas.Bool.{cases_lt, and_parts}
 use Rattle.std.proofs.lemmas.Bool.Decides.{nat_tests}
 use Rattle.std.proofs.lemmas.Option.{slice_get-map, slice_get-get_or, same_Some, none-some, slice_get_past}
 use Rattle.std.proofs.lemmas.List.{length-map}
-use Rattle.col_model.proofs.StatsLaws.{least_of-all, fold-max, all_by}
 use Rattle.std.proofs.lemmas.List.FromFn.{get_or-map-range_with_len}
 use Rattle.std.proofs.lemmas.List.Elements.{All-get_or, All-from_recursion}
 use Rattle.col_common.specs.Reading.{◌>>=◌, only_if, parts_by_second}
@@ -17,6 +16,7 @@ use Rattle.col_model.specs.Stats.{least_of, greatest_of}
 use Rattle.col_model.specs.AddressList.{AddressFooter, address_footer, coded_values, values128, header_at, code_count, coded_number}
 use Rattle.col_values.specs.Codes.{number_cmp}
 use Rattle.col_values.specs.Values.{passes, is_between, hits, hits_between, span}
+use Rattle.col_values.proofs.HitLemmas.{rows_same, in_between}
 use Rattle.col_compact.specs.Coded.{Coded, numbers_of, are_codes, coded_by, coded_list, headed_list, counted, coded_in, IsReader}
 use Rattle.col_compact.proofs.CodedLemmas.{all_codes, length_items}
 
@@ -94,29 +94,20 @@ code_read f bytes read d w idx code view reader same width_is is h =
 
 -- ---- lookups
 
-filter_same : (p q : ℕ → Bool) (a n : ℕ) → ((k : ℕ) → a ≤ k → k < a + n → p k ≡ q k) → filter p (range_with_len a n) ≡ filter q (range_with_len a n)
-filter_same p q a zero same = refl
-filter_same p q a (suc n) same =
-    let rest = filter_same p q (a + 1) n (λ k h l. same k (omega arith) (omega arith)) in
-    rw (same a (omega arith) (omega arith), rest) refl
-
 at_most : (a b : ℕ) → partial_le number_cmp a b ≡ nat_le a b
 at_most a b = grind (arith, nat_tests)
-
-in_between : (low high x : ℕ) → is_between number_cmp low high x ≡ is_in_range low high x
-in_between low high x = λ i. at_most low x i && at_most x high i
 
 -- ids of packed items are positions of the items
 pub ids-hits : (bytes : List ℕ) (w count low high a n : ℕ) → (n ≡ 0) ⊎ (a + n ≤ count) → ids_between bytes w low high a n ≡ hits (is_between number_cmp low high) (items bytes w 0 count) a n
 unfolding ids_between hits
-ids-hits bytes w count low high a n upto = filter_same _ _ a n (λ k from below.
+ids-hits bytes w count low high a n upto = rows_same _ _ a n (λ k from below.
     let inside : k < count = elim upto [ inl none ↦ omega arith | inr within ↦ omega arith ] in
     sym (ap (passes (is_between number_cmp low high)) (items_at bytes w count k inside) ∙ in_between low high (item bytes w k)))
 
 -- what is made of values by a map is found where the values are
 pub hits-mapped : (f : ℕ → ℕ) (p q : ℕ → Bool) (xs : List ℕ) (a n : ℕ) → ((i x : ℕ) → slice_get xs i ≡ Some x → p x ≡ q (f x)) → hits p xs a n ≡ hits q (map f xs) a n
 unfolding hits
-hits-mapped f p q xs a n same = filter_same _ _ a n (λ k from below. by k (slice_get xs k) refl)
+hits-mapped f p q xs a n same = rows_same _ _ a n (λ k from below. by k (slice_get xs k) refl)
   where
     by : (k : ℕ) (o : Option ℕ) → slice_get xs k ≡ o → passes p (slice_get xs k) ≡ passes q (slice_get (map f xs) k)
     by k None e = ap (passes p) e ∙ sym (ap (passes q) (slice_get-map f xs k ∙ ap (option_map f) e))
@@ -164,15 +155,6 @@ numbers-count f bytes d view =
     let codes = items bytes f.code_width 0 f.count in
     let long = length_items bytes f.code_width f.count in
     subst (λ (x : Coded). (f.count ≡ length (numbers_of x)) × (f.count ≡ length x.codes)) view (sym long ∙ sym (length-map codes (coded_number f.ranges)), sym long)
-
-below : (a b : ℕ) → a ≤ b → is_le (nat_cmp a b) ≡ true
-below a b h = grind (arith, nat_tests)
-
-pub least-below : (xs : List ℕ) (m : ℕ) → m ≡ least_of xs → All (λ v. is_le (nat_cmp m v) ≡ true) xs
-least-below xs m e = All-from_recursion (λ v. is_le (nat_cmp m v) ≡ true) xs (all_by (λ v h. below m v (omega (arith, e, h))) xs (least_of-all xs))
-
-pub greatest-above : (xs : List ℕ) (m : ℕ) → m ≡ greatest_of xs → All (λ v. is_le (nat_cmp v m) ≡ true) xs
-greatest-above xs m e = All-from_recursion (λ v. is_le (nat_cmp v m) ≡ true) xs (all_by (λ v h. below v m (omega (arith, e, h))) xs (fold-max 0 xs).1)
 
 -- ---- lists behind a header
 

@@ -5,10 +5,10 @@ use Rattle.std.specs.List.{list_all}
 use Rattle.std.proofs.lemmas.Bool.{false≢true, and_parts, le-leb, lt-ltb, leb-true, ltb-true}
 use Rattle.std.proofs.lemmas.Option.{option_and_then_some, cond_some}
 use Rattle.std.proofs.lemmas.List.{map-append}
-use Rattle.std.proofs.lemmas.List.Sums.{sum_by-append}
 use Rattle.col_common.specs.Reading.{◌>>=◌, only_if, items}
 use Rattle.col_common.specs.VInt.{vint}
 use Rattle.col_model.specs.AddressList.{pair_at, range_size, code_count, ranges_from, are_apart, last_end, ranges_at}
+use Rattle.col_model.proofs.RangeCodes.{count-cons}
 use Rattle.col_compact.specs.declared.compact_space.RangeMapping.{RangeMapping}
 use Rattle.col_compact.specs.Mapped.{AreMapped, IsSpace, ranges_of, range_of}
 use Rattle.col_compact.specs.Reading.{range_at, ranges_behind}
@@ -36,9 +36,6 @@ apart_four : (ps : List (ℕ × ℕ)) → are_apart_from 4 ps ≡ list_all (λ (
 apart_four [] = refl
 apart_four (p ∷ ps) = refl
 
-counted_head : (r : ℕ × ℕ) (rs : List (ℕ × ℕ)) → code_count (r ∷ rs) ≡ range_size r + code_count rs
-counted_head r rs = sum_by-append range_size (r ∷ []) rs ∙ ap (λ n. n + code_count rs) (zero-add (range_size r))
-
 end_above : (before : ℕ) (ps : List (ℕ × ℕ)) → before ≤ end_behind before (ranges_from before ps)
 unfolding ranges_from
 end_above before [] = omega arith
@@ -64,7 +61,7 @@ head_is_range before apart codes p ps e =
     let high = ltb-true (end_behind before rs) (2 ^ 128) inner.1 in
     let few = ltb-true (codes + code_count rs) (2 ^ 32) outer.1 in
     let up = end_above (ends_at before p) ps in
-    let sum = counted_head (before + p.0, ends_at before p) (ranges_from (ends_at before p) ps) in
+    let sum = count-cons (before + p.0, ends_at before p) (ranges_from (ends_at before p) ps) in
     all_true (nat_le apart p.0) (nat_lt (before + p.0 + p.1) (2 ^ 128)) (nat_lt (codes + p.1 + 1) (2 ^ 32)) near.0
     (lt-ltb (before + p.0 + p.1) (2 ^ 128) (omega (arith, high, up))) (lt-ltb (codes + p.1 + 1) (2 ^ 32) (omega (arith, few, sum)))
 
@@ -75,7 +72,7 @@ tail_tests before apart codes p ps e =
     let near : nat_le apart p.0 ≡ true = (and_parts _ _ (and_parts _ _ e).0).0 in
     let r : ℕ × ℕ = (before + p.0, ends_at before p) in
     let rs = ranges_from (ends_at before p) ps in
-    let sum = counted_head r rs in
+    let sum = count-cons r rs in
     let same : codes + code_count (r ∷ rs) ≡ codes + range_size r + code_count rs = omega (arith, sum) in
     ap (λ b. b && list_all (λ (q : ℕ × ℕ). nat_le 4 q.0) ps && nat_lt (end_behind (ends_at before p) rs) (2 ^ 128) && nat_lt (codes + code_count (r ∷ rs)) (2 ^ 32)) near
     ∙ ap (λ b. b && nat_lt (end_behind (ends_at before p) rs) (2 ^ 128) && nat_lt (codes + code_count (r ∷ rs)) (2 ^ 32)) (sym (apart_four ps))

@@ -4,7 +4,7 @@ use Rattle.std.specs.List.{All, list_all}
 use Rattle.std.proofs.lemmas.Bool.{and_parts}
 use Rattle.std.proofs.lemmas.Bool.Decides.{nat_tests}
 use Rattle.std.proofs.lemmas.Int.{ints}
-use Rattle.std.proofs.lemmas.List.{take-append-drop, length-drop, length-map, take-map, drop-map}
+use Rattle.std.proofs.lemmas.List.{take-append-drop, length-drop, length-map}
 use Rattle.std.proofs.lemmas.Option.{same_Some}
 use Rattle.std.proofs.lemmas.Simd.{map-map}
 use Rattle.std.proofs.lemmas.List.Sums.{sum_by-cons, list_all-from_AllPass}
@@ -20,6 +20,8 @@ use Rattle.col_values.specs.Codes.{is_i64, is_below}
 use Rattle.col_numbers.specs.Coercions.{fits_i64, is_not_negative}
 use Rattle.col_types.specs.Cells.{unsigned_cell}
 use Rattle.col_column.specs.Columns.{IsCounted, counts_by, rows_by, content_seen}
+use Rattle.col_column.proofs.CellLemmas.{cut-map}
+use Rattle.col_column.proofs.OpenCountLemmas.{is_some-only_if}
 use Rattle.col_dynamic.specs.Dynamic.{is_of, fits_type}
 
 all-append : {A : Type 0} (p : A → Bool) (xs ys : List A) → list_all p (xs ++ ys) ≡ (list_all p xs && list_all p ys)
@@ -85,12 +87,7 @@ other_i64 s xs counted = all-rows (is_of types.i64) unsigned_cell s xs counted �
 
 -- ---- the same numbers under another type
 
-cut-map : {A B : Type 0} (f : A → B) (cs : List ℕ) (xs : List A) → cut cs (map f xs) ≡ map (map f) (cut cs xs)
-unfolding cut
-cut-map f [] xs = refl
-cut-map f (c ∷ cs) xs = ap₂ (λ a b. a ∷ b) (take-map f c xs) (ap (cut cs) (drop-map f c xs) ∙ cut-map f cs (drop c xs))
-
-maps : {A B C : Type 0} (g : B → C) (f : A → B) (rows : List (List A)) → map (map g) (map (map f) rows) ≡ map (map (λ x. g (f x))) rows
+pub maps : {A B C : Type 0} (g : B → C) (f : A → B) (rows : List (List A)) → map (map g) (map (map f) rows) ≡ map (map (λ x. g (f x))) rows
 maps g f [] = refl
 maps g f (row ∷ rows) = ap₂ (λ a b. a ∷ b) (map-map g f row) (maps g f rows)
 
@@ -109,10 +106,6 @@ seen_signed s ys =
 is_some-map : {A B : Type 0} (f : A → B) (o : Option A) → is_some (option_map f o) ≡ is_some o
 is_some-map f None = refl
 is_some-map f (Some x) = refl
-
-is_some-only_if : {A : Type 0} (b : Bool) (x : A) → is_some (only_if b x) ≡ b
-is_some-only_if true x = refl
-is_some-only_if false x = refl
 
 -- an answer is there exactly where the values are
 pub there : {D V B : Type 0} (view : D → Content) (g : V → Content) (list : V → List B) (r : Option D) (o : Option V) (b : Bool) (ys : List B) → option_map view r ≡ option_map g o → option_map list o ≡ only_if b ys → is_some r ≡ b

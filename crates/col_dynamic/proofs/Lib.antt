@@ -1,1 +1,2 @@
 pub mod CoercionLemmas
+pub mod RowLemmas

@@ -323,7 +323,8 @@ fn u64_column(column: NumColumn<u64>) -> DynamicColumn
 
 // A column of u64 as one of i64, where each number is one.
 fn i64_column_of(column: NumColumn<u64>) -> Option<DynamicColumn>
-    ensures fits { is_some result ≡ fits_type types.i64 types.u64 (content_of (columns.U64 column)) }
+    ensures fits { is_some result
+        ≡ fits_type types.i64 types.u64 (content_of (columns.U64 column)) }
     ensures content { IfSome result (λ c. content_of c ≡ content_of (columns.U64 column)) }
     ensures kind { IfSome result (λ c. type_of c ≡ types.i64) }
 {
@@ -333,7 +334,8 @@ fn i64_column_of(column: NumColumn<u64>) -> Option<DynamicColumn>
 
 // A column of i64 as one of u64, where each number is one.
 fn u64_column_of(column: NumColumn<i64>) -> Option<DynamicColumn>
-    ensures fits { is_some result ≡ fits_type types.u64 types.i64 (content_of (columns.I64 column)) }
+    ensures fits { is_some result
+        ≡ fits_type types.u64 types.i64 (content_of (columns.I64 column)) }
     ensures content { IfSome result (λ c. content_of c ≡ content_of (columns.I64 column)) }
     ensures kind { IfSome result (λ c. type_of c ≡ types.u64) }
 {

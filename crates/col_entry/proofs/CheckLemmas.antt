@@ -22,7 +22,7 @@ use Rattle.col_rows.specs.Rows.{cell_rows}
 use Rattle.col_rows.proofs.LimitLemmas.{few-too_large, few-cells}
 use Rattle.col_rows.proofs.EntryLemmas.{texts-none}
 use Rattle.col_record.specs.Answers.{Gives, answer_of}
-use Rattle.col_record.specs.Columns.{records_of, text_entry, plain_entry}
+use Rattle.col_record.specs.Columns.{text_entry, plain_entry}
 use Rattle.col_record.specs.Numerical.{AreCodes}
 use Rattle.col_record.specs.Texts.{Texts}
 use Rattle.col_record.specs.declared.plain_column_writer.PlainColumnWriter.{PlainColumnWriter}
@@ -31,6 +31,7 @@ use Rattle.col_types.specs.Kinds.{kind_of, numerical_kind_of}
 use Rattle.col_types.specs.declared.numerical_type.NumericalType.{NumericalType}
 use Rattle.col_types.specs.declared.numerical_type.NumericalType.TheVariants as kinds
 use Rattle.col_types.specs.declared.column_type.ColumnType.{ColumnType as Kind}
+use Rattle.col_record.proofs.EntryLemmas.{records-long}
 use Rattle.col_entry.specs.OnRows.{cells_by_doc, rows_on, content_on, type_on, is_past_terms}
 use Rattle.col_entry.proofs.NumberLemmas.{codes-textless}
 use Rattle.col_entry.proofs.PlainLemmas.{cells-in-records}
@@ -96,10 +97,6 @@ ties-small t e ds start other none tied few =
 or-false : (b : Bool) → (b || false) ≡ b
 or-false true = refl
 or-false false = refl
-
-records-long : {X : Type 0} (t : ColumnType) (cell : X → Cell) (ps : List (ℕ × X)) → length (records_of t cell ps) ≡ length ps
-unfolding records_of
-records-long t cell ps = length-map ps (λ p. record { doc = p.0; recorded_type = t; cell = cell p.1 })
 
 -- texts are too large by their dictionary alone
 pub texts-large : (t : ColumnType) (w : Texts) (ds : List ℕ) (n : ℕ) → (t ≡ types.ip → ⊥) → AreRowDocs (length ds) ds → n ≡ length w.values → n < 2 ^ 32 → is_too_large t (content_on (text_entry t w) ds) ≡ is_past_terms w

@@ -14,13 +14,6 @@ pub each-map : {A B C : Type 0} (f : B → Result C Refusal) (s : A → B) (xs :
 each-map f s [] = refl
 each-map f s (x ∷ xs) = ap (λ r. f (s x) >>= λ y. r >>= λ ys. Ok (y ∷ ys)) (each-map f s xs)
 
-pub each-push : {A B : Type 0} (f : A → Result B Refusal) (xs : List A) (x : A) (ys : List B) (y : B) → each_ok f xs ≡ Ok ys → f x ≡ Ok y → each_ok f (xs ++ x ∷ []) ≡ Ok (ys ++ y ∷ [])
-each-push f [] x ys y e p = ap (λ r. r >>= λ z. Ok (z ∷ [])) p ∙ ap (λ zs. Ok (zs ++ y ∷ [])) (same_Ok [] ys e)
-each-push f (w ∷ xs) x ys y e p =
-    let a = bind-ok (f w) (λ z. each_ok f xs >>= λ zs. Ok (z ∷ zs)) ys e in
-    let b = bind-ok (each_ok f xs) (λ zs. Ok (a.0 ∷ zs)) ys a.2 in
-    (λ i. a.1 i >>= λ z. each-push f xs x b.0 y b.1 p i >>= λ zs. Ok (z ∷ zs)) ∙ ap (λ zs. Ok (zs ++ y ∷ [])) (same_Ok (a.0 ∷ b.0) ys b.2)
-
 pub each-stopped : {A B : Type 0} (f : A → Result B Refusal) (xs : List A) (x : A) (rest : List A) (ys : List B) (r : Refusal) → each_ok f xs ≡ Ok ys → f x ≡ Err r → each_ok f (xs ++ x ∷ rest) ≡ Err r
 each-stopped f [] x rest ys r e p = ap (λ o. o >>= λ y. each_ok f rest >>= λ zs. Ok (y ∷ zs)) p
 each-stopped f (w ∷ xs) x rest ys r e p =

@@ -1,6 +1,6 @@
 -- Columns of numbers.
-use Rattle.std.proofs.Common.{◌≡◌, ◌<◌, ℕ, suc, ◌-◌, ◌^◌, List, [], ◌∷◌, length, map, Bool, true, false, Some, None, Result, refl, sym, ap, ◌∙◌, subst, arith}
-use Rattle.std.specs.Prelude.{ℤ, pos, ◌&&◌, int_le, filter_map}
+use Rattle.std.proofs.Common.{◌≡◌, ◌<◌, ℕ, suc, ◌-◌, ◌^◌, List, [], ◌∷◌, length, map, true, false, Some, None, Result, refl, sym, ap, ◌∙◌, subst, arith}
+use Rattle.std.specs.Prelude.{ℤ, pos, int_le, filter_map}
 use Rattle.std.specs.List.{list_all, zip}
 use Rattle.std.proofs.lemmas.Bool.{and_parts}
 use Rattle.std.proofs.lemmas.Bool.Decides.{nat_tests}
@@ -23,6 +23,7 @@ use Rattle.col_rows.specs.Counted.{SerializesColumn}
 use Rattle.col_rows.specs.Documents.{docs_of}
 use Rattle.col_rows.specs.Rows.{cell_rows, number_content, tie_content}
 use Rattle.col_rows.proofs.EntryLemmas.{texts-none, tied-content}
+use Rattle.col_rows.proofs.TextLemmas.{stores-all}
 use Rattle.col_record.specs.Numerical.{numerical_records, AreCodes}
 use Rattle.col_record.specs.Values.{stored_number, unsigned_of}
 use Rattle.col_record.proofs.NumericalLemmas.{docs-records}
@@ -89,15 +90,11 @@ number-entry e t ds docs numbers untied unsorted same_docs same_cells =
     (λ i. record { cardinality = tightest rows; terms = sym (texts-none t numbers) i; rows = rows })
     ∙ sym (plain-content e ds docs (map (number_cell t) numbers) untied unsorted same_docs same_cells)
 
-all-stored : (xs : List ℕ) (p : ℕ → Bool) → ((x : ℕ) → p x ≡ true) → list_all p xs ≡ true
-all-stored [] p h = refl
-all-stored (x ∷ xs) p h = (λ i. h x i && list_all p xs) ∙ all-stored xs p h
-
 pub stores-i64 : (xs : List ℕ) → Stores64 types.i64 xs
-stores-i64 xs = record { list = λ bytes. refl; images = all-stored xs (is_stored types.i64) (λ x. refl) }
+stores-i64 xs = record { list = λ bytes. refl; images = stores-all xs (is_stored types.i64) (λ x. refl) }
 
 pub stores-u64 : (xs : List ℕ) → Stores64 types.u64 xs
-stores-u64 xs = record { list = λ bytes. refl; images = all-stored xs (is_stored types.u64) (λ x. refl) }
+stores-u64 xs = record { list = λ bytes. refl; images = stores-all xs (is_stored types.u64) (λ x. refl) }
 
 -- a column as it is written for any type that stores its numbers
 abbrev pub WritesNumbers : SeenSink → SeenSink → Result (Unit {0}) ColumnarError → List ℕ → List ℕ → List ℕ → Type 0

@@ -25,9 +25,10 @@ use Rattle.col_model.proofs.SlotLaws.{column_slot}
 use Rattle.col_model.proofs.WrittenTables.{rising-keys}
 use Rattle.col_keys.specs.Put.{Columns, no_columns, Puts, HavePut, part_put, AreKeys, HasColumns}
 use Rattle.col_keys.proofs.PutLemmas.{puts-as, have-none, have-more, have-refused}
+use Rattle.col_keys.proofs.StandLemmas.{stands-for, same-keys}
 use Rattle.col_rows.specs.Counted.{SerializesColumn}
 use Rattle.col_entry.specs.Tables.{made, PutsColumn, ArePut, PutsColumns, WritesFile}
-use Rattle.col_entry.proofs.FileLemmas.{stands-for, same-keys, keys-of-slots}
+use Rattle.col_entry.proofs.FileLemmas.{keys-of-slots}
 
 -- ---- one column
 

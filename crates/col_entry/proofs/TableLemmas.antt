@@ -9,6 +9,7 @@ use Rattle.col_model.specs.Category.{category_of, Slot}
 use Rattle.col_model.specs.ColumnType.{ColumnType}
 use Rattle.col_model.specs.Refusal.{each_ok}
 use Rattle.col_model.specs.Written.{Entry, Recorded, has_zero}
+use Rattle.col_model.proofs.RefusalLaws.{each-push}
 use Rattle.col_record.specs.Answers.{Gives, Refuses}
 use Rattle.col_types.specs.Kinds.{kind_of}
 use Rattle.col_types.specs.declared.column_type.ColumnType.{ColumnType as Kind}
@@ -16,7 +17,7 @@ use Rattle.col_entry.specs.EntryColumns.{category_in}
 use Rattle.col_entry.specs.OnRows.{content_on}
 use Rattle.col_entry.specs.Tables.{named_entry, type_of, made}
 use Rattle.col_entry.specs.declared.named_column.NamedColumn.{NamedColumn}
-use Rattle.col_entry.proofs.EachLemmas.{whole-at, each-push, each-stopped, each-length}
+use Rattle.col_entry.proofs.EachLemmas.{whole-at, each-stopped, each-length}
 
 -- ---- the tests
 

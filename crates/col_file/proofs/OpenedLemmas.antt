@@ -7,8 +7,7 @@ use Rattle.std.proofs.lemmas.List.{length-map}
 use Rattle.col_common.specs.Decoding.{Decodes}
 use Rattle.col_common.specs.Reading.{◌>>=◌, only_if, parts_by_first}
 use Rattle.col_common.specs.declared.error.ColumnarError.{ColumnarError}
-use Rattle.col_column.specs.Columns.{row_count, rows_by}
-use Rattle.col_column.proofs.FirstLemmas.{length-rows}
+use Rattle.col_column.specs.Columns.{row_count}
 use Rattle.col_dynamic.specs.Dynamic.{type_of, content_of, dynamic_shape, value_count}
 use Rattle.col_dynamic.specs.declared.dynamic_column.DynamicColumn.{DynamicColumn}
 use Rattle.col_dynamic.specs.declared.dynamic_column.DynamicColumn.TheVariants as columns
@@ -16,15 +15,13 @@ use Rattle.col_model.specs.Ascending.{are_below}
 use Rattle.col_model.specs.Column.{number_cell, term_cell, number_rows, content_of as content_from, term_column, column}
 use Rattle.col_model.specs.ColumnType.{ColumnType, has_terms}
 use Rattle.col_model.specs.Dictionary.{terms}
-use Rattle.col_model.specs.Index.{Counts, Shape}
-use Rattle.col_model.specs.Table.{Cell, number, Content}
+use Rattle.col_model.specs.Index.{Counts}
+use Rattle.col_model.specs.Table.{Cell, Content}
 use Rattle.col_model.proofs.DecodedColumns.{rows-are}
 use Rattle.col_model.proofs.DecodedNumbers.{step-of, if-of}
 use Rattle.col_model.proofs.SharedTypes.{same-some}
-use Rattle.col_numbers.specs.NumValues.{num_values_of}
-use Rattle.col_column.specs.IpValues.{ip_values_of}
 use Rattle.col_file.specs.Columns.{IsTyped}
-use Rattle.col_types.specs.Cells.{unsigned_cell, bool_cell}
+use Rattle.col_dynamic.proofs.RowLemmas.{seen-rows}
 
 -- rows that are read are as many as are told
 read-rows : (bytes : List ℕ) (t : ColumnType) (version n : ℕ) (p : Counts × List (List ℕ)) (cell : ℕ → Cell) → number_rows bytes t version n ≡ Some p → length (map (map cell) p.1) ≡ n
@@ -56,19 +53,6 @@ column-rows bytes t version n c g = by (has_terms t) g
     by : (b : Bool) → (if b then term_column bytes t version n else (number_rows bytes t version n >>= λ p. Some (content_from [] (number_cell t) p))) ≡ Some c → length c.rows ≡ n
     by true g = term-rows bytes t version n c g
     by false g = number-rows bytes t version n c g
-
--- the rows of a column are as many as it counts
-cell-rows : {T : Type 0} (cell : T → Cell) (s : Shape) (xs : List T) → length (map (map cell) (rows_by s xs)) ≡ row_count s (length xs)
-cell-rows cell s xs = length-map (rows_by s xs) (map cell) ∙ length-rows s xs
-
-seen-rows : (c : DynamicColumn) → length (content_of c).rows ≡ row_count (dynamic_shape c) (value_count c)
-seen-rows (columns.Bool c) = cell-rows bool_cell c.shape (num_values_of c.values)
-seen-rows (columns.I64 c) = cell-rows number c.shape (num_values_of c.values)
-seen-rows (columns.U64 c) = cell-rows unsigned_cell c.shape (num_values_of c.values)
-seen-rows (columns.IpAddr c) = cell-rows unsigned_cell c.shape (ip_values_of c.values)
-seen-rows (columns.DateTime c) = cell-rows number c.shape (num_values_of c.values)
-seen-rows (columns.Bytes c) = cell-rows (term_cell c.terms) c.ords.shape (num_values_of c.ords.values)
-seen-rows (columns.Str c) = cell-rows (term_cell c.terms) c.ords.shape (num_values_of c.ords.values)
 
 -- an opened column counts as many rows as are told
 pub opened-rows : (bytes : List ℕ) (t : ColumnType) (version n : ℕ) (c : DynamicColumn) → column bytes t version n ≡ Some (content_of c) → row_count (dynamic_shape c) (value_count c) ≡ n

@@ -1,10 +1,10 @@
 -- The handles of a file's entries open what the definitions have of the file.
-use Rattle.std.proofs.Common.{◌≡◌, ℕ, ◌==◌, ◌&&◌, ◌||◌, Bool, true, false, List, [], ◌∷◌, map, Option, Some, refl, sym, ap, ap₂}
+use Rattle.std.proofs.Common.{◌≡◌, ℕ, ◌==◌, ◌&&◌, Bool, true, false, List, [], ◌∷◌, map, Option, refl, sym, ap₂}
 use Rattle.std.specs.List.{AllByRecursion, list_any}
-use Rattle.std.proofs.lemmas.Bool.{eq-eqb, false≢true}
+use Rattle.std.proofs.lemmas.Bool.{eq-eqb, or_left, or_right}
 use Rattle.col_model.specs.ColumnType.{same_type, type_code}
-use Rattle.col_model.specs.File.{Part, PartColumn, part_column, parts_of}
-use Rattle.col_model.specs.Keys.{Entry, FileKeys, keys}
+use Rattle.col_model.specs.File.{PartColumn, part_column}
+use Rattle.col_model.specs.Keys.{Entry, FileKeys}
 use Rattle.col_model.specs.Table.{Content}
 use Rattle.col_file.specs.Columns.{content_at}
 use Rattle.col_file.specs.Handles.{handle_of, is_at, is_entry}
@@ -12,14 +12,6 @@ use Rattle.col_file.specs.Handles.{handle_of, is_at, is_entry}
 both : (a b : Bool) → a ≡ true → b ≡ true → (a && b) ≡ true
 both true b e f = f
 both false b e f = e
-
-left_of : (a b : Bool) → a ≡ true → (a || b) ≡ true
-left_of true b e = refl
-left_of false b e = absurd (false≢true e)
-
-right_of : (a b : Bool) → b ≡ true → (a || b) ≡ true
-right_of true b e = refl
-right_of false b e = e
 
 -- an entry is where its handle says
 is_at-own : (e : Entry) → is_at (handle_of e) e ≡ true
@@ -31,11 +23,11 @@ is_at-own e =
 
 more_behind : (x : Entry) (all left : List Entry) → AllByRecursion (λ e. list_any (is_at (handle_of e)) all ≡ true) left → AllByRecursion (λ e. list_any (is_at (handle_of e)) (x ∷ all) ≡ true) left
 more_behind x all [] h = tt
-more_behind x all (e ∷ left) h = (right_of (is_at (handle_of e) x) (list_any (is_at (handle_of e)) all) h.0, more_behind x all left h.1)
+more_behind x all (e ∷ left) h = (or_right (is_at (handle_of e) x) (list_any (is_at (handle_of e)) all) h.0, more_behind x all left h.1)
 
 own : (es : List Entry) → AllByRecursion (λ e. list_any (is_at (handle_of e)) es ≡ true) es
 own [] = tt
-own (e ∷ es) = (left_of (is_at (handle_of e) e) (list_any (is_at (handle_of e)) es) (is_at-own e), more_behind e es es (own es))
+own (e ∷ es) = (or_left (is_at (handle_of e) e) (list_any (is_at (handle_of e)) es) (is_at-own e), more_behind e es es (own es))
 
 -- the handle of each entry is that of an entry
 pub own-handles : (k : FileKeys) → AllByRecursion (λ e. is_entry k (handle_of e) ≡ true) k.entries
@@ -56,10 +48,3 @@ part_opened bytes k e = with_content e (content_at k (handle_of e) bytes)
 all_opened : (bytes : List ℕ) (k : FileKeys) (es : List Entry) → AllByRecursion (λ e. is_entry k (handle_of e) ≡ true) es → map (part_column bytes k) es ≡ map (part_opened bytes k) es
 all_opened bytes k [] h = refl
 all_opened bytes k (e ∷ es) h = ap₂ (λ content columns. with_content e content ∷ columns) (sym (content-of_entry bytes k e h.0)) (all_opened bytes k es h.1)
-
--- The row count, and what the handles of all entries open, are the parts that a file has.
-pub parts-opened : (bytes : List ℕ) (k : FileKeys) → keys bytes ≡ Some k → parts_of bytes ≡ Some (record { row_count = k.row_count; columns = map (part_opened bytes k) k.entries })
-unfolding parts_of
-parts-opened bytes k e =
-    let part : List PartColumn → Part = λ columns. record { row_count = k.row_count; columns = columns } in
-    rw e (ap (λ columns. Some (part columns)) (all_opened bytes k k.entries (own-handles k)))

@@ -1,5 +1,5 @@
 -- The entries of columns that follow one another.
-use Rattle.std.proofs.Common.{◌≡◌, ℕ, zero, suc, ◌+◌, ◌≤◌, ◌==◌, ◌&&◌, ◌||◌, Bool, true, false, List, [], ◌∷◌, ◌++◌, map, slice_get, Some, refl, ap, arith}
+use Rattle.std.proofs.Common.{◌≡◌, ℕ, zero, suc, ◌+◌, ◌≤◌, ◌==◌, ◌&&◌, ◌||◌, Bool, true, false, List, [], ◌∷◌, ◌++◌, slice_get, Some, refl, ap, arith}
 use Rattle.std.specs.List.{AllByRecursion, list_any}
 use Rattle.std.proofs.lemmas.Bool.{and_parts, eqb-true, false≢true}
 use Rattle.std.proofs.lemmas.List.Sums.{sum_by-cons}
@@ -27,11 +27,6 @@ within-entries start top [] h = tt
 within-entries start top (p ∷ ps) h =
     let sum = sum_by-cons (λ (q : Key × ℕ). q.1) p ps in
     ((omega arith, omega (arith, h)), within-entries (start + p.1) top ps (omega (arith, h)))
-
--- the keys of entries are those that were found
-pub keys_of-entries : (start : ℕ) (ps : List (Key × ℕ)) → map (λ e. e.key) (entries_from start ps) ≡ map (λ p. p.0) ps
-keys_of-entries start [] = refl
-keys_of-entries start (p ∷ ps) = ap (λ ks. p.0 ∷ ks) (keys_of-entries (start + p.1) ps)
 
 -- ---- the entry of a handle
 

@@ -28,7 +28,8 @@ impl ColumnEntry {
     // How the front of the name compares, as many bytes as there are to compare with.
     pub(crate) fn compare_front(&self, front: &[u8]) -> Ordering
         ensures { result
-            ≡ slice_cmp nat_cmp (take (length front.now) (string_bytes self.now.key.name)) front.now }
+            ≡ slice_cmp nat_cmp (take (length front.now) (string_bytes self.now.key.name))
+            front.now }
     {
         let name = self.key.name.as_bytes();
         if name.len() <= front.len() {

@@ -3,13 +3,7 @@ use Rattle.std.proofs.Common.{◌≡◌, ℕ, suc, ◌-◌, ◌+◌, ◌≤◌, 
 use Rattle.col_common.specs.Reading.{◌>>=◌, items}
 use Rattle.col_common.specs.Decoding.{Refuses}
 use Rattle.col_common.specs.declared.error.ColumnarError.{ColumnarError}
-use Rattle.col_common.specs.declared.error.ColumnarError.TheVariants.{OutOfMemory, InvalidData}
-
--- a refusal of one expectation is one of another that is none with it
-pub refuses_as : {A B : Type 0} (e : ColumnarError) (x : Option A) (y : Option B) → (x ≡ None → y ≡ None) → Refuses e x → Refuses e y
-refuses_as OutOfMemory x y f h = tt
-refuses_as InvalidData x y f h = f h
-refuses_as _ x y f h = absurd h
+use Rattle.col_common.proofs.DecodingLemmas.{refuses-as}
 
 -- what was read before, and what is still read
 abbrev pub with_front : {A : Type 0} → List A → Option (List A × List ℕ) → Option (List A × List ℕ)
@@ -37,7 +31,7 @@ items-ends item front count i bytes total lt so_far h =
     sym so_far ∙ one
 
 pub items-refused : {A : Type 0} (e : ColumnarError) (item : List ℕ → Option (A × List ℕ)) (front : List A) (count i : ℕ) (bytes : List ℕ) (total : Option (List A × List ℕ)) → i < count → with_front front (items item (count - i) bytes) ≡ total → Refuses e (item bytes) → Refuses e total
-items-refused e item front count i bytes total lt so_far h = refuses_as e (item bytes) total (items-ends item front count i bytes total lt so_far) h
+items-refused e item front count i bytes total lt so_far h = refuses-as e (item bytes) total (items-ends item front count i bytes total lt so_far) h
 
 -- all items
 pub items-done : {A : Type 0} (item : List ℕ → Option (A × List ℕ)) (front : List A) (count i : ℕ) (bytes : List ℕ) (total : Option (List A × List ℕ)) → count ≤ i → with_front front (items item (count - i) bytes) ≡ total → total ≡ Some (front, bytes)

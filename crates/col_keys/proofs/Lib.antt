@@ -3,3 +3,4 @@ pub mod FooterLemmas
 pub mod ItemLemmas
 pub mod KeyLemmas
 pub mod PutLemmas
+pub mod StandLemmas

@@ -67,7 +67,8 @@ impl ColumnarSerializer {
 
     /// Writes the keys and the footer behind the columns.
     pub fn finalize<K: Sink>(self, num_rows: RowId, sink: &mut K) -> Result<(), ColumnarError>
-        ensures ok { Serializes (K.seen sink.old) (K.seen sink.new) result (end_bytes self num_rows) }
+        ensures ok { Serializes (K.seen sink.old) (K.seen sink.new) result
+            (end_bytes self num_rows) }
         // With the columns in front this is the file of these columns ..
         ensures file { (start : SeenSink) (ps : List (Key × List ℕ)) →
             HavePut start (K.seen sink.old) self ps →
@@ -84,7 +85,8 @@ impl ColumnarSerializer {
     fn serialize_end<K: Sink>(&self, num_rows: RowId, sink: &mut K) -> Result<(), ColumnarError>
         ensures ok { Serializes (K.seen sink.old) (K.seen sink.new)
             result (end_bytes self.now num_rows) }
-        ensures short { OnOk result (length (vint_bytes self.now.count ++ self.now.table) < 2 ^ 64) }
+        ensures short { OnOk result
+            (length (vint_bytes self.now.count ++ self.now.table) < 2 ^ 64) }
     {
         let count = VInt(self.num_columns);
         let entries = self.table.as_slice();

@@ -1,8 +1,9 @@
 -- Inputs, read and opened one by one.
-use Rattle.std.proofs.Common.{◌≡◌, ◌<◌, ℕ, suc, List, [], ◌∷◌, ◌++◌, map, take, get_or, length, Bool, true, false, Option, Some, None, option_and_then, Result, Err, IfSome, refl, sym, ap, ap₂, ◌∙◌, inl, inr, ◌||◌}
+use Rattle.std.proofs.Common.{◌≡◌, ◌<◌, ℕ, suc, List, [], ◌∷◌, ◌++◌, map, take, get_or, length, true, false, Option, Some, None, option_and_then, Result, Err, IfSome, refl, sym, ap, ap₂, ◌∙◌, inl, inr}
 use Rattle.std.specs.List.{list_any}
 use Rattle.std.proofs.Math.Seq.{take-suc}
 use Rattle.std.proofs.lemmas.List.{map-append}
+use Rattle.std.proofs.lemmas.Bool.{or_left, or_right}
 use Rattle.col_common.specs.Memory.{Scheduled}
 use Rattle.col_common.specs.Outside.{Told}
 use Rattle.col_common.specs.declared.error.ColumnarError.{ColumnarError}
@@ -61,14 +62,6 @@ opened-one f r h = record { kept = keeps-read 2 f r.file h.1; whole = by f.told 
     by None e = tt
     by (Some bytes) e = a_file bytes r.keys e
 
-either-first : (a b : Bool) → a ≡ true → (a || b) ≡ true
-either-first true b e = refl
-either-first false b e = cc
-
-either-second : (a b : Bool) → b ≡ true → (a || b) ≡ true
-either-second true b e = refl
-either-second false b e = e
-
 -- an input that is no file is one of all
 no_file-among : (fs gs : List SeenFile) (f : SeenFile) → IfSome f.told (λ bytes. is_no_file bytes ≡ true) → IfSome (for_each (λ (x : SeenFile). x.told) (fs ++ f ∷ gs)) (λ files. list_any is_no_file files ≡ true)
 no_file-among [] gs f bad = by f.told bad (for_each (λ (x : SeenFile). x.told) gs)
@@ -76,13 +69,13 @@ no_file-among [] gs f bad = by f.told bad (for_each (λ (x : SeenFile). x.told) 
     by : (t : Told) → IfSome t (λ bytes. is_no_file bytes ≡ true) → (o : Option (List (List ℕ))) → IfSome (option_and_then (λ y. option_and_then (λ ys. Some (y ∷ ys)) o) t) (λ files. list_any is_no_file files ≡ true)
     by None bad o = tt
     by (Some t) bad None = tt
-    by (Some t) bad (Some ys) = either-first (is_no_file t) (list_any is_no_file ys) bad
+    by (Some t) bad (Some ys) = or_left (is_no_file t) (list_any is_no_file ys) bad
 no_file-among (x ∷ fs) gs f bad = by x.told (for_each (λ (x : SeenFile). x.told) (fs ++ f ∷ gs)) (no_file-among fs gs f bad)
   where
     by : (t : Told) (o : Option (List (List ℕ))) → IfSome o (λ files. list_any is_no_file files ≡ true) → IfSome (option_and_then (λ y. option_and_then (λ ys. Some (y ∷ ys)) o) t) (λ files. list_any is_no_file files ≡ true)
     by None o h = tt
     by (Some t) None h = tt
-    by (Some t) (Some ys) h = either-second (is_no_file t) (list_any is_no_file ys) h
+    by (Some t) (Some ys) h = or_right (is_no_file t) (list_any is_no_file ys) h
 
 no_file-told : (told : Told) → IfSome told (λ bytes. keys bytes ≡ None) → IfSome told (λ bytes. is_no_file bytes ≡ true)
 no_file-told None h = tt

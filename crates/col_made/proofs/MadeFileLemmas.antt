@@ -4,8 +4,9 @@ use Rattle.std.specs.List.{AllZip}
 use Rattle.std.proofs.Math.Seq.{take-suc}
 use Rattle.std.proofs.lemmas.List.{take_all}
 use Rattle.col_common.specs.declared.error.ColumnarError.{ColumnarError}
-use Rattle.col_entry.proofs.EachLemmas.{whole-at, each-push, each-stopped}
+use Rattle.col_entry.proofs.EachLemmas.{whole-at, each-stopped}
 use Rattle.col_model.specs.Refusal.{Refusal, each_ok}
+use Rattle.col_model.proofs.RefusalLaws.{each-push}
 use Rattle.col_record.specs.Answers.{MayRefuse}
 use Rattle.col_made.specs.Making.{Makes}
 

@@ -2,7 +2,7 @@
 use Rattle.std.proofs.Common.{◌≡◌, ◌+◌, ℕ, List, [], ◌∷◌, ◌++◌, map, reverse, length, Bool, true, false, Option, Some, None, option_and_then, Result, Ok, Err, IfSome, inl, inr, refl, sym, ap, ap₂, ◌∙◌, subst}
 use Rattle.std.specs.List.{AllZip, AllByRecursion, list_any}
 use Rattle.std.specs.Prelude.{◌||◌, is_none}
-use Rattle.std.proofs.lemmas.List.{length-append, length-map, length-reverse, reverse-reverse}
+use Rattle.std.proofs.lemmas.List.{length-append, length-map, length-reverse}
 use Rattle.std.proofs.lemmas.Option.{same_Some}
 use Rattle.std.proofs.lemmas.Slice.Zip.{AllZip-long}
 use Rattle.col_common.specs.Outside.{Told}
@@ -171,12 +171,6 @@ inputs-unopened IsOf fs now rs files required rows e h = record {
 
 -- ---- handing back
 
--- the inputs, turned round and back
-pub inputs-handed : {H : Type 0} (see : H → SeenFile) (old turned new left : List H) (rs : List SeenReader) (IsOf : Table → Made → Type 0) (files : List (List ℕ)) (required : List Required) (rows : Option (List (ℕ × ℕ))) (result : Result Made ColumnarError) → turned ≡ reverse old → MergesInputs IsOf (handed_in see (reverse turned)) (held see rs left) files required rows result → handed_in see new ≡ held see rs left → MergesInputs IsOf (handed_in see old) (handed_in see new) files required rows result
-inputs-handed see old turned new left rs IsOf files required rows result same merges handed =
-    subst (λ fs. MergesInputs IsOf (handed_in see old) fs files required rows result) (sym handed)
-    (subst (λ hs. MergesInputs IsOf (handed_in see hs) (held see rs left) files required rows result) (ap reverse same ∙ reverse-reverse old) merges)
-
 -- as many as there were
 pub held-long : {H : Type 0} (see : H → SeenFile) (turned left : List H) (rs : List SeenReader) → AllKeep (handed_in see (reverse turned)) (held see rs left) → length (given_in (files_in rs)) + length left ≡ length turned
 held-long see turned left rs keep =
@@ -190,11 +184,6 @@ pub opened-long : {H : Type 0} (see : H → SeenFile) (left : List H) (rs : List
 opened-long see left rs opened = AllZip-long IsOpened (handed_in see (reverse left)) rs opened ∙ length-map (reverse left) (λ h. given (see h)) ∙ length-reverse left
 
 -- ---- a script
-
--- each refusal is known
-pub known-may : {A : Type 0} (expected : Result A Refusal) (e : ColumnarError) → MayRefuse expected e → IsKnown e
-known-may expected e (inl memory) = inl memory
-known-may expected e (inr (r, at, answer)) = inr (inr (r, answer))
 
 -- no refusal of the definitions is a failed read
 no_fault : (r : Refusal) → answer_of r ≡ ReadFault → ⊥
@@ -214,11 +203,6 @@ no_fault refusals.tie_breaker_start h = cc
 pub known-fault : {A : Type 0} (expected : Result A Refusal) (e : ColumnarError) → MayRefuse expected e → e ≡ ReadFault → ⊥
 known-fault expected e (inl memory) fault = cc
 known-fault expected e (inr (r, at, answer)) fault = no_fault r (sym answer ∙ fault)
-
--- a segment's refusal is that of the script
-pub segments-refused : {A : Type 0} (IsOf : Table → A → Type 0) (s : Script) (files : List (List ℕ)) (e : ColumnarError) → MayRefuse (each_ok segment_table s.segments) e → MakesIfRead {B = A} IsOf (Err e) (script_table files s)
-segments-refused IsOf s files e (inl memory) = record { ok = tt; refused = inr (inl memory) }
-segments-refused IsOf s files e (inr (r, at, answer)) = record { ok = tt; refused = inr (inr (r, rw at refl, answer)) }
 
 -- what inputs tell, by what is seen of them
 told-each : {H : Type 0} (content : H → Told) (size faults reads mark : H → ℕ) (hs : List H) → for_each (λ (f : SeenFile). f.told) (handed_in (seen_by content size faults reads mark) hs) ≡ for_each content hs

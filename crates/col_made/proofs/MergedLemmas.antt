@@ -19,6 +19,7 @@ use Rattle.col_model.specs.Report.{report_of}
 use Rattle.col_model.specs.Script.{Find}
 use Rattle.col_model.specs.Table.{Table}
 use Rattle.col_record.specs.Answers.{MayRefuse}
+use Rattle.col_merge.proofs.MergedLemmas.{merged-bad_order}
 use Rattle.col_made.specs.Inputs.{rows_in}
 use Rattle.col_made.specs.Making.{MakesIfRead, MergesReaders, IsKnown, IsMade}
 use Rattle.col_made.proofs.InputLemmas.{same-error}
@@ -48,11 +49,6 @@ counts-are (r ∷ rs) parts read e = by (told_part r) refl (told_parts rs) refl 
         ap₂ (λ n ns. n ∷ ns) (sym (rows-part r.file.told r.keys p read.0.told at)) (later ps rest)
         ∙ ap row_counts (same_Some (p ∷ ps) parts h)
 
--- orders that are refused
-merged-bad : (parts : List Part) (required : List Required) (order : Order) → picks order (row_counts parts) ≡ None → merged parts required order ≡ Err bad_order
-unfolding merged
-merged-bad parts required order none = rw none refl
-
 merged-many : (parts : List Part) (required : List Required) (order : Order) (picked : List (ℕ × ℕ)) → picks order (row_counts parts) ≡ Some picked → 2 ^ 32 ≤ length picked → merged parts required order ≡ Err too_large
 unfolding merged
 merged-many parts required order picked some many = rw (some, le-leb (2 ^ 32) (length picked) many) refl
@@ -76,7 +72,7 @@ order-refused {B = B} IsOf rs required rows e read h = record {
   where
     by : (parts : List Part) → IsOrder rows (row_counts parts) (Err e) → MayRefuse (merged parts required (order_over rows (row_counts parts))) e
     by parts (inl memory) = inl memory
-    by parts (inr (inl bad)) = inr (bad_order, merged-bad parts required (order_over rows (row_counts parts)) bad.1, bad.0)
+    by parts (inr (inl bad)) = inr (bad_order, merged-bad_order parts required (order_over rows (row_counts parts)) bad.1, bad.0)
     by parts (inr (inr large)) = inr (too_large, merged-many parts required (order_over rows (row_counts parts)) large.1.picked large.1.are large.1.many, large.0)
 
     known : IsOrder rows (map rows_in rs) (Err e) → IsKnown e

@@ -1,8 +1,8 @@
 -- Inputs that are opened one by one, and readers that are taken apart one by one.
-use Rattle.std.proofs.Common.{◌≡◌, ◌≤◌, ◌<◌, ◌+◌, ℕ, suc, List, [], ◌∷◌, ◌++◌, take, reverse, length, get_or, Ok, Err, Some, refl, sym, ap, ap₂, ◌∙◌, subst, arith}
+use Rattle.std.proofs.Common.{◌≡◌, ◌<◌, ℕ, suc, List, [], ◌∷◌, ◌++◌, take, reverse, length, get_or, Ok, Err, Some, refl, sym, ap, ap₂, ◌∙◌, arith}
 use Rattle.std.specs.List.{AllZip, AllByRecursion}
 use Rattle.std.proofs.Math.Seq.{take-suc}
-use Rattle.std.proofs.lemmas.List.{map-append, reverse-append, append-nil, append_assoc, length-append, take_all}
+use Rattle.std.proofs.lemmas.List.{map-append, reverse-append, append-nil, append_assoc}
 use Rattle.col_common.specs.declared.error.ColumnarError.{ColumnarError}
 use Rattle.col_common.specs.declared.error.ColumnarError.TheVariants.{ReadFault}
 use Rattle.col_file.specs.Files.{SeenFile, ReadsFile, RefusesFile}
@@ -19,9 +19,6 @@ pub record Opening {H : Type 0} (see : H → SeenFile) (all : List H) (rs : List
   pub done : List H
   pub whole : all ≡ done ++ reverse left
   pub opened : AllZip IsOpened (handed_in see done) rs
-
-pub opening-none : {H : Type 0} (see : H → SeenFile) (rs : List SeenReader) (left : List H) → rs ≡ [] → Opening see (reverse left) rs left
-opening-none see rs left none = record { done = []; whole = refl; opened = rw none tt }
 
 -- one more was opened
 pub opening-more : {H : Type 0} (see : H → SeenFile) (all : List H) (rs more : List SeenReader) (left rest : List H) (h : H) (r : SeenReader) → Opening see all rs left → left ≡ rest ++ h ∷ [] → IsOpened (given (see h)) r → more ≡ rs ++ r ∷ [] → Opening see all more rest
@@ -86,44 +83,12 @@ pub record Handing {H : Type 0} (see : H → SeenFile) (all : List SeenReader) (
   pub unfailed : AllByRecursion IsUnfailed (files_in apart)
   pub same : held see rs left ≡ held see all old
 
-pub handing-none : {H : Type 0} (see : H → SeenFile) (all : List SeenReader) (left : List H) → Handing see all left all left
-handing-none see all left = record { apart = []; whole = sym (append-nil all); unfailed = tt; same = refl }
-
--- one more was taken apart
-pub handing-more : {H : Type 0} (see : H → SeenFile) (all : List SeenReader) (old : List H) (rs rest : List SeenReader) (left more : List H) (r : SeenReader) (f : SeenFile) → Handing see all old rs left → rs ≡ rest ++ r ∷ [] → f ≡ r.file → handed_in see (reverse more) ≡ given_in (f ∷ []) ++ handed_in see (reverse left) → IsUnfailed f → Handing see all old rest more
-handing-more see all old rs rest left more r f h popped same handed unfailed = record {
-  apart = r ∷ h.apart;
-  whole = h.whole ∙ ap (λ ss. ss ++ h.apart) popped ∙ append_assoc rest (r ∷ []) h.apart;
-  unfailed = (rw (← same) unfailed, h.unfailed);
-  same = ap (λ fs. given_in (files_in rest) ++ fs) handed
-      ∙ sym (append_assoc (given_in (files_in rest)) (given_in (f ∷ [])) (handed_in see (reverse left)))
-      ∙ ap (λ fs. fs ++ handed_in see (reverse left)) (ap (λ x. given_in (files_in rest) ++ given_in (x ∷ [])) same ∙ sym (given-pushed rest rs r popped))
-      ∙ h.same;
-}
-
--- how many files there are to be handed back
-pub handing-long : (rs rest : List SeenReader) (r : SeenReader) (f : SeenFile) → rs ≡ rest ++ r ∷ [] → f ≡ r.file → length (given_in (files_in rs)) ≡ length (given_in (files_in rest)) + length (given_in (f ∷ []))
-handing-long rs rest r f popped same =
-    ap length (given-pushed rest rs r popped)
-    ∙ length-append (given_in (files_in rest)) (given_in (r.file ∷ []))
-    ∙ ap (λ x. length (given_in (files_in rest)) + length (given_in (x ∷ []))) (sym same)
-
--- all were
-pub handing-all : {H : Type 0} (see : H → SeenFile) (all : List SeenReader) (old : List H) (rs : List SeenReader) (left news : List H) → Handing see all old rs left → rs ≡ [] → news ≡ reverse left → handed_in see news ≡ held see all old
-handing-all see all old rs left news h none turned = ap (handed_in see) turned ∙ sym (ap (λ ss. given_in (files_in ss) ++ handed_in see (reverse left)) none) ∙ h.same
-
-pub handing-unfailed : {H : Type 0} (see : H → SeenFile) (all : List SeenReader) (old : List H) (rs : List SeenReader) (left : List H) → Handing see all old rs left → rs ≡ [] → AllByRecursion IsUnfailed (files_in all)
-handing-unfailed see all old rs left h none = rw (h.whole, none) h.unfailed
-
 -- ---- files that were made, opened behind others
 
 -- those up to a place were
 pub record HaveOpened (files : List (List ℕ)) (olds : List SeenReader) (place : ℕ) (rs : List SeenReader) : Type 0 where
   pub opens : OpensFiles (take place files) olds rs
   pub given : given_in (files_in rs) ≡ given_in (files_in olds)
-
-pub have_opened-none : (files : List (List ℕ)) (olds : List SeenReader) → HaveOpened files olds 0 olds
-have_opened-none files olds = record { opens = record { made = []; behind = sym (append-nil olds); told = tt }; given = refl }
 
 -- one more
 pub have_opened-more : (files : List (List ℕ)) (olds : List SeenReader) (i j : ℕ) (rs more : List SeenReader) (d : List ℕ) (r : SeenReader) → HaveOpened files olds i rs → i < length files → j ≡ suc i → r.file.told ≡ Some (get_or files i d) → r.file.mark ≡ 0 → more ≡ rs ++ r ∷ [] → HaveOpened files olds j more
@@ -135,7 +100,3 @@ have_opened-more files olds i j rs more d r h within step told mark grown = reco
   };
   given = given-pushed rs more r grown ∙ ap (λ fs. given_in (files_in rs) ++ fs) (made-one r.file mark) ∙ append-nil (given_in (files_in rs)) ∙ h.given;
 }
-
--- all of them
-pub have_opened-all : (files : List (List ℕ)) (olds : List SeenReader) (i : ℕ) (rs : List SeenReader) → HaveOpened files olds i rs → length files ≤ i → OpensFiles files olds rs
-have_opened-all files olds i rs h whole = subst (λ fs. OpensFiles fs olds rs) (take_all i files whole) h.opens

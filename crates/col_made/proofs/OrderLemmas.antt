@@ -7,19 +7,15 @@ use Rattle.std.proofs.lemmas.Option.{same_Some}
 use Rattle.col_common.specs.declared.error.ColumnarError.{ColumnarError}
 use Rattle.col_common.specs.declared.error.ColumnarError.TheVariants.{OutOfMemory, BadOrder, TooLarge}
 use Rattle.col_model.specs.Order.{has_row, picks, stack, shuffle, all_rows}
+use Rattle.col_model.proofs.StackLaws.{picks-stack}
 use Rattle.col_order.specs.Orders.{shuffle_refusal}
 use Rattle.col_order.proofs.PickLemmas.{length-all_rows, picks-shuffle}
 use Rattle.col_made.specs.Ordered.{IsOrder}
 
--- a stack picks all rows
-stack-picks : (counts : List ℕ) → picks (stack counts) counts ≡ Some (all_rows counts)
-unfolding picks
-stack-picks counts = rw (nat_list_eq_equiv.refl counts) refl
-
 -- why there is no stack
 pub stack-refused : (counts : List ℕ) (e : ColumnarError) → (e ≡ TooLarge) ⊎ (e ≡ OutOfMemory) → (e ≡ TooLarge → 2 ^ 32 ≤ sum counts) → IsOrder None counts (Err e)
 stack-refused counts e (inl large) why =
-    inr (inr (large, record { picked = all_rows counts; are = stack-picks counts; many = rw (length-all_rows counts) (why large) }))
+    inr (inr (large, record { picked = all_rows counts; are = picks-stack counts; many = rw (length-all_rows counts) (why large) }))
 stack-refused counts e (inr memory) why = inl memory
 
 -- a shuffle that names a row that is missing

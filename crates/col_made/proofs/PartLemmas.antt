@@ -6,6 +6,7 @@ use Rattle.col_common.specs.Causes.{Rose}
 use Rattle.col_common.specs.Outside.{Told}
 use Rattle.col_file.specs.Files.{SeenFile, seen_by, ReadsFile}
 use Rattle.col_file.specs.Readers.{SeenReader}
+use Rattle.col_merge.proofs.ReadingLemmas.{rose-later}
 use Rattle.col_made.specs.HandedBack.{HandedBack, SomeRose}
 use Rattle.col_made.specs.Parts.{given, handed_in, is_given, is_above_zero, given_in, files_in, Keeps, AllKeep, SomeFileRose}
 
@@ -45,9 +46,6 @@ all_keep-long (f ∷ fs) [] a = absurd a
 all_keep-long (f ∷ fs) (g ∷ gs) a = ap suc (all_keep-long fs gs a.1)
 
 -- ---- counts that rose
-
-rose-later : (a b c : ℕ) → a ≤ b → Rose b c → Rose a c
-rose-later a b c h k = omega (arith, h, k)
 
 -- a count that rose later rose
 pub some_rose-later : (fs gs hs : List SeenFile) → AllKeep fs gs → SomeFileRose gs hs → SomeFileRose fs hs

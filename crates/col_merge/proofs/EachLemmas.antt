@@ -1,15 +1,7 @@
 -- Steps over a list, item by item.
-use Rattle.std.proofs.Common.{◌≡◌, List, [], ◌∷◌, ◌++◌, Result, Ok, Err, refl, ap}
+use Rattle.std.proofs.Common.{◌≡◌, List, [], ◌∷◌, ◌++◌, Result, Ok, Err, refl}
 use Rattle.col_model.specs.Refusal.{Refusal, ◌>>=◌, each_ok}
-use Rattle.col_model.proofs.RefusalLaws.{bind-ok, same_Ok}
-
--- one more item
-pub each-more : {A B : Type 0} (f : A → Result B Refusal) (xs : List A) (x : A) (ys : List B) (y : B) → each_ok f xs ≡ Ok ys → f x ≡ Ok y → each_ok f (xs ++ x ∷ []) ≡ Ok (ys ++ y ∷ [])
-each-more f [] x ys y e h = rw h (ap (λ ys. Ok (ys ++ y ∷ [])) (same_Ok [] ys e))
-each-more f (z ∷ xs) x ys y e h =
-    let step = bind-ok (f z) (λ w. each_ok f xs >>= λ ws. Ok (w ∷ ws)) ys e in
-    let rest = bind-ok (each_ok f xs) (λ ws. Ok (step.0 ∷ ws)) ys step.2 in
-    rw (step.1, each-more f xs x rest.0 y rest.1 h) (ap (λ ys. Ok (ys ++ y ∷ [])) (same_Ok (step.0 ∷ rest.0) ys rest.2))
+use Rattle.col_model.proofs.RefusalLaws.{bind-ok}
 
 -- the first refusal is that of the whole
 pub each-stops : {A B : Type 0} (f : A → Result B Refusal) (xs : List A) (x : A) (zs : List A) (ys : List B) (e : Refusal) → each_ok f xs ≡ Ok ys → f x ≡ Err e → each_ok f (xs ++ x ∷ zs) ≡ Err e

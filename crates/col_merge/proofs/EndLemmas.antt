@@ -4,13 +4,12 @@ use Rattle.std.specs.List.{AllByRecursion}
 use Rattle.std.specs.FinMap.Entries.{is_sorted, below_all}
 use Rattle.std.specs.Ordering.{is_lt}
 use Rattle.col_common.specs.Outside.{SeenSink, Appends}
-use Rattle.col_common.specs.Reading.{◌>>=◌}
 use Rattle.col_common.specs.Serializing.{Serializes}
 use Rattle.col_common.specs.declared.error.ColumnarError.{ColumnarError}
 use Rattle.col_common.specs.declared.error.ColumnarError.TheVariants.{OutOfMemory, WriteFault}
 use Rattle.col_model.specs.Category.{Slot, slot_cmp}
-use Rattle.col_model.specs.File.{Part, PartColumn, parts_of, table_of, table_of_part, for_each, whole_column, part_of_column, StandsFor}
-use Rattle.col_model.specs.Keys.{Key, is_name, FileKeys}
+use Rattle.col_model.specs.File.{Part, part_of_column}
+use Rattle.col_model.specs.Keys.{Key, is_name}
 use Rattle.col_model.specs.Merge.{Required, joined_column, all_slots, required_refusal, row_counts, merged}
 use Rattle.col_model.specs.Order.{Order, picks}
 use Rattle.col_model.specs.Refusal.{Refusal, each_ok}
@@ -22,6 +21,7 @@ use Rattle.col_model.proofs.OrderedColumns.{entries, EachIs, each-is, sorted-eac
 use Rattle.col_model.proofs.SlotLaws.{column_slot}
 use Rattle.col_keys.specs.Put.{AreKeys, HasColumns, part_put}
 use Rattle.col_order.specs.Orders.{picks_of}
+use Rattle.col_keys.proofs.StandLemmas.{same-keys, stands-for}
 use Rattle.col_file.specs.Readers.{SeenReader, IsRead}
 use Rattle.col_merge.specs.Merges.{AddsSlots, AddsTable}
 use Rattle.col_merge.specs.Parts.{told_parts}
@@ -35,40 +35,7 @@ use Rattle.col_merge.proofs.ReadingLemmas.{all_read-none}
 use Rattle.col_merge.proofs.SlotReadLemmas.{slots-rise}
 use Rattle.col_merge.proofs.TurnLemmas.{goes-itself, merge-refused}
 
--- ---- the table
-
-whole-columns : (cs : List Column) → for_each whole_column (map part_of_column cs) ≡ Some cs
-whole-columns [] = refl
-whole-columns (c ∷ cs) = ap (λ o. o >>= λ ys. Some (c ∷ ys)) (whole-columns cs)
-
-table-of : (file : List ℕ) (n : ℕ) (columns : List PartColumn) (cs : List Column) → parts_of file ≡ Some (record { row_count = n; columns = columns }) → columns ≡ map part_of_column cs → table_of file ≡ Some (record { row_count = n; columns = cs })
-table-of file n columns cs e same =
-    let part : List PartColumn → Part = λ columns. record { row_count = n; columns = columns } in
-    let table : List Column → Table = λ cs. record { row_count = n; columns = cs } in
-    ap (λ o. o >>= table_of_part) e
-    ∙ ap (λ columns. table_of_part (part columns)) same
-    ∙ ap (λ o. o >>= λ cs. Some (table cs)) (whole-columns cs)
-
-pub stands-for : (file : List ℕ) (n : ℕ) (ps : List (Key × List ℕ)) (cs : List Column) → HasColumns file n ps → map (part_put n) ps ≡ map part_of_column cs → StandsFor (record { row_count = n; columns = cs }) file
-stands-for file n ps cs h same = record {
-  content = table-of file n (map (part_put n) ps) cs h.columns same;
-  version = ap (λ (o : Option FileKeys). o >>= λ k. Some k.version) h.entries;
-}
-
 -- ---- the keys
-
-keys-put : (n : ℕ) (ps : List (Key × List ℕ)) (cs : List Column) → map (part_put n) ps ≡ map part_of_column cs → map (λ p. p.0) ps ≡ map key_of_column cs
-keys-put n ps cs same =
-    let key : PartColumn → Key = λ c. record { name = c.name; column_type = c.column_type } in
-    sym (of-put ps) ∙ ap (map key) same ∙ of-columns cs
-  where
-    of-put : (ps : List (Key × List ℕ)) → map (λ (c : PartColumn). record { name = c.name; column_type = c.column_type }) (map (part_put n) ps) ≡ map (λ p. p.0) ps
-    of-put [] = refl
-    of-put (p ∷ ps) = ap (λ ks. p.0 ∷ ks) (of-put ps)
-
-    of-columns : (cs : List Column) → map (λ (c : PartColumn). record { name = c.name; column_type = c.column_type }) (map part_of_column cs) ≡ map key_of_column cs
-    of-columns [] = refl
-    of-columns (c ∷ cs) = ap (λ ks. key_of_column c ∷ ks) (of-columns cs)
 
 below-bare : (s : Slot) (cs : List Column) → below_all slot_cmp s (entries (map bare (map key_of_column cs))) ≡ below_all slot_cmp s (entries cs)
 below-bare s [] = refl
@@ -97,7 +64,7 @@ module _ (f : Slot → Result (Option Column) Refusal) (own : (s : Slot) (c : Co
       let each = each-is f ss os e in
       let keyed = made-named ss os names each in
       let order = sorted-each f (λ s. s) own ss os (subst (λ ss. T (rises slot_cmp ss)) (sym (map-itself ss)) sorted) each in
-      subst AreKeys (sym (keys-put n ps cs same)) record {
+      subst AreKeys (sym (same-keys n ps cs same)) record {
         names = keyed;
         ascend = keys-of_slots (map key_of_column cs) keyed (subst T (sym (sorted-bare cs)) order);
       }

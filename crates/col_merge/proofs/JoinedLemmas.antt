@@ -17,15 +17,8 @@ use Rattle.col_model.proofs.RefusalLaws.{bind-ok, refuse_if-ok, same_Ok}
 use Rattle.col_model.proofs.SharedTypes.{low, high, is_i64, IsIn, some≢none, same-some, shared-type}
 use Rattle.col_model.proofs.JoinedTypes.{category-type_by}
 use Rattle.col_model.proofs.GistResults.{type-of}
-use Rattle.col_model.proofs.MergedSound.{chosen-is}
+use Rattle.col_model.proofs.MergedSound.{chosen-is, whole-slot}
 use Rattle.col_model.proofs.OrderedColumns.{same-slots}
-
-whole-slot : (c : PartColumn) (d : Column) → whole_column c ≡ Some d → column_slot d ≡ part_slot c
-whole-slot c d e = by c.content e
-  where
-    by : (o : Option Content) → whole_column (record c { content = o }) ≡ Some d → column_slot d ≡ part_slot c
-    by None e = absurd (some≢none d (sym e))
-    by (Some x) e = ap column_slot (sym (same-some (record { name = c.name; column_type = c.column_type; content = x }) d e))
 
 -- a column that is found is of the slot
 found-slot : (slot : Slot) (cs : List PartColumn) (d : Column) → option_and_then whole_column (find (λ c. same_slot (part_slot c) slot) cs) ≡ Some d → column_slot d ≡ slot

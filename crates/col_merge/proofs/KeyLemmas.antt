@@ -5,29 +5,17 @@ use Rattle.std.specs.FinMap.Entries.{is_sorted}
 use Rattle.std.proofs.lemmas.Bool.{and_from}
 use Rattle.col_model.specs.Ascending.{is_ascending}
 use Rattle.col_model.specs.Category.{slot_cmp}
-use Rattle.col_model.specs.ColumnType.{ColumnType, is_numerical}
+use Rattle.col_model.specs.ColumnType.{is_numerical}
 use Rattle.col_model.specs.ColumnType as types
 use Rattle.col_model.specs.Keys.{Key, key_bytes, is_name, are_keys}
-use Rattle.col_model.specs.Limits.{is_too_large}
-use Rattle.col_model.specs.Sorted.{distinct_items}
 use Rattle.col_model.specs.Sound.{key_of_column, IsSoundColumn}
 use Rattle.col_model.specs.Table.{full, Column}
 use Rattle.col_model.proofs.OrderedColumns.{entries}
-use Rattle.col_model.proofs.SoundTables.{sound-table}
+use Rattle.col_model.proofs.SoundTables.{sound-table, empty-small}
 
 -- a column without rows
 abbrev pub bare : Key → Column
 bare k = record { name = k.name; column_type = k.column_type; content = record { cardinality = full; terms = []; rows = [] } }
-
-small : (t : ColumnType) → is_too_large t (record { cardinality = full; terms = []; rows = [] }) ≡ false
-unfolding is_too_large distinct_items
-small types.i64 = refl
-small types.u64 = refl
-small types.bytes = refl
-small types.str = refl
-small types.bool = refl
-small types.ip = refl
-small types.datetime = refl
 
 bare-sound : (k : Key) → is_name k.name ≡ true → IsSoundColumn 0 (bare k)
 bare-sound k e = record {
@@ -38,7 +26,7 @@ bare-sound k e = record {
   ascending = refl;
   among = refl;
   without = λ _. refl;
-  limits = small k.column_type;
+  limits = empty-small k.column_type;
 }
 
 all-sound : (ks : List Key) → AllByRecursion (λ k. is_name k.name ≡ true) ks → AllByRecursion (IsSoundColumn 0) (map bare ks)

@@ -4,10 +4,10 @@ mod JoinedLemmas
 mod EachLemmas
 mod NameLemmas
 pub mod PartLemmas
-mod ReadingLemmas
+pub mod ReadingLemmas
 mod SlotReadLemmas
 mod TurnLemmas
-mod MergedLemmas
+pub mod MergedLemmas
 mod EndLemmas
 mod OpenLemmas
 mod OpenTurnLemmas

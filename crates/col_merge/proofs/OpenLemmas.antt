@@ -18,6 +18,7 @@ use Rattle.col_model.specs.Merge.{part_slot, column_in}
 use Rattle.col_model.specs.Table.{Content}
 use Rattle.col_model.proofs.OrderedColumns.{same-slots}
 use Rattle.col_model.proofs.SharedTypes.{some≢none, same-some}
+use Rattle.col_model.proofs.FileLaws.{parts_of-keys}
 use Rattle.col_dynamic.specs.declared.dynamic_column.DynamicColumn.{DynamicColumn}
 use Rattle.col_file.specs.Columns.{content_at, IsColumn, IsTyped}
 use Rattle.col_file.specs.Files.{IsExpected, RefusesFile}
@@ -74,10 +75,6 @@ any-found test (y ∷ xs) x e = by (test y) e (any-found test xs x)
 
 -- ---- the part's column
 
-part-is : (bytes : List ℕ) (k : FileKeys) → keys bytes ≡ Some k → parts_of bytes ≡ Some (record { row_count = k.row_count; columns = map (part_column bytes k) k.entries })
-unfolding parts_of
-part-is bytes k e = rw e refl
-
 columns-found : (bytes : List ℕ) (k : FileKeys) (s : Slot) (es : List Entry) → find (λ c. same_slot (part_slot c) s) (map (part_column bytes k) es) ≡ option_map (part_column bytes k) (find (λ e. same_slot (entry_slot e) s) es)
 columns-found bytes k s [] = refl
 columns-found bytes k s (e ∷ es) = by (same_slot (entry_slot e) s) (columns-found bytes k s es)
@@ -93,7 +90,7 @@ module _ (s : Slot) (r : SeenReader) (read : IsRead r) where
     where
       by : (o : Option (List ℕ)) → r.file.told ≡ o → IfSome o (λ bytes. keys bytes ≡ Some r.keys) → IfSome (o >>= parts_of) P
       by None t k = tt
-      by (Some bytes) t k = subst (λ o. IfSome o P) (sym (part-is bytes r.keys k)) (f bytes t)
+      by (Some bytes) t k = subst (λ o. IfSome o P) (sym (parts_of-keys bytes r.keys k)) (f bytes t)
 
   -- it has no column there
   pub opened-none : find (λ e. same_slot (entry_slot e) s) r.keys.entries ≡ None → IsOpenedAs s r None

@@ -10,13 +10,15 @@ use Rattle.col_model.specs.File.{Part, part_of_column}
 use Rattle.col_model.specs.Keys.{Key, FileKeys}
 use Rattle.col_model.specs.Refusal.{Refusal, each_ok}
 use Rattle.col_model.specs.Table.{Column}
+use Rattle.col_model.proofs.RefusalLaws.{each-push}
 use Rattle.col_keys.specs.Put.{Columns, no_columns, HavePut, part_put}
 use Rattle.col_keys.proofs.PutLemmas.{have-none, have-more}
 use Rattle.col_file.specs.Readers.{SeenReader}
+use Rattle.col_slots.proofs.ListLemmas.{taken}
 use Rattle.col_merge.specs.Parts.{told_parts}
 use Rattle.col_merge.specs.Readings.{AllRead}
 use Rattle.col_merge.specs.Turns.{RefusesParts, RefusesMerge, GoesOn, PutsOne, IsPutAs, MergedOne, ArePutAs, MergedSoFar}
-use Rattle.col_merge.proofs.EachLemmas.{each-more, each-stops}
+use Rattle.col_merge.proofs.EachLemmas.{each-stops}
 use Rattle.col_merge.proofs.ReadingLemmas.{rose-before, parts-stay, rose-later}
 
 -- ---- what is told
@@ -90,8 +92,8 @@ one-have start a b old new ps (Some p) have put = have-more start a b old new ps
 -- the columns of the slots so far, and of one more
 module _ (n : ℕ) (f : Slot → Result (Option Column) Refusal) (slots : List Slot) (slot : Slot) (ps : List (Key × List ℕ)) where
   one-put : (one : Option (Key × List ℕ)) (cs : List (Option Column)) → each_ok f slots ≡ Ok cs → map (part_put n) ps ≡ map part_of_column (filter_map (λ c. c) cs) → IsPutAs n one (f slot) → ArePutAs n (with_one ps one) (each_ok f (slots ++ slot ∷ []))
-  one-put None cs e same is = rw (each-more f slots slot cs None e is) (same ∙ ap (map part_of_column) (sym (filter_map-append (λ c. c) cs (None ∷ []) ∙ append-nil (filter_map (λ c. c) cs))))
-  one-put (Some p) cs e same is = rw (each-more f slots slot cs (Some is.0) e is.1)
+  one-put None cs e same is = rw (each-push f slots slot cs None e is) (same ∙ ap (map part_of_column) (sym (filter_map-append (λ c. c) cs (None ∷ []) ∙ append-nil (filter_map (λ c. c) cs))))
+  one-put (Some p) cs e same is = rw (each-push f slots slot cs (Some is.0) e is.1)
       (map-append (part_put n) ps (p ∷ []) ∙ ap₂ (λ xs x. xs ++ x ∷ []) same is.2 ∙ sym (map-append part_of_column (filter_map (λ c. c) cs) (is.0 ∷ [])) ∙ ap (map part_of_column) (sym (filter_map-append (λ c. c) cs (Some is.0 ∷ []))))
 
   put-more : (one : Option (Key × List ℕ)) (r : Result (List (Option Column)) Refusal) → each_ok f slots ≡ r → ArePutAs n ps r → IsPutAs n one (f slot) → ArePutAs n (with_one ps one) (each_ok f (slots ++ slot ∷ []))
@@ -122,11 +124,6 @@ module _ (times : FileKeys → ℕ) (olds mids : List SeenReader) (start a b : S
   slots-refused news left e h = merge-refused times olds mids news start a b stay (record { grown = was.put.written.grown; later = was.put.written.later }) (λ parts. expected parts slot) (λ parts. each_ok (expected parts) (slots ++ slot ∷ left)) (λ refusal. told-then (told_parts olds) was.told (λ parts p q. put-stops n (expected parts) slots slot was.ps left refusal (each_ok (expected parts) slots) refl p q)) e h
 
 -- ---- a turn of the loop
-
-taken : {A : Type 0} (xs : List A) (i j : ℕ) (x : A) → j ≡ suc i → i < length xs → x ≡ get_or xs i x → take j xs ≡ take i xs ++ x ∷ []
-taken [] i j x n h e = absurd (omega arith)
-taken (y ∷ xs) zero j x n h e = rw n (ap (λ z. z ∷ []) (sym e))
-taken (y ∷ xs) (suc i) j x n h e = rw n (ap (λ ys. y ∷ ys) (taken xs i (suc i) x refl (omega (arith, h)) e))
 
 parted : {A : Type 0} (xs : List A) (i : ℕ) (x : A) → i < length xs → x ≡ get_or xs i x → take i xs ++ x ∷ drop (suc i) xs ≡ xs
 parted [] i x h e = absurd (omega arith)

@@ -106,7 +106,7 @@ keys_of-keyed_lengths [] = refl
 keys_of-keyed_lengths (p ∷ ps) = ap (λ r. p.0 ∷ r) (keys_of-keyed_lengths ps)
 
 -- the part of a file whose keys are known
-parts_of-keys : (bytes : List ℕ) (k : FileKeys) → keys bytes ≡ Some k → parts_of bytes ≡ Some (record { row_count = k.row_count; columns = map (part_column bytes k) k.entries })
+pub parts_of-keys : (bytes : List ℕ) (k : FileKeys) → keys bytes ≡ Some k → parts_of bytes ≡ Some (record { row_count = k.row_count; columns = map (part_column bytes k) k.entries })
 unfolding parts_of
 parts_of-keys bytes k e = rw e refl
 

@@ -2,7 +2,7 @@
 use Rattle.std.proofs.Common.{◌≡◌, ℕ, zero, suc, ◌+◌, ◌-◌, ◌*◌, ◌/◌, ◌%◌, ◌^◌, ◌<◌, ◌≤◌, Bool, true, false, List, [], ◌∷◌, ◌++◌, map, length, take, drop, slice_index, Some, None, refl, ap, sym, ◌∙◌, arith}
 use Rattle.std.specs.List.{enumerate_from, range_with_len}
 use Rattle.std.proofs.lemmas.List.{take-append-drop, length-take-le}
-use Rattle.std.proofs.lemmas.List.FromFn.{fill_by_all, length-map-range_with_len, get_or-map-range_with_len, map-range_with_len_more}
+use Rattle.std.proofs.lemmas.List.FromFn.{fill_by_all, length-map-range_with_len, get_or-map-range_with_len}
 use Rattle.std.proofs.lemmas.Nat.{pow-add, pow_pos, row_fits}
 use native.Mathlib.Nat.{add-mul-mod_self_right, add-mul-div_right}
 use Rattle.col_common.specs.Reading.{only_if, ◌>>=◌}
@@ -88,7 +88,3 @@ length-linear_items l bytes n = length-map-range_with_len (linear_item l bytes) 
 
 pub linear_items-at : (l : LinearParams) (bytes : List ℕ) (n i : ℕ) → i < n → slice_index (linear_items l bytes n) i ≡ linear_item l bytes i
 linear_items-at l bytes n i h = get_or-map-range_with_len (linear_item l bytes) 0 n i i 0 h (omega arith)
-
--- one item more
-pub linear_items-push : (l : LinearParams) (bytes : List ℕ) (n : ℕ) → linear_items l bytes (n + 1) ≡ linear_items l bytes n ++ linear_item l bytes n ∷ []
-linear_items-push l bytes n = map-range_with_len_more (linear_item l bytes) 0 n n (omega arith)

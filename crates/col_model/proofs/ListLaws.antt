@@ -1,8 +1,13 @@
 -- Lists: what all items keep, and where items stand.
-use Rattle.std.proofs.Common.{◌≡◌, ℕ, zero, suc, nat_lt, false, lt-ltb, List, [], ◌∷◌, ◌++◌, map, filter_map, length, take, drop, slice_get, Some, refl, sym, ◌∙◌, ap, arith}
-use Rattle.std.specs.List.{AllByRecursion}
+use Rattle.std.proofs.Common.{◌≡◌, ℕ, zero, suc, nat_lt, false, lt-ltb, List, [], ◌∷◌, ◌++◌, map, filter_map, length, take, drop, slice_get, Some, refl, sym, ◌∙◌, ap, arith, ◌+◌, sum}
+use Rattle.std.specs.List.{AllByRecursion, range_with_len}
 use Rattle.std.proofs.lemmas.Bool.{true≢false}
+use Rattle.std.proofs.lemmas.List.Sums.{sum_by-cons}
+use Rattle.std.proofs.lemmas.List.{map-id}
+use Rattle.std.proofs.lemmas.List.FromFn.{map-range_with_len_more}
 use Rattle.col_model.specs.Ascending.{differences}
+use Rattle.col_model.specs.Limits.{cell_count}
+use Rattle.col_model.specs.Table.{Cell}
 
 -- a fact of each item and of one more
 pub all_push : {A : Type 0} (P : A → Type 0) (xs : List A) (x : A) → AllByRecursion P xs → P x → AllByRecursion P (xs ++ x ∷ [])
@@ -43,3 +48,20 @@ length-differences x (y ∷ zs) = ap suc (length-differences y zs)
 pub filter_map-some : {A : Type 0} (xs : List A) → filter_map (λ x. x) (map Some xs) ≡ xs
 filter_map-some [] = refl
 filter_map-some (x ∷ xs) = ap (λ r. x ∷ r) (filter_map-some xs)
+
+-- a sum with one more number
+pub sum-cons : (k : ℕ) (ks : List ℕ) → sum (k ∷ ks) ≡ k + sum ks
+sum-cons k ks = sum_by-cons (λ k. k) k ks
+
+-- a fact of each item of two lists
+pub all-two : {A : Type 0} (P : A → Type 0) (xs ys : List A) → AllByRecursion P xs → AllByRecursion P ys → AllByRecursion P (xs ++ ys)
+all-two P [] ys a b = b
+all-two P (x ∷ xs) ys a b = (a.0, all-two P xs ys a.1 b)
+
+-- the cells of one more row
+pub cell_count-cons : (row : List Cell) (rows : List (List Cell)) → cell_count (row ∷ rows) ≡ length row + cell_count rows
+cell_count-cons row rows = sum_by-cons length row rows
+
+-- a range with one number more
+pub range-more : (a n : ℕ) → range_with_len a (n + 1) ≡ range_with_len a n ++ (a + n) ∷ []
+range-more a n = sym (map-id _) ∙ map-range_with_len_more (λ k. k) a n (a + n) refl ∙ ap (λ l. l ++ (a + n) ∷ []) (map-id _)

@@ -1,13 +1,10 @@
 -- Columns of numbers in place of columns of any type.
-use Rattle.std.proofs.Common.{◌≡◌, ℕ, ◌<◌, ◌==◌, ◌&&◌, nat_lt, get_or, option_map, Result, Err, Bool, true, false, List, [], ◌∷◌, length, map, sum, take, drop, Option, Some, None, Ok, refl, sym, ap, ap₂, ◌∙◌, subst, arith}
+use Rattle.std.proofs.Common.{◌≡◌, ℕ, ◌<◌, ◌==◌, ◌&&◌, nat_lt, get_or, option_map, Result, Err, Bool, true, false, List, [], length, map, sum, Option, Some, None, Ok, refl, sym, ap, ◌∙◌, subst}
 use Rattle.std.specs.Int.{w32, w64}
 use Rattle.std.specs.List.{All, list_all}
 use Rattle.std.proofs.lemmas.Bool.{eqb-true, false≢true, ltb-true}
-use Rattle.std.proofs.lemmas.Bool.Decides.{nat_tests}
-use Rattle.std.proofs.lemmas.List.{length-drop, length-map, take-append-drop, take-map, drop-map}
-use Rattle.std.proofs.lemmas.Simd.{map-map}
-use Rattle.std.proofs.lemmas.List.Folds.{list_all-append, sum_by-replicate}
-use Rattle.std.proofs.lemmas.List.Sums.{sum_by-cons, AllPass-from_list_all}
+use Rattle.std.proofs.lemmas.List.{length-map}
+use Rattle.std.proofs.lemmas.List.Sums.{AllPass-from_list_all}
 use Rattle.std.proofs.lemmas.Option.{same_Some}
 use Rattle.col_common.specs.Decoding.{Refuses, Decodes}
 use Rattle.col_common.specs.Reading.{◌>>=◌, only_if, parts_by_first}
@@ -24,14 +21,17 @@ use Rattle.col_model.specs.ColumnType.{ColumnType, has_terms, same_type}
 use Rattle.col_model.specs.ColumnType as types
 use Rattle.col_model.specs.Dictionary.{cut, terms}
 use Rattle.col_model.specs.Images.{is_image_of_bool}
-use Rattle.col_model.specs.Index.{Counts, Shape, empty_shape, full_shape, optional_shape, multivalued_shape, counts}
+use Rattle.col_model.specs.Index.{Counts, Shape, counts}
 use Rattle.col_model.specs.Table.{Content}
 use Rattle.col_model.specs.U64List.{values64}
 use Rattle.col_numbers.specs.NumValues.{num_values_of}
 use Rattle.col_numbers.specs.declared.num_values.NumValues.{NumValues}
 use Rattle.col_text.specs.Texts.{texts_content}
-use Rattle.col_values.specs.Codes.{number_cmp}
-use Rattle.col_values.specs.Values.{IsAtMost}
+use Rattle.col_column.proofs.SerializeRowLemmas.{sum-counts_by}
+use Rattle.col_column.proofs.CellLemmas.{cut-map}
+use Rattle.col_column.proofs.OpenSeenLemmas.{all-pass}
+use Rattle.col_text.proofs.OpenTextLemmas.{all-cut, all-rows, texts-as-bytes}
+use Rattle.col_dynamic.proofs.CoercionLemmas.{maps}
 use Rattle.col_open.specs.Contents.{DecodesTo}
 use Rattle.col_open.specs.Lenient.{IsInPlaceOf, seen_as}
 use Rattle.col_open.specs.LenientValues.{lenient_cell}
@@ -101,30 +101,6 @@ module _ (t : ColumnType) (plain : IsPlain t) (bytes : List ℕ) (version rows :
 
 -- ---- flags
 
-all-pass : (xs : List ℕ) → list_all (λ n. true) xs ≡ true
-all-pass [] = refl
-all-pass (x ∷ xs) = all-pass xs
-
-all-cut : (p : ℕ → Bool) (cs xs : List ℕ) → sum cs ≡ length xs → list_all (list_all p) (cut cs xs) ≡ list_all p xs
-unfolding cut
-all-cut p [] [] e = refl
-all-cut p [] (x ∷ xs) e = absurd (omega arith)
-all-cut p (c ∷ cs) xs e =
-    let rest : sum cs ≡ length (drop c xs) = omega (arith, sum_by-cons (λ k. k) c cs, length-drop c xs) in
-    ap (λ b. list_all p (take c xs) && b) (all-cut p cs (drop c xs) rest)
-    ∙ sym (list_all-append p (take c xs) (drop c xs)) ∙ ap (list_all p) (take-append-drop c xs)
-
-sum-counted : (s : Shape) (n : ℕ) → IsCounted s n → sum (counts_by s n) ≡ n
-sum-counted (empty_shape m) n none = sum_by-replicate (λ k. k) m 0 ∙ omega arith
-sum-counted full_shape n any = sum_by-replicate (λ k. k) n 1 ∙ omega arith
-sum-counted (optional_shape cs) n all = all
-sum-counted (multivalued_shape cs) n all = all
-
--- where a shape counts just the numbers, all pass where those of all rows do
-all-rows : (p : ℕ → Bool) (s : Shape) (xs : List ℕ) → IsCounted s (length xs) → list_all (list_all p) (rows_by s xs) ≡ list_all p xs
-unfolding rows_by
-all-rows p s xs counted = all-cut p (counts_by s (length xs)) xs (sum-counted s (length xs) counted)
-
 -- rows, where each number is that of a flag
 abbrev flags : Counts × List (List ℕ) → Option (Counts × List (List ℕ))
 flags p = only_if (list_all (list_all is_image_of_bool) p.1) p
@@ -179,16 +155,7 @@ module _ (bytes : List ℕ) (version rows : ℕ) where
       mapped true s xs = refl
       mapped false s xs = refl
 
--- numbers are below what the greatest one is below
-pub below_greatest : (greatest n k : ℕ) → IsAtMost number_cmp n greatest → nat_lt greatest k ≡ true → nat_lt n k ≡ true
-below_greatest greatest n k h t = grind (arith, nat_tests)
-
 -- ---- ordinals
-
--- texts are stored as byte strings are
-texts-as-bytes : (bytes : List ℕ) (version rows : ℕ) → column bytes types.str version rows ≡ column bytes types.bytes version rows
-unfolding column term_column number_rows
-texts-as-bytes bytes version rows = refl
 
 pub texts-opened : (bytes : List ℕ) (version rows : ℕ) (r : Result (Seen LenientValues) ColumnarError) → DecodesTo (IsInPlaceOf types.bytes) r (column bytes types.bytes version rows) → DecodesTo (IsInPlaceOf types.str) r (column bytes types.str version rows)
 texts-opened bytes version rows r = at (column bytes types.str version rows) (column bytes types.bytes version rows) r (texts-as-bytes bytes version rows)
@@ -253,15 +220,6 @@ module _ (bytes : List ℕ) (version rows : ℕ) where
             r h
 
 -- ---- codes
-
-cut-map : {A B : Type 0} (f : A → B) (cs : List ℕ) (xs : List A) → cut cs (map f xs) ≡ map (map f) (cut cs xs)
-unfolding cut
-cut-map f [] xs = refl
-cut-map f (c ∷ cs) xs = ap₂ (λ a b. a ∷ b) (take-map f c xs) (ap (cut cs) (drop-map f c xs) ∙ cut-map f cs (drop c xs))
-
-maps : {A B C : Type 0} (g : B → C) (f : A → B) (rows : List (List A)) → map (map g) (map (map f) rows) ≡ map (map (λ x. g (f x))) rows
-maps g f [] = refl
-maps g f (row ∷ rows) = ap₂ (λ a b. a ∷ b) (map-map g f row) (maps g f rows)
 
 -- numbers behind codes have the cells of their codes
 in_codes : (s : Shape) (d : Coded) → content_seen [] (number_cell types.ip) s (numbers_of d) ≡ content_seen [] (lenient_cell types.ip [] (Compact d)) s d.codes

@@ -7,7 +7,9 @@ use Rattle.std.proofs.lemmas.List.Sums.{sum_by-cons}
 use Rattle.std.proofs.lemmas.List.FromFn.{length-map-range_with_len}
 use Rattle.col_model.specs.Ascending.{is_never_falling, is_rising}
 use Rattle.col_model.specs.Table.{Cardinality, full, optional, multivalued}
+use Rattle.col_index.proofs.RankLaws.{tail_rises}
 use Rattle.col_rows.proofs.DocumentLemmas.{last_or-found}
+use Rattle.col_rows.proofs.ShapeLemmas.{all_above, none_counted}
 use Rattle.col_record.specs.Cardinalities.{doc_counts, rows_up_to, cardinality_by}
 
 -- ---- the last document
@@ -138,33 +140,9 @@ small_ones (c ∷ cs) e =
 
 -- ---- documents that rise are counted at most once
 
-lower : (x y : ℕ) (ys : List ℕ) → x ≤ y → list_all (λ z. nat_lt y z) ys ≡ true → list_all (λ z. nat_lt x z) ys ≡ true
-lower x y [] h e = refl
-lower x y (z ∷ zs) h e =
-    let parts = and_parts (nat_lt y z) (list_all (λ w. nat_lt y w) zs) e in
-    and_from (nat_lt x z) _ (grind arith) (lower x y zs h parts.1)
-
-all_above : (x : ℕ) (xs : List ℕ) → is_rising (x ∷ xs) ≡ true → list_all (λ y. nat_lt x y) xs ≡ true
-all_above x [] e = refl
-all_above x (y ∷ ys) e =
-    let parts = and_parts (nat_lt x y) (is_rising (y ∷ ys)) e in
-    let less : x ≤ y = grind arith in
-    and_from (nat_lt x y) _ parts.0 (lower x y ys less (all_above y ys parts.1))
-
-rises_later : (x : ℕ) (xs : List ℕ) → is_rising (x ∷ xs) ≡ true → is_rising xs ≡ true
-rises_later x [] e = refl
-rises_later x (y ∷ ys) e = (and_parts (nat_lt x y) (is_rising (y ∷ ys)) e).1
-
-none_counted : (x row : ℕ) (xs : List ℕ) → row ≤ x → list_all (λ y. nat_lt x y) xs ≡ true → count_by (λ y. y == row) xs ≡ 0
-none_counted x row [] h e = refl
-none_counted x row (y ∷ ys) h e =
-    let parts = and_parts (nat_lt x y) (list_all (λ z. nat_lt x z) ys) e in
-    let apart : (y == row) ≡ false = grind arith in
-    sum_by-cons (λ z. cond (z == row) 1 0) y ys ∙ (λ i. cond (apart i) 1 0 + none_counted x row ys h parts.1 i)
-
 once : (docs : List ℕ) (row : ℕ) → is_rising docs ≡ true → count_by (λ x. x == row) docs ≤ 1
 once [] row e = omega arith
-once (x ∷ xs) row e = by (x == row) refl (once xs row (rises_later x xs e))
+once (x ∷ xs) row e = by (x == row) refl (once xs row (tail_rises x xs e))
   where
     whole : count_by (λ y. y == row) (x ∷ xs) ≡ cond (x == row) 1 0 + count_by (λ y. y == row) xs
     whole = sum_by-cons (λ z. cond (z == row) 1 0) x xs

@@ -1,7 +1,8 @@
 -- Entries of columns of one type, and records into them.
-use Rattle.std.proofs.Common.{◌≡◌, ◌⊎◌, ℕ, suc, List, [], ◌∷◌, ◌++◌, map, length, Bool, true, false, Option, Some, None, Result, Ok, Err, unwrap_or, refl, sym, ◌∙◌, ap, subst}
+use Rattle.std.proofs.Common.{◌≡◌, ◌⊎◌, ℕ, List, [], ◌∷◌, ◌++◌, length, Bool, true, false, None, Result, Ok, Err, unwrap_or, refl, sym, ◌∙◌, ap, subst}
 use Rattle.std.specs.Prelude.{nat_lt, option_map}
 use Rattle.std.specs.List.{last_or}
+use Rattle.std.proofs.lemmas.List.{length-map}
 use Rattle.col_common.specs.declared.error.ColumnarError.{ColumnarError}
 use Rattle.col_model.specs.ColumnType.{ColumnType}
 use Rattle.col_model.specs.ColumnType as types
@@ -17,17 +18,9 @@ use Rattle.col_record.specs.Texts.{Texts}
 use Rattle.col_record.specs.Columns.{records_of, forced_type_of, text_entry, plain_entry}
 use Rattle.col_record.specs.declared.plain_column_writer.PlainColumnWriter.{PlainColumnWriter}
 use Rattle.col_record.proofs.TypeListLemmas.{map-push}
-use Rattle.col_record.proofs.NumericalLemmas.{last_or-map, with_record, entry-posted, refused-entry, posted-value}
+use Rattle.col_record.proofs.NumericalLemmas.{last_or-map, with_record, entry-posted, refused-entry, posted-value, seen_last}
 
 -- ---- columns of one type
-
-length-map : {A B : Type 0} (f : A → B) (xs : List A) → length (map f xs) ≡ length xs
-length-map f [] = refl
-length-map f (x ∷ xs) = ap suc (length-map f xs)
-
-seen_last : {A B C : Type 0} (f : A → B) (g : A → C) (u : B → Bool) (v : C → Bool) → ((x : A) → u (f x) ≡ v (g x)) → (o : Option A) → unwrap_or (option_map u (option_map f o)) false ≡ unwrap_or (option_map v (option_map g o)) false
-seen_last f g u v same None = refl
-seen_last f g u v same (Some x) = same x
 
 late : {X : Type 0} (t : ColumnType) (cell : X → Cell) (ps : List (ℕ × X)) (d : ℕ) → is_late (records_of t cell ps) d ≡ is_late_doc (docs_of ps) d
 unfolding records_of is_late_doc
@@ -37,9 +30,9 @@ late {X} t cell ps d =
     ∙ seen_last f (λ p. p.0) (λ r. nat_lt d r.doc) (λ l. nat_lt d l) (λ z. refl) (last_or None ps)
     ∙ ap (λ o. unwrap_or (option_map (λ l. nat_lt d l) o) false) (sym (last_or-map (λ (p : ℕ × X). p.0) None ps))
 
-many : {X : Type 0} (t : ColumnType) (cell : X → Cell) (ps : List (ℕ × X)) → length (records_of t cell ps) ≡ length ps
+pub records-long : {X : Type 0} (t : ColumnType) (cell : X → Cell) (ps : List (ℕ × X)) → length (records_of t cell ps) ≡ length ps
 unfolding records_of
-many t cell ps = length-map _ ps
+records-long t cell ps = length-map ps _
 
 more : {X : Type 0} (t : ColumnType) (cell : X → Cell) (ps : List (ℕ × X)) (d : ℕ) (x : X) → records_of t cell (ps ++ (d, x) ∷ []) ≡ records_of t cell ps ++ record { doc = d; recorded_type = t; cell = cell x } ∷ []
 unfolding records_of
@@ -70,7 +63,7 @@ entry-answers t cell forced sorts ps qs d x r h = by r h
     e = entry_by t cell forced sorts ps
 
     posted : recorded_entry (entry_by t cell forced sorts ps) d t (cell x) ≡ (posted_after ps d x >>= λ _. Ok (with_record (entry_by t cell forced sorts ps) d t (cell x)))
-    posted = entry-posted (entry_by t cell forced sorts ps) d t (cell x) ps x (own_type t forced) (late t cell ps d) (many t cell ps)
+    posted = entry-posted (entry_by t cell forced sorts ps) d t (cell x) ps x (own_type t forced) (late t cell ps d) (records-long t cell ps)
 
     by : (r : Result (Unit {0}) ColumnarError) → Answers ps qs r (posted_after ps d x) → Answers (entry_by t cell forced sorts ps) (entry_by t cell forced sorts qs) r (recorded_entry (entry_by t cell forced sorts ps) d t (cell x))
     by (Ok u) h =

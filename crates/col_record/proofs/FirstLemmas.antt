@@ -6,6 +6,7 @@ use Rattle.std.proofs.lemmas.Bool.{and_parts, and_from}
 use Rattle.std.proofs.lemmas.List.{length-replicate, get_or-replicate}
 use Rattle.std.proofs.lemmas.List.FromFn.{length-map-range_with_len, get_or-map-range_with_len}
 use Rattle.std.proofs.lemmas.List.Folds.{list_all-append}
+use Rattle.std.proofs.lemmas.Grind.{same_number_lists}
 use Rattle.col_model.specs.Ascending.{is_never_falling}
 use Rattle.col_rows.proofs.DocumentLemmas.{last_or-found}
 use Rattle.col_record.specs.Sorting.{first_key, with_first}
@@ -55,15 +56,6 @@ set-other (y ∷ ys) zero (suc j) x d e = refl
 set-other (y ∷ ys) (suc k) zero x d e = refl
 set-other (y ∷ ys) (suc k) (suc j) x d e = set-other ys k j x d (grind arith)
 
-same_items : (xs ys : List ℕ) → length xs ≡ length ys → ((k : ℕ) → k < length xs → get_or xs k 0 ≡ get_or ys k 0) → xs ≡ ys
-same_items [] [] e h = refl
-same_items [] (y ∷ ys) e h = absurd (omega arith)
-same_items (x ∷ xs) [] e h = absurd (omega arith)
-same_items (x ∷ xs) (y ∷ ys) e h =
-    let first : x ≡ y = h 0 (omega arith) in
-    let rest : length xs ≡ length ys = omega arith in
-    λ i. first i ∷ same_items xs ys rest (λ k l. h (suc k) (omega arith)) i
-
 firsts_of : ℕ → List (ℕ × ℕ) → List ℕ
 firsts_of n ps = map (first_key ps) (range_with_len 0 n)
 
@@ -100,7 +92,7 @@ pub firsts-more : (n : ℕ) (ps : List (ℕ × ℕ)) (d k : ℕ) (ns ms : List �
 unfolding firsts_of
 firsts-more n ps d k ns ms above h is put =
     put ∙ ap (λ r. with_first r d k) is
-    ∙ same_items (with_first (firsts_of n ps) d k) (firsts_of n (ps ++ (d, k) ∷ []))
+    ∙ same_number_lists (with_first (firsts_of n ps) d k) (firsts_of n (ps ++ (d, k) ∷ []))
     (length-with (firsts_of n ps) d k ∙ length-firsts n ps ∙ sym (length-firsts n (ps ++ (d, k) ∷ [])))
     (λ j l.
     let low : j < n = omega (arith, l, length-with (firsts_of n ps) d k, length-firsts n ps) in

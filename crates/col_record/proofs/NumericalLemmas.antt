@@ -4,6 +4,7 @@ use Rattle.std.specs.Prelude.{ℤ, pos, ◌&&◌, nat_lt, nat_le, int_le, int_lt
 use Rattle.std.specs.List.{list_all, last_or, zip, cons_option}
 use Rattle.std.proofs.lemmas.List.Elements.{filter_map-append}
 use Rattle.std.proofs.lemmas.List.Folds.{list_all-append}
+use Rattle.std.proofs.lemmas.List.{length-map}
 use Rattle.col_common.specs.declared.error.ColumnarError.{ColumnarError}
 use Rattle.col_common.specs.declared.error.ColumnarError.TheVariants as answers
 use Rattle.col_model.specs.ColumnType.{ColumnType, same_type}
@@ -44,12 +45,8 @@ length-zip [] (w ∷ vs) e = absurd (omega arith)
 length-zip (l ∷ ks) [] e = absurd (omega arith)
 length-zip (l ∷ ks) (w ∷ vs) e = let same : length ks ≡ length vs = omega arith in ap suc (length-zip ks vs same)
 
-length-map : {A B : Type 0} (f : A → B) (xs : List A) → length (map f xs) ≡ length xs
-length-map f [] = refl
-length-map f (x ∷ xs) = ap suc (length-map f xs)
-
 -- what is seen of the last item is the same through two functions
-seen_last : {A B C : Type 0} (f : A → B) (g : A → C) (u : B → Bool) (v : C → Bool) → ((x : A) → u (f x) ≡ v (g x)) → (o : Option A) → unwrap_or (option_map u (option_map f o)) false ≡ unwrap_or (option_map v (option_map g o)) false
+pub seen_last : {A B C : Type 0} (f : A → B) (g : A → C) (u : B → Bool) (v : C → Bool) → ((x : A) → u (f x) ≡ v (g x)) → (o : Option A) → unwrap_or (option_map u (option_map f o)) false ≡ unwrap_or (option_map v (option_map g o)) false
 seen_last f g u v same None = refl
 seen_last f g u v same (Some x) = same x
 
@@ -71,7 +68,7 @@ records-none = refl
 
 pub records-length : (ts : List ColumnType) (ps : List (ℕ × ℕ)) → length ts ≡ length ps → length (numerical_records ts ps) ≡ length ps
 unfolding numerical_records
-records-length ts ps e = length-map numerical_record (zip ts ps) ∙ length-zip ts ps e
+records-length ts ps e = length-map (zip ts ps) numerical_record ∙ length-zip ts ps e
 
 pub records-late : (ts : List ColumnType) (ps : List (ℕ × ℕ)) (d : ℕ) → length ts ≡ length ps → is_late (numerical_records ts ps) d ≡ is_late_doc (docs_of ps) d
 unfolding numerical_records is_late_doc

@@ -5,22 +5,15 @@ use Rattle.std.specs.List.{list_all, list_any, IsDistinct}
 use Rattle.std.specs.Ordering.{nat_cmp, eq_by_cmp}
 use Rattle.std.specs.Cmp.Lexicographic.{slice_cmp}
 use Rattle.std.specs.FinMap.{nat_cmp-IsAntisymmetric, slice_cmp-IsAntisymmetric}
-use Rattle.std.proofs.lemmas.Bool.{and_parts, or_parts}
+use Rattle.std.proofs.lemmas.Bool.{and_parts, or_parts, or_left, or_right}
 use Rattle.std.proofs.lemmas.Cmp.{nat_list_cmp_total}
 use Rattle.std.proofs.lemmas.List.Sorted.{sum_by-IsPermutation}
 use Rattle.col_model.specs.Sorted.{distinct_items}
 use Rattle.col_model.proofs.DistinctLaws.{same_distinct}
+use Rattle.col_model.proofs.TestLaws.{both-ways}
 use Rattle.col_terms.specs.Building.{ordered}
 use Rattle.col_terms.proofs.OrderedLemmas.{permutation-ordered}
 use Rattle.col_record.specs.Texts.{term_of, texts_by_id, ids_of, AreIds}
-
-either : (a b : Bool) → a ≡ true → (a || b) ≡ true
-either true b e = refl
-either false b e = cc
-
-or_else : (a b : Bool) → b ≡ true → (a || b) ≡ true
-or_else true b e = refl
-or_else false b e = e
 
 -- a term that passes stands somewhere
 term-found : (p : List ℕ → Bool) (terms : List (List ℕ)) → list_any p terms ≡ true → (k : ℕ) × (k < length terms) × (p (term_of terms k) ≡ true)
@@ -33,8 +26,8 @@ term-found p (t ∷ terms) e = by (p t) refl e (term-found p terms)
 
 term-among : (p : List ℕ → Bool) (terms : List (List ℕ)) (k : ℕ) → k < length terms → p (term_of terms k) ≡ true → list_any p terms ≡ true
 term-among p [] k h e = absurd (omega arith)
-term-among p (t ∷ terms) zero h e = either (p t) (list_any p terms) e
-term-among p (t ∷ terms) (suc k) h e = or_else (p t) (list_any p terms) (term-among p terms k (omega arith) e)
+term-among p (t ∷ terms) zero h e = or_left (p t) (list_any p terms) e
+term-among p (t ∷ terms) (suc k) h e = or_right (p t) (list_any p terms) (term-among p terms k (omega arith) e)
 
 -- texts of ids are terms
 texts-are-terms : (p : List ℕ → Bool) (terms : List (List ℕ)) (ids : List ℕ) → list_all (λ id. nat_lt id (length terms)) ids ≡ true → list_any p (map (term_of terms) ids) ≡ true → list_any p terms ≡ true
@@ -53,13 +46,8 @@ id-found p terms k [] f e = cc
 id-found p terms k (id ∷ ids) f e = by (nat_eq k id) refl e (id-found p terms k ids f)
   where
     by : (b : Bool) → nat_eq k id ≡ b → (b || list_any (nat_eq k) ids) ≡ true → (list_any (nat_eq k) ids ≡ true → list_any p (map (term_of terms) ids) ≡ true) → (p (term_of terms id) || list_any p (map (term_of terms) ids)) ≡ true
-    by true g e later = let same : k ≡ id = grind arith in either _ _ (ap (λ x. p (term_of terms x)) (sym same) ∙ f)
-    by false g e later = or_else _ _ (later e)
-
-both_true : (a b : Bool) → (a ≡ true → b ≡ true) → (b ≡ true → a ≡ true) → a ≡ b
-both_true true b f g = sym (f refl)
-both_true false true f g = g refl
-both_true false false f g = refl
+    by true g e later = let same : k ≡ id = grind arith in or_left _ _ (ap (λ x. p (term_of terms x)) (sym same) ∙ f)
+    by false g e later = or_right _ _ (later e)
 
 texts-of-ids : (terms : List (List ℕ)) (ps : List (ℕ × ℕ)) → map (λ p. p.1) (texts_by_id terms ps) ≡ map (term_of terms) (ids_of ps)
 unfolding texts_by_id
@@ -70,7 +58,7 @@ texts-of-ids terms (p ∷ ps) = ap (λ r. term_of terms p.1 ∷ r) (texts-of-ids
 pub same-terms : (terms : List (List ℕ)) (ps : List (ℕ × ℕ)) → AreIds terms ps → ordered terms ≡ distinct_items (slice_cmp nat_cmp) (map (λ p. p.1) (texts_by_id terms ps))
 same-terms terms ps h =
     same_distinct (slice_cmp nat_cmp) nat_list_cmp_total (slice_cmp-IsAntisymmetric nat_cmp-IsAntisymmetric) terms (map (term_of terms) (ids_of ps))
-    (λ q. both_true _ _
+    (λ q. both-ways _ _
     (λ e. let k = term-found (eq_by_cmp (slice_cmp nat_cmp) q) terms e in id-found (eq_by_cmp (slice_cmp nat_cmp) q) terms k.0 (ids_of ps) k.2 (h.used k.0 k.1))
     (texts-are-terms (eq_by_cmp (slice_cmp nat_cmp) q) terms (ids_of ps) h.known))
     ∙ ap (distinct_items (slice_cmp nat_cmp)) (sym (texts-of-ids terms ps))

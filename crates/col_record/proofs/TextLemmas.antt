@@ -1,5 +1,5 @@
 -- Texts of a column, by the ids of their terms.
-use Rattle.std.proofs.Common.{◌≡◌, ◌<◌, ◌≤◌, ◌⊎◌, ℕ, zero, suc, ◌+◌, ◌-◌, ◌^◌, List, [], ◌∷◌, ◌++◌, length, map, Bool, true, false, cond, Option, Some, None, Result, Ok, Err, unwrap_or, refl, sym, ◌∙◌, ap, subst, arith, inl, inr, length-append, lt-ltb, le-leb, ⊎_elim}
+use Rattle.std.proofs.Common.{◌≡◌, ◌<◌, ◌≤◌, ◌⊎◌, ℕ, suc, ◌+◌, ◌-◌, ◌^◌, List, [], ◌∷◌, ◌++◌, length, Bool, true, false, cond, Option, Result, Ok, Err, unwrap_or, refl, sym, ◌∙◌, ap, subst, arith, inl, inr, length-append, lt-ltb, le-leb, ⊎_elim}
 use Rattle.std.specs.Prelude.{nat_lt, nat_le, nat_eq, ◌&&◌, ◌||◌, not, slice_get, bytes_eq, OnOk, ⊤}
 use Rattle.std.specs.List.{list_all, list_any, IsDistinct}
 use Rattle.std.proofs.lemmas.Map.Keys.{IsDistinct-push}
@@ -7,6 +7,8 @@ use Rattle.std.proofs.lemmas.Cmp.{nat_list_eq_equiv}
 use Rattle.std.proofs.lemmas.Bool.{and_parts, and_from}
 use Rattle.std.proofs.lemmas.List.Folds.{list_all-append, list_any-append}
 use Rattle.std.proofs.lemmas.Map.Steps.{le-length_from_below}
+use Rattle.std.proofs.lemmas.Option.{slice_get_within}
+use Rattle.std.proofs.lemmas.List.{length-map}
 use Rattle.col_common.specs.declared.error.ColumnarError.{ColumnarError}
 use Rattle.col_common.specs.declared.error.ColumnarError.TheVariants as answers
 use Rattle.col_model.specs.Refusal.{Refusal, ◌>>=◌, refuse_if, doc_order, too_large}
@@ -17,10 +19,6 @@ use Rattle.col_record.specs.Answers.{Answers, Refuses}
 use Rattle.col_record.specs.Texts.{term_of, texts_by_id, ids_of, AreIds}
 use Rattle.col_record.proofs.TypeListLemmas.{map-push}
 
-length-map : {A B : Type 0} (f : A → B) (xs : List A) → length (map f xs) ≡ length xs
-length-map f [] = refl
-length-map f (x ∷ xs) = ap suc (length-map f xs)
-
 pub same_docs : (terms : List (List ℕ)) (ps : List (ℕ × ℕ)) → docs_of (texts_by_id terms ps) ≡ docs_of ps
 unfolding texts_by_id
 same_docs terms [] = refl
@@ -28,7 +26,7 @@ same_docs terms (p ∷ ps) = ap (λ r. p.0 ∷ r) (same_docs terms ps)
 
 pub same_length : (terms : List (List ℕ)) (ps : List (ℕ × ℕ)) → length (texts_by_id terms ps) ≡ length ps
 unfolding texts_by_id
-same_length terms ps = length-map _ ps
+same_length terms ps = length-map ps _
 
 -- what is refused of ids is refused of their texts, and what isn't, isn't
 pub texts-posted : (terms : List (List ℕ)) (ps : List (ℕ × ℕ)) (d id : ℕ) (t : List ℕ) → posted_after (texts_by_id terms ps) d t ≡ (posted_after ps d id >>= λ _. Ok (texts_by_id terms ps ++ (d, t) ∷ []))
@@ -55,7 +53,7 @@ posted-few ps qs d x e = by (is_late_doc (docs_of ps) d) (nat_le (2 ^ 32 - 1) (l
 
 -- there are no more terms than values
 pub few_terms : (terms : List (List ℕ)) (ps : List (ℕ × ℕ)) → AreIds terms ps → length terms ≤ length ps
-few_terms terms ps h = let many = le-length_from_below (ids_of ps) (length terms) h.used in omega (arith, many, length-map (λ (p : ℕ × ℕ). p.1) ps)
+few_terms terms ps h = let many = le-length_from_below (ids_of ps) (length terms) h.used in omega (arith, many, length-map ps (λ (p : ℕ × ℕ). p.1))
 
 -- so there is always an id for one more
 pub not_past : (terms : List (List ℕ)) (t : List ℕ) → length terms < 2 ^ 32 - 1 → is_past_ids terms t ≡ false
@@ -64,14 +62,6 @@ not_past terms t few = let b : nat_le (2 ^ 32 - 1) (length terms) ≡ false = gr
     none : (a : Bool) → (a && false) ≡ false
     none true = refl
     none false = refl
-
-in_range : {A : Type 0} (xs : List A) (k : ℕ) (x : A) → slice_get xs k ≡ Some x → k < length xs
-in_range [] k x e = absurd (not_some e)
-  where
-    not_some : {B : Type 0} {y : B} → None ≡ Some y → ⊥
-    not_some e = cc
-in_range (y ∷ ys) zero x e = omega arith
-in_range (y ∷ ys) (suc k) x e = let r = in_range ys k x e in omega arith
 
 -- terms keep their ids
 kept_terms : (old new : List (List ℕ)) (ps : List (ℕ × ℕ)) → ((k : ℕ) → k < length old → slice_get new k ≡ slice_get old k) → list_all (λ id. nat_lt id (length old)) (ids_of ps) ≡ true → texts_by_id new ps ≡ texts_by_id old ps
@@ -128,7 +118,7 @@ ids-with old new ps d id t h a =
     let many : length new ≡ length (with_term old t) = ap length a.terms in
     let more : length old ≤ length new = omega (arith, many, g.0) in
     let all_ids : ids_of (ps ++ (d, id) ∷ []) ≡ ids_of ps ++ id ∷ [] = map-push (λ (p : ℕ × ℕ). p.1) ps (d, id) in
-    let below : id < length new = in_range new id t a.held in
+    let below : id < length new = slice_get_within new id t a.held in
     let last : nat_lt id (length new) ≡ true = grind arith in
     record {
       differ = subst (IsDistinct bytes_eq) (sym a.terms) (still-differ old t h.differ);

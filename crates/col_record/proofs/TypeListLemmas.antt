@@ -2,7 +2,7 @@
 use Rattle.std.proofs.Common.{◌≡◌, ◌<◌, ◌≤◌, ◌⊎◌, ℕ, zero, suc, ◌+◌, ◌-◌, ◌^◌, List, [], ◌∷◌, ◌++◌, length, take, map, Bool, true, false, Option, Some, None, refl, sym, ◌∙◌, ap, arith, append_assoc, length-append, inl, inr, ⊎_elim}
 use Rattle.std.specs.Prelude.{is_some, not, MatchOption, option_to_list, replicate, slice_get, get_or}
 use Rattle.std.proofs.lemmas.Option.{slice_get_read}
-use Rattle.std.proofs.lemmas.List.{replicate_more, length-replicate}
+use Rattle.std.proofs.lemmas.List.{replicate_more, length-replicate, length-map}
 use Rattle.std.specs.List.{list_all}
 use Rattle.std.proofs.lemmas.Bool.{and_from}
 use Rattle.col_model.specs.ColumnType.{ColumnType, is_numerical}
@@ -91,15 +91,11 @@ pub first-place : (n : ℕ) (first : NumericalType) (others : List NumericalType
 unfolding same_then
 first-place n first others ts k is h = ap (λ r. slice_get r k) (sym is) ∙ first-types n (numerical_kind_of first) (map numerical_kind_of others) k h
 
-length-map : {A B : Type 0} (f : A → B) (xs : List A) → length (map f xs) ≡ length xs
-length-map f [] = refl
-length-map f (x ∷ xs) = ap suc (length-map f xs)
-
 pub length-same_then : (n : ℕ) (first : NumericalType) (others : List NumericalType) → length (same_then n first others) ≡ n + length others
 unfolding same_then
 length-same_then n first others =
     length-append (replicate n (numerical_kind_of first)) (map numerical_kind_of others)
-    ∙ (λ i. length-replicate n (numerical_kind_of first) i + length-map numerical_kind_of others i)
+    ∙ (λ i. length-replicate n (numerical_kind_of first) i + length-map others numerical_kind_of i)
 
 pub others-within : (n : ℕ) (first : NumericalType) (others : List NumericalType) (ts : List ColumnType) (k : ℕ) → same_then n first others ≡ ts → n ≤ k → k < length ts → k - n < length others
 others-within n first others ts k is up h = omega (arith, ap length is, length-same_then n first others)

@@ -92,7 +92,8 @@ impl CompatibleNumericalTypes {
         Ok(())
     }
 
-    /// The type of the column: the forced one, else i64 before u64; none where neither holds all numbers.
+    /// The type of the column: the forced one, else i64 before u64; none where neither holds all
+    /// numbers.
     pub fn to_numerical_type(&self) -> Option<NumericalType>
         ensures { option_map numerical_kind_of result ≡ accepted_type self.now }
     {

@@ -102,7 +102,8 @@ fn numbered(
     reversed: bool,
 ) -> Result<Vec<(u128, DocId)>, AllocError>
     requires { length firsts.now < 2 ^ 32 }
-    ensures pairs { IfOk result (λ v. v.items ≡ map (λ d. (turned reversed (get_or firsts.now d 0), d))
+    ensures pairs { IfOk result (λ v. v.items
+        ≡ map (λ d. (turned reversed (get_or firsts.now d 0), d))
         (range_with_len 0 (length firsts.now))) }
     ensures fit { (k : ℕ) → get_or firsts.now k 0 < 2 ^ 128 }
 {

@@ -1,22 +1,16 @@
 -- The lines of columns.
 use Rattle.std.proofs.Common.{◌≡◌, ◌∙◌, ℕ, zero, suc, ◌+◌, ◌≤◌, min, Bool, true, false, List, [], ◌∷◌, map, length, sum, take, drop, replicate, refl, sym, ap, arith, length-take, length-drop}
 use Rattle.std.specs.List.{enumerate_from}
-use Rattle.std.proofs.lemmas.List.Sums.{sum_by-cons}
 use Rattle.serde_json.specs.Data.{Data}
 use Rattle.col_model.specs.Dictionary.{cut}
 use Rattle.col_model.specs.Index.{Shape, empty_shape, full_shape, optional_shape, multivalued_shape}
 use Rattle.col_model.specs.Limits.{cell_count}
 use Rattle.col_model.specs.Report.{column_line, column_lines, row_lines}
 use Rattle.col_model.specs.Table.{Cell, Column}
+use Rattle.col_model.proofs.ListLaws.{sum-cons, cell_count-cons}
 use Rattle.col_column.specs.Columns.{IsCounted, rows_by}
 use Rattle.col_report.specs.Printed.{Prints, filled_lines}
 use Rattle.col_report.proofs.RowLemmas.{Prints-then}
-
-sum-cons : (k : ℕ) (ks : List ℕ) → sum (k ∷ ks) ≡ k + sum ks
-sum-cons k ks = sum_by-cons (λ k. k) k ks
-
-count-cons : (row : List Cell) (rows : List (List Cell)) → cell_count (row ∷ rows) ≡ length row + cell_count rows
-count-cons row rows = sum_by-cons length row rows
 
 length-cells : {T : Type 0} (cell : T → Cell) (xs : List T) → length (map cell xs) ≡ length xs
 length-cells cell [] = refl
@@ -31,7 +25,7 @@ cut-counted cell (k ∷ ks) xs e =
     let fits : k ≤ length xs = omega arith in
     let front : length (take k xs) ≡ k = length-take k xs ∙ (let f : min k (length xs) ≡ k = omega arith in f) in
     let rest = cut-counted cell ks (drop k xs) (let d = length-drop k xs in omega arith) in
-    omega (arith, count-cons (map cell (take k xs)) (map (map cell) (cut ks (drop k xs))), length-cells cell (take k xs), front, rest, length-drop k xs, s, e)
+    omega (arith, cell_count-cons (map cell (take k xs)) (map (map cell) (cut ks (drop k xs))), length-cells cell (take k xs), front, rest, length-drop k xs, s, e)
 
 sum-zeros : (m : ℕ) → sum (replicate m 0) ≡ 0
 sum-zeros zero = refl

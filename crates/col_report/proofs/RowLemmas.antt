@@ -1,5 +1,5 @@
 -- The lines of rows, printed one after another.
-use Rattle.std.proofs.Common.{◌≡◌, ◌∙◌, ℕ, zero, suc, ◌+◌, ◌<◌, ◌≤◌, nat_lt, Bool, true, false, cond, List, [], ◌∷◌, ◌++◌, map, filter, length, take, get_or, slice_get, slice_range, decimal, drop, ◌-◌, ◌^◌, Some, codes, refl, sym, ap, subst, arith, append-nil, append_assoc, length-take, length-drop, add-zero, zero-add}
+use Rattle.std.proofs.Common.{◌≡◌, ◌∙◌, ℕ, zero, suc, ◌+◌, ◌<◌, ◌≤◌, nat_lt, Bool, true, false, cond, List, [], ◌∷◌, ◌++◌, map, filter, length, take, get_or, slice_get, slice_range, decimal, drop, ◌-◌, Some, codes, refl, sym, ap, subst, arith, append-nil, append_assoc, length-take, length-drop, add-zero, zero-add}
 use Rattle.std.specs.List.{enumerate_from}
 use Rattle.std.proofs.lemmas.Bool.{lt-ltb}
 use Rattle.std.proofs.lemmas.Grind.{flat_map-append}
@@ -12,9 +12,9 @@ use Rattle.serde_json.specs.View.{items_of}
 use Rattle.col_model.specs.ColumnType.{ColumnType}
 use Rattle.col_model.specs.Report.{lines_text, row_line, count_data, list_data, cell_data}
 use Rattle.col_model.specs.Table.{Cell}
-use Rattle.col_model.specs.Index.{Shape, full_shape}
+use Rattle.col_model.specs.Index.{Shape}
 use Rattle.col_model.specs.Positions.{positions_in}
-use Rattle.col_column.specs.Columns.{Seen, AreOf, IsCounted, row_at, row_count, rows_in, docs_in}
+use Rattle.col_column.specs.Columns.{Seen, AreOf, IsCounted, row_at, rows_in, docs_in}
 use Rattle.col_column.proofs.FirstLemmas.{range_step}
 use Rattle.col_column.proofs.RowLemmas.{row_values}
 use Rattle.col_report.specs.Printed.{Spells, Prints, more_text, filled_lines}
@@ -118,11 +118,6 @@ module _ {T : Type 0} (t : ColumnType) (cell : T → Cell) (xs : List T) where
       subst (λ r. Prints a a (filled_lines t ((n, map cell r) ∷ []))) (sym is) (subst (Prints a a) (sym (filled-none t n)) (Prints-none a))
 
 -- ---- where a row's values stand
-
-pub full-below : (i s : Shape) (n row : ℕ) → i ≡ s → row < row_count s n → n < 2 ^ 32 → i ≡ full_shape → row < 2 ^ 32 - 1
-full-below i s n row same below few full =
-    let inside : row < row_count full_shape n = subst (λ s. row < row_count s n) (sym same ∙ full) below in
-    omega (arith, inside, few)
 
 pub row-positions : {V T : Type 0} (list : V → List T) (c : Seen V) (i : Shape) (row start upto : ℕ) → i ≡ c.shape → IsCounted c.shape (length (list c.values)) → row < docs_in list c → start ≡ (positions_in i row).0 → upto ≡ (positions_in i row).1 → AreOf (list c.values) (start, upto) (row_at (rows_in list c) row)
 row-positions list c i row start upto same counted inside first last =

@@ -56,8 +56,9 @@ fn push_report<F: FileHandle>(
     short: bool,
     out: &mut Vec<u8>,
 ) -> Result<(), AllocError>
-    ensures { (bytes : List ℕ) → AreRead bytes reader.now.keys columns.now → OnOk result (out.new.items
-        ≡ out.old.items ++ report_of (table_opened reader.now.keys.row_count columns.now)
+    ensures { (bytes : List ℕ) → AreRead bytes reader.now.keys columns.now →
+        OnOk result (out.new.items ≡ out.old.items
+        ++ report_of (table_opened reader.now.keys.row_count columns.now)
         (map wanted.find_of finds.now) short) }
 {
     let value = rows_value(alloc, reader.num_docs())?;

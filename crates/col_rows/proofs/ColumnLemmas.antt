@@ -3,26 +3,27 @@ use Rattle.std.proofs.Common.{◌≡◌, ℕ, ◌^◌, List, [], ◌∷◌, leng
 use Rattle.std.specs.Prelude.{nat_le, ◌==◌, IfOk}
 use Rattle.std.specs.List.{list_all, zip, range_with_len}
 use Rattle.std.proofs.lemmas.Bool.{and_parts, and_from}
-use Rattle.std.proofs.lemmas.List.{map-id}
-use Rattle.std.proofs.lemmas.List.Folds.{list_all-map, list_all-append}
+use Rattle.std.proofs.lemmas.List.{map-id, length-map}
+use Rattle.std.proofs.lemmas.List.Folds.{list_all-append}
 use Rattle.col_common.specs.Outside.{SeenSink}
 use Rattle.col_common.specs.Reading.{◌>>=◌}
 use Rattle.col_common.specs.declared.error.ColumnarError.{ColumnarError}
+use Rattle.col_common.proofs.OnOkLemmas.{on_ok-map}
 use Rattle.col_model.specs.AddressList.{least_codes}
 use Rattle.col_model.specs.Ascending.{are_below, is_never_falling}
 use Rattle.col_model.specs.Column.{number_rows, number_cell, is_stored, term_column, content_of, column}
 use Rattle.col_model.specs.ColumnType.{ColumnType, has_terms}
 use Rattle.col_model.specs.Dictionary.{cut}
 use Rattle.col_model.specs.Limits.{tightest}
-use Rattle.col_model.specs.Table.{Cell, Content}
+use Rattle.col_model.specs.Table.{Content}
 use Rattle.col_model.specs.Table as tables
 use Rattle.col_model.specs.U64List.{joined_lists}
 use Rattle.col_indexer.specs.Counted.{tightest_of}
+use Rattle.col_indexer.proofs.TightestLemmas.{tightest-counts}
 use Rattle.col_column.specs.Written.{Stores64}
 use Rattle.col_rows.specs.Counted.{row_counts, SerializesCounted, SerializesColumn}
 use Rattle.col_rows.specs.Rows.{values_at, picked_rows, ord_rows, cell_rows, number_cells, number_content}
-use Rattle.col_rows.proofs.IndexLemmas.{on_ok-map}
-use Rattle.col_rows.proofs.RowLemmas.{length-map, cut-joined, joined-zip, lengths-zip}
+use Rattle.col_rows.proofs.RowLemmas.{cut-joined, joined-zip, lengths-zip}
 
 -- ---- rows of values that are mapped
 
@@ -61,17 +62,13 @@ all-picked p (d ∷ ds) docs xs e =
 
 pub length-picked : {X : Type 0} (ds : List ℕ) (ps : List (ℕ × X)) → length (picked_rows ds ps) ≡ length ds
 unfolding picked_rows
-length-picked ds ps = length-map (values_at ps) ds
+length-picked ds ps = length-map ds (values_at ps)
 
 -- ---- the tightest cardinality
 
-pub tightest-counts : (rows : List (List Cell)) → tightest rows ≡ tightest_of (map length rows)
-tightest-counts rows =
-    λ i. cond (sym (list_all-map (λ c. c == 1) length rows) i) tables.full (cond (sym (list_all-map (λ c. nat_le c 1) length rows) i) tables.optional tables.multivalued)
-
 pub lengths-map : {X Y : Type 0} (f : X → Y) (xss : List (List X)) → map length (map (map f) xss) ≡ map length xss
 lengths-map f [] = refl
-lengths-map f (xs ∷ xss) = λ i. length-map f xs i ∷ lengths-map f xss i
+lengths-map f (xs ∷ xss) = λ i. length-map xs f i ∷ lengths-map f xss i
 
 -- ---- columns of numbers
 
@@ -92,7 +89,7 @@ number-content t ds docs xs =
 numbers-read : (bytes : List ℕ) (t : ColumnType) (n : ℕ) (ds docs xs cs zs : List ℕ) → has_terms t ≡ false → n ≡ length ds → cs ≡ map length (picked_rows ds (zip docs xs)) → zs ≡ joined_lists (picked_rows ds (zip docs xs)) → number_rows bytes t 2 (length cs) ≡ Some (record { cardinality = tightest_of cs; of_rows = cs }, cut cs zs) → column bytes t 2 n ≡ Some (number_content t ds docs xs)
 numbers-read bytes t n ds docs xs cs zs none count counts values read =
     let rows = picked_rows ds (zip docs xs) in
-    let long : n ≡ length cs = count ∙ sym (length-picked ds (zip docs xs)) ∙ sym (length-map length rows) ∙ ap length (sym counts) in
+    let long : n ≡ length cs = count ∙ sym (length-picked ds (zip docs xs)) ∙ sym (length-map rows length) ∙ ap length (sym counts) in
     let apart : cut cs zs ≡ rows = (λ i. cut (counts i) (values i)) ∙ cut-joined rows in
     number_rows-column bytes t n none
     ∙ ap (λ m. number_rows bytes t 2 m >>= λ p. Some (content_of [] (number_cell t) p)) long

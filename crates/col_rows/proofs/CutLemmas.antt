@@ -4,8 +4,9 @@ use Rattle.std.specs.Prelude.{nat_le, not, is_some, MatchOption, option_to_list}
 use Rattle.std.specs.List.{range_with_len}
 use Rattle.std.proofs.lemmas.Bool.{and_parts, and_from}
 use Rattle.col_model.specs.Ascending.{is_never_falling}
+use Rattle.col_model.proofs.ListLaws.{range-more}
 use Rattle.col_rows.specs.Documents.{dense_then, IsCut}
-use Rattle.col_rows.proofs.DocumentLemmas.{append-none, range-more, dense_then-push}
+use Rattle.col_rows.proofs.DocumentLemmas.{append-none, dense_then-push}
 
 -- what stands before the last item
 pub before_last : {A : Type 0} (xs : List A) (x : A) → take (length (xs ++ x ∷ []) - 1) (xs ++ x ∷ []) ≡ xs

@@ -5,6 +5,7 @@ use Rattle.std.specs.List.{last_or, range_with_len}
 use Rattle.std.proofs.lemmas.Bool.{and_parts, and_from}
 use Rattle.std.proofs.lemmas.List.FromFn.{length-range_with_len}
 use Rattle.col_model.specs.Ascending.{is_never_falling, is_rising}
+use Rattle.col_model.proofs.ListLaws.{range-more}
 use Rattle.col_rows.specs.Documents.{dense_then, is_late_doc, all_from}
 
 pub append-none : {A : Type 0} (xs : List A) → xs ++ [] ≡ xs
@@ -15,14 +16,6 @@ append-none (x ∷ xs) = ap (λ r. x ∷ r) (append-none xs)
 pub last_or-append : {A : Type 0} (o : Option A) (xs ys : List A) → last_or o (xs ++ ys) ≡ last_or (last_or o xs) ys
 last_or-append o [] ys = refl
 last_or-append o (x ∷ xs) ys = last_or-append (Some x) xs ys
-
--- a range with one number more
-pub range-more : (a n : ℕ) → range_with_len a (n + 1) ≡ range_with_len a n ++ (a + n) ∷ []
-range-more a zero = let e : a ≡ a + 0 = omega arith in ap (λ k. k ∷ []) e
-range-more a (suc n) =
-    let more : suc n + 1 ≡ suc (n + 1) = omega arith in
-    let place : (a + 1) + n ≡ a + suc n = omega arith in
-    ap (range_with_len a) more ∙ ap (λ r. a ∷ r) (range-more (a + 1) n ∙ ap (λ k. range_with_len (a + 1) n ++ k ∷ []) place)
 
 -- the item at the last place
 at_end : {A : Type 0} (x : A) (xs : List A) → slice_get (x ∷ xs) (length xs) ≡ last_or (Some x) xs

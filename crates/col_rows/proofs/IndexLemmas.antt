@@ -1,14 +1,15 @@
 -- Indexes that count the values of rows.
 use Rattle.std.proofs.Common.{◌≡◌, ◌<◌, ◌≤◌, ℕ, zero, suc, ◌-◌, ◌^◌, List, [], ◌∷◌, length, map, sum, replicate, Bool, true, false, cond, Some, Result, Ok, Err, refl, sym, ap, ◌∙◌, subst, arith}
-use Rattle.std.specs.Prelude.{nat_le, not, ◌==◌, OnOk, IfOk}
+use Rattle.std.specs.Prelude.{nat_le, ◌==◌, OnOk, IfOk}
 use Rattle.std.specs.List.{list_all}
-use Rattle.std.proofs.lemmas.Bool.{and_parts, and_from, ne_eqb}
+use Rattle.std.proofs.lemmas.Bool.{and_from}
 use Rattle.std.proofs.lemmas.List.{length-replicate, map-id}
 use Rattle.std.proofs.lemmas.List.Folds.{sum_by-replicate}
 use Rattle.std.proofs.lemmas.List.Sums.{sum_by-cons}
 use Rattle.col_common.specs.Outside.{SeenSink}
 use Rattle.col_common.specs.Serializing.{Serializes}
 use Rattle.col_common.specs.declared.error.ColumnarError.{ColumnarError}
+use Rattle.col_common.proofs.OnOkLemmas.{on_ok-map}
 use Rattle.col_model.specs.Ascending.{is_rising, is_never_falling, are_below}
 use Rattle.col_model.specs.Column.{number_rows}
 use Rattle.col_model.specs.ColumnType.{ColumnType}
@@ -22,6 +23,8 @@ use Rattle.col_index.proofs.RowsLaws.{rows_from, rows_with_value-from}
 use Rattle.col_index.proofs.IndexedLaws.{counts-are_rows, counts-are_set_counts, counts-are_offsets, counts-are_offset_counts}
 use Rattle.col_indexer.specs.Counted.{tightest_of}
 use Rattle.col_indexer.specs.Spelling.{Index, full_index, optional_index, multivalued_index, index_shape}
+use Rattle.col_indexer.proofs.CountedLemmas.{rows_from-some}
+use Rattle.col_indexer.proofs.MergeLemmas.{all_ones}
 use Rattle.col_column.specs.Columns.{row_count, counts_by, IsCounted, rows_by}
 use Rattle.col_column.specs.Opened.{counted_rows}
 use Rattle.col_column.specs.Written.{number_column_bytes, column_codecs, StandForRows, Stores64, SerializesRows}
@@ -47,13 +50,6 @@ ones-counted n = record {
   counts = ap (λ k. replicate k 1) (sum-ones n);
   cardinality = sym (ap (λ b. cond b tables.full (cond (list_all (λ c. nat_le c 1) (replicate n 1)) tables.optional tables.multivalued)) (ones n));
 }
-
-all-ones : (cs : List ℕ) → list_all (λ c. c == 1) cs ≡ true → replicate (length cs) 1 ≡ cs
-all-ones [] e = refl
-all-ones (c ∷ cs) e =
-    let parts = and_parts (c == 1) (list_all (λ x. x == 1) cs) e in
-    let one : 1 ≡ c = grind arith in
-    λ i. one i ∷ all-ones cs parts.1 i
 
 full-ones : (a b : Bool) → tables.full ≡ cond a tables.full (cond b tables.optional tables.multivalued) → a ≡ true
 full-ones true b e = refl
@@ -83,7 +79,7 @@ tight-multivalued cs e f = sym (λ i. cond (e i) tables.full (cond (f i) tables.
 pub full-counted : (cs : List ℕ) (c : Cardinality) → c ≡ Full → cardinality_of c ≡ tightest_of cs → CountsRows cs full_index
 full-counted cs c e f =
     let all = full-ones (list_all (λ c. c == 1) cs) (list_all (λ c. nat_le c 1) cs) (ap cardinality_of (sym e) ∙ f) in
-    subst (λ ds. CountsRows ds full_index) (all-ones cs all) (ones-counted (length cs))
+    subst (λ ds. CountsRows ds full_index) (all_ones cs all) (ones-counted (length cs))
 
 -- documents that rise and are all rows
 pub full-docs : (n : ℕ) (docs : List ℕ) → is_rising docs ≡ true → are_below n docs ≡ true → length docs ≡ n → CountsRows (row_counts n docs) full_index
@@ -91,21 +87,17 @@ full-docs n docs e below many = subst (λ cs. CountsRows cs full_index) (sym (co
 
 -- ---- rows that have values
 
--- a row with a value is the first
-some_first : (a c : ℕ) (cs : List ℕ) → rows_from a (suc c ∷ cs) ≡ a ∷ rows_from (suc a) cs
-some_first a c cs = ap (λ b. cond (not b) (a ∷ rows_from (suc a) cs) (rows_from (suc a) cs)) (ne_eqb (suc c) 0 (λ e. omega arith))
-
 few_rows : (a : ℕ) (cs : List ℕ) → length (rows_from a cs) ≤ sum cs
 few_rows a [] = omega arith
 few_rows a (zero ∷ cs) = omega (arith, few_rows (suc a) cs, sum_by-cons (λ x. x) 0 cs)
-few_rows a (suc c ∷ cs) = omega (arith, ap length (some_first a c cs), few_rows (suc a) cs, sum_by-cons (λ x. x) (suc c) cs)
+few_rows a (suc c ∷ cs) = omega (arith, ap length (rows_from-some a c cs), few_rows (suc a) cs, sum_by-cons (λ x. x) (suc c) cs)
 
 -- where some row has more than one, there are fewer rows than values
 fewer_rows : (a : ℕ) (cs : List ℕ) → list_all (λ c. nat_le c 1) cs ≡ false → length (rows_from a cs) < sum cs
 fewer_rows a [] e = absurd (cc)
 fewer_rows a (zero ∷ cs) e = omega (arith, fewer_rows (suc a) cs e, sum_by-cons (λ x. x) 0 cs)
-fewer_rows a (suc zero ∷ cs) e = omega (arith, ap length (some_first a 0 cs), fewer_rows (suc a) cs e, sum_by-cons (λ x. x) 1 cs)
-fewer_rows a (suc (suc c) ∷ cs) e = omega (arith, ap length (some_first a (suc c) cs), few_rows (suc a) cs, sum_by-cons (λ x. x) (suc (suc c)) cs)
+fewer_rows a (suc zero ∷ cs) e = omega (arith, ap length (rows_from-some a 0 cs), fewer_rows (suc a) cs e, sum_by-cons (λ x. x) 1 cs)
+fewer_rows a (suc (suc c) ∷ cs) e = omega (arith, ap length (rows_from-some a (suc c) cs), few_rows (suc a) cs, sum_by-cons (λ x. x) (suc (suc c)) cs)
 
 within_limit : (cs : List ℕ) → sum cs < 2 ^ 32 → list_all (λ c. nat_le c 1) cs ≡ false → nat_le (2 ^ 32 - 1) (length (rows_with_value cs)) ≡ false
 within_limit cs small many =
@@ -159,7 +151,7 @@ rising-indexed n docs fits e fall below apart =
     by : (b : Bool) → list_all (λ c. c == 1) (row_counts n docs) ≡ b → b ≡ false
     by false h = refl
     by true h =
-        let total : sum (row_counts n docs) ≡ n = ap sum (sym (all-ones (row_counts n docs) h)) ∙ sum-ones (length (row_counts n docs)) ∙ length-counts n docs in
+        let total : sum (row_counts n docs) ≡ n = ap sum (sym (all_ones (row_counts n docs) h)) ∙ sum-ones (length (row_counts n docs)) ∙ length-counts n docs in
         absurd (apart (sym (sum-counts n docs fall below) ∙ total))
 
 pub if_ok-is : {E : Type 0} (cs : List ℕ) (result : Result Index E) (i : Index) → IfOk result (λ r. r ≡ i) → CountsRows cs i → IfOk result (λ r. CountsRows cs r)
@@ -175,10 +167,6 @@ pub is_counted : (cs : List ℕ) (i : Index) (n : ℕ) → CountsRows cs i → n
 is_counted cs full_index n h e = tt
 is_counted cs (optional_index s) n h e = ap sum h.counts ∙ sym e
 is_counted cs (multivalued_index o) n h e = ap sum h.counts ∙ sym e
-
-pub on_ok-map : {P Q : Type 0} (result : Result (Unit {0}) ColumnarError) → (P → Q) → OnOk result P → OnOk result Q
-on_ok-map (Ok done) f h = f h
-on_ok-map (Err e) f h = tt
 
 rows_counted : (bytes cs xs : List ℕ) (t : ColumnType) (i : Index) → CountsRows cs i → length xs ≡ sum cs → number_rows bytes t 2 (row_count (index_shape i) (length xs)) ≡ Some (counted_rows (index_shape i) xs) → number_rows bytes t 2 (length cs) ≡ Some (record { cardinality = tightest_of cs; of_rows = cs }, cut cs xs)
 unfolding rows_by

@@ -1,7 +1,7 @@
 pub mod DocumentLemmas
 pub mod CutLemmas
 pub mod RowLemmas
-mod ShapeLemmas
+pub mod ShapeLemmas
 mod StartLemmas
 mod NoteLemmas
 mod IndexLemmas
@@ -9,7 +9,7 @@ mod PlaceLemmas
 mod OrderLemmas
 mod SortLemmas
 pub mod ColumnLemmas
-mod TextLemmas
+pub mod TextLemmas
 mod TieLemmas
 pub mod EntryLemmas
 pub mod LimitLemmas

@@ -7,6 +7,7 @@ use Rattle.std.specs.declared.cmp.Ordering.TheVariants.{Less, Equal, Greater}
 use Rattle.std.specs.Ordering.{nat_cmp, match_ordering}
 use Rattle.std.proofs.lemmas.Bool.{leb-true, lt-leb}
 use Rattle.std.proofs.lemmas.List.Sums.{sum_by-cons, sum-map}
+use Rattle.std.proofs.lemmas.List.{length-map}
 use Rattle.col_model.specs.AddressList.{gap_codes, codes_needed, least_codes}
 use Rattle.col_model.specs.Column.{number_cell}
 use Rattle.col_model.specs.ColumnType.{ColumnType}
@@ -16,11 +17,12 @@ use Rattle.col_model.specs.Lookup.{is_at_most}
 use Rattle.col_model.specs.Sorted.{inserted, sorted_items, with_item, distinct_items}
 use Rattle.col_model.specs.Table.{Cell, number, text, full, optional, multivalued}
 use Rattle.col_model.specs.U64List.{joined_lists}
+use Rattle.col_model.proofs.ListLaws.{cell_count-cons}
 use Rattle.col_rows.specs.Documents.{docs_of}
 use Rattle.col_rows.specs.RowOrders.{AreRowDocs}
 use Rattle.col_rows.specs.Rows.{picked_rows, cells_in_order, cell_rows, number_cells}
 use Rattle.col_rows.proofs.ColumnLemmas.{picked-map}
-use Rattle.col_rows.proofs.RowLemmas.{length-map, lengths-picked, few-picked, placed-few}
+use Rattle.col_rows.proofs.RowLemmas.{lengths-picked, few-picked, placed-few}
 
 -- ---- rows that aren't empty
 
@@ -31,9 +33,6 @@ some-cons : (row : List Cell) (rows : List (List Cell)) → some_rows (row ∷ r
 unfolding some_rows
 some-cons row rows = sum_by-cons (λ r. cond (not (length r == 0)) 1 0) row rows
 
-count-cons : (row : List Cell) (rows : List (List Cell)) → cell_count (row ∷ rows) ≡ length row + cell_count rows
-count-cons row rows = sum_by-cons length row rows
-
 one-some : (row : List Cell) → cond (not (length row == 0)) 1 0 ≤ length row
 one-some [] = omega arith
 one-some (c ∷ row) = let e : (length (c ∷ row) == 0) ≡ false = grind arith in omega (arith, ap {B = ℕ} (λ b. cond (not b) 1 0) e)
@@ -41,7 +40,7 @@ one-some (c ∷ row) = let e : (length (c ∷ row) == 0) ≡ false = grind arith
 few-rows : (rows : List (List Cell)) → some_rows rows ≤ cell_count rows
 unfolding some_rows
 few-rows [] = omega arith
-few-rows (row ∷ rows) = omega (arith, some-cons row rows, count-cons row rows, one-some row, few-rows rows)
+few-rows (row ∷ rows) = omega (arith, some-cons row rows, cell_count-cons row rows, one-some row, few-rows rows)
 
 more : (k : ℕ) → nat_le k 1 ≡ false → 1 < k
 more k g = grind arith
@@ -55,10 +54,10 @@ fewer-rows [] e = absurd (cc)
 fewer-rows (row ∷ rows) e = by (nat_le (length row) 1) refl e (λ f. fewer-rows rows f)
   where
     by : (b : Bool) → nat_le (length row) 1 ≡ b → (b && list_all (λ row. nat_le (length row) 1) rows) ≡ false → (list_all (λ row. nat_le (length row) 1) rows ≡ false → some_rows rows < cell_count rows) → some_rows (row ∷ rows) < cell_count (row ∷ rows)
-    by true g f rest = omega (arith, some-cons row rows, count-cons row rows, one-some row, rest f)
+    by true g f rest = omega (arith, some-cons row rows, cell_count-cons row rows, one-some row, rest f)
     by false g f rest =
         let many : 1 < length row = more (length row) g in
-        omega (arith, some-cons row rows, count-cons row rows, few-rows rows, at-most (not (length row == 0)), many)
+        omega (arith, some-cons row rows, cell_count-cons row rows, few-rows rows, at-most (not (length row == 0)), many)
 
 -- ---- columns of few cells
 
@@ -114,7 +113,7 @@ pub few-cells : (sorts : Bool) (n : ℕ) (ds : List ℕ) (qs : List (ℕ × Cell
 unfolding cell_rows
 few-cells sorts n ds qs h =
     let rows = picked_rows ds qs in
-    omega (arith, sum-map length (map (cells_in_order sorts) rows), ap sum (lengths-in_order sorts rows), ap sum (lengths-picked ds qs), few-picked (docs_of qs) ds h.once, length-map (λ q. q.0) qs)
+    omega (arith, sum-map length (map (cells_in_order sorts) rows), ap sum (lengths-in_order sorts rows), ap sum (lengths-picked ds qs), few-picked (docs_of qs) ds h.once, length-map qs (λ q. q.0))
 
 -- ---- codes of addresses
 

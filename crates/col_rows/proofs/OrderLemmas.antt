@@ -7,11 +7,11 @@ use Rattle.std.proofs.lemmas.Iterator.Adapters.{position_from-zero}
 use Rattle.std.proofs.lemmas.List.{take_more}
 use Rattle.std.proofs.lemmas.List.FromFn.{length-map-range_with_len, get_or-map-range_with_len, length-range_with_len}
 use Rattle.std.proofs.lemmas.List.Sums.{sum_by-cons}
+use Rattle.std.proofs.lemmas.Grind.{same_number_lists}
 use Rattle.col_model.specs.Ascending.{are_below}
 use Rattle.col_model.specs.Written.{doc_at, is_permutation}
 use Rattle.col_rows.specs.RowOrders.{docs_placed, AreRowDocs, first_doc, first_docs, noted}
 use Rattle.col_rows.specs.declared.row_order.TheConstants.{NO_DOC}
-use Rattle.col_rows.proofs.ShapeLemmas.{same_items}
 
 -- ---- the first place that passes
 
@@ -190,7 +190,7 @@ noted-next n docs rows i v fits count e low is =
     } in
     let inside : i < length rows = omega (arith, count, low) in
     let next : xs ++ v ∷ [] ≡ take (i + 1) rows = ap (λ x. xs ++ x ∷ []) is ∙ sym (take_more rows i 0 inside) in
-    same_items (noted docs i v) (first_docs n (take (i + 1) rows))
+    same_number_lists (noted docs i v) (first_docs n (take (i + 1) rows))
     (length-noted docs v i (nat_lt v (length docs)) (get_or docs v 0 == NO_DOC) ∙ many ∙ sym (length-first n (take (i + 1) rows)))
     (λ k l.
     let below : k < n = omega (arith, l, length-noted docs v i (nat_lt v (length docs)) (get_or docs v 0 == NO_DOC), many) in
@@ -230,9 +230,6 @@ unfolding first_docs
 has_all-permutation n rows docs fits count e =
     ap (list_all (λ d. not (d == NO_DOC))) e ∙ all-marked n rows 0 n fits count
     ∙ sym (ap (λ b. b && list_all (λ r. list_any (is_row r) rows) (range_with_len 0 n)) (eq-eqb (length rows) n count))
-
-pub other-count : (n : ℕ) (rows : List ℕ) → (length rows ≡ n → ⊥) → is_permutation n (Some rows) ≡ false
-other-count n rows apart = let b : (length rows == n) ≡ false = grind arith in ap (λ t. t && list_all (λ r. list_any (is_row r) rows) (range_with_len 0 n)) b
 
 permutation-rows : (n : ℕ) (rows : List ℕ) → is_permutation n (Some rows) ≡ true → list_all (λ r. list_any (is_row r) rows) (range_with_len 0 n) ≡ true
 permutation-rows n rows e = (and_parts (length rows == n) (list_all (λ r. list_any (is_row r) rows) (range_with_len 0 n)) e).1
@@ -328,6 +325,3 @@ own-docs n = record {
   below = below-range n 0 n (omega arith);
   once = λ d. subst (λ r. count_by (λ x. x == d) r ≤ 1) (map-same (range_with_len 0 n)) (once-from (λ x. x) (λ x. x) 0 n d (record { back = λ r low high. refl }));
 }
-
-pub own-placed : (n : ℕ) → range_with_len 0 n ≡ docs_placed n None
-own-placed n = sym (map-same (range_with_len 0 n))

@@ -5,6 +5,7 @@ use Rattle.std.specs.List.{list_all, range_with_len, zip, sum_by}
 use Rattle.std.proofs.lemmas.Bool.{and_parts, and_from}
 use Rattle.std.proofs.lemmas.List.Sums.{length-filter, sum_by-cons, sum-map}
 use Rattle.std.proofs.lemmas.Slice.Zip.{firsts-zip, seconds-zip}
+use Rattle.std.proofs.lemmas.List.{length-map}
 use Rattle.col_model.specs.Ascending.{is_never_falling, are_below}
 use Rattle.col_model.specs.U64List.{joined_lists}
 use Rattle.col_model.specs.Dictionary.{cut}
@@ -51,7 +52,7 @@ at_least m p (q ∷ ps) h e =
     let here : m ≤ q.0 = grind arith in
     and_from (nat_le m q.0) _ (le-leb _ _ here) (at_least m q ps here parts.1)
 
-falls_later : (x : ℕ) (xs : List ℕ) → is_never_falling (x ∷ xs) ≡ true → is_never_falling xs ≡ true
+pub falls_later : (x : ℕ) (xs : List ℕ) → is_never_falling (x ∷ xs) ≡ true → is_never_falling xs ≡ true
 falls_later x [] e = refl
 falls_later x (y ∷ ys) e = (and_parts (nat_le x y) (is_never_falling (y ∷ ys)) e).1
 
@@ -96,20 +97,11 @@ map-drop f zero xs = refl
 map-drop f (suc n) [] = refl
 map-drop f (suc n) (x ∷ xs) = map-drop f n xs
 
-pub map-cut : {A B : Type 0} (f : A → B) (ns : List ℕ) (xs : List A) → map (map f) (cut ns xs) ≡ cut ns (map f xs)
-unfolding cut
-map-cut f [] xs = refl
-map-cut f (n ∷ ns) xs = λ i. map-take f n xs i ∷ (map-cut f ns (drop n xs) ∙ ap (cut ns) (map-drop f n xs)) i
-
 pub sum-lengths : {A : Type 0} (xss : List (List A)) → sum (map length xss) ≡ length (joined_lists xss)
 sum-lengths [] = refl
 sum-lengths (xs ∷ xss) = sum_by-cons (λ x. x) (length xs) (map length xss) ∙ ap (λ k. length xs + k) (sum-lengths xss) ∙ sym (length-append xs (joined_lists xss))
 
 -- ---- counts
-
-pub length-map : {A B : Type 0} (f : A → B) (xs : List A) → length (map f xs) ≡ length xs
-length-map f [] = refl
-length-map f (x ∷ xs) = ap suc (length-map f xs)
 
 -- as many pairs have the document as documents are it
 filters : {X : Type 0} (ps : List (ℕ × X)) (d : ℕ) → length (filter (λ p. p.0 == d) ps) ≡ length (filter (λ x. x == d) (docs_of ps))
@@ -121,17 +113,13 @@ filters {X} (p ∷ ps) d =
     ]
 
 count_at : {X : Type 0} (ps : List (ℕ × X)) (d : ℕ) → length (values_at ps d) ≡ count_by (λ x. x == d) (docs_of ps)
-count_at ps d = length-map (λ q. q.1) (filter (λ p. p.0 == d) ps) ∙ filters ps d ∙ length-filter (λ x. x == d) (docs_of ps)
+count_at ps d = length-map (filter (λ p. p.0 == d) ps) (λ q. q.1) ∙ filters ps d ∙ length-filter (λ x. x == d) (docs_of ps)
 
 -- the rows are as long as their documents are counted
 pub lengths-picked : {X : Type 0} (ds : List ℕ) (ps : List (ℕ × X)) → map length (picked_rows ds ps) ≡ map (λ d. count_by (λ x. x == d) (docs_of ps)) ds
 unfolding picked_rows
 lengths-picked [] ps = refl
 lengths-picked (d ∷ ds) ps = λ i. count_at ps d i ∷ lengths-picked ds ps i
-
-pub lengths-rows : {X : Type 0} (n : ℕ) (ps : List (ℕ × X)) → map length (picked_rows (range_with_len 0 n) ps) ≡ row_counts n (docs_of ps)
-unfolding row_counts
-lengths-rows n ps = lengths-picked (range_with_len 0 n) ps
 
 -- ---- documents beside values
 
@@ -216,7 +204,7 @@ placed-few ds docs xs beside h = omega (arith, placed-sum ds docs xs, ap sum (le
 
 pub placed-count : {X : Type 0} (ds docs : List ℕ) (xs : List X) → length (map length (picked_rows ds (zip docs xs))) ≡ length ds
 unfolding picked_rows
-placed-count ds docs xs = length-map length (map (values_at (zip docs xs)) ds) ∙ length-map (values_at (zip docs xs)) ds
+placed-count ds docs xs = length-map (map (values_at (zip docs xs)) ds) length ∙ length-map ds (values_at (zip docs xs))
 
 -- a list that is lent whole has what was written
 pub lent-whole : {A : Type 0} (n : ℕ) (new rest : List A) → length new ≡ n → take n (new ++ rest) ≡ new

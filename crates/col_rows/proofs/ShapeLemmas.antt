@@ -1,46 +1,34 @@
 -- Documents that rise, and how many each row is.
-use Rattle.std.proofs.Common.{◌≡◌, ◌<◌, ◌≤◌, ℕ, zero, suc, ◌+◌, List, [], ◌∷◌, length, map, get_or, replicate, Bool, true, false, cond, refl, sym, ◌∙◌, ap, arith, le-leb, lt-ltb}
+use Rattle.std.proofs.Common.{◌≡◌, ◌<◌, ◌≤◌, ℕ, zero, suc, ◌+◌, List, [], ◌∷◌, length, map, replicate, Bool, true, false, cond, refl, sym, ◌∙◌, ap, arith, le-leb, lt-ltb}
 use Rattle.std.specs.Prelude.{nat_lt, nat_le, nat_eq, ◌&&◌, ◌||◌, ◌==◌, count_by}
 use Rattle.std.specs.List.{list_all, range_with_len}
 use Rattle.std.proofs.lemmas.Bool.{and_parts, and_from}
 use Rattle.std.proofs.lemmas.List.Sums.{sum_by-cons}
 use Rattle.std.proofs.lemmas.List.{length-replicate, get_or-replicate}
 use Rattle.std.proofs.lemmas.List.FromFn.{length-map-range_with_len, get_or-map-range_with_len}
+use Rattle.std.proofs.lemmas.Grind.{same_number_lists}
 use Rattle.col_model.specs.Ascending.{is_rising}
 use Rattle.col_model.specs.Index.{RowSet, set_counts}
 use Rattle.col_index.specs.Sets.{AreRows, holds}
 use Rattle.col_index.proofs.CountLaws.{set_counts-at, length-set_counts}
+use Rattle.col_index.proofs.RankLaws.{tail_rises}
 use Rattle.col_rows.specs.Counted.{row_counts}
 
--- lists with the same items are one
-pub same_items : (xs ys : List ℕ) → length xs ≡ length ys → ((k : ℕ) → k < length xs → get_or xs k 0 ≡ get_or ys k 0) → xs ≡ ys
-same_items [] [] e h = refl
-same_items [] (y ∷ ys) e h = absurd (omega arith)
-same_items (x ∷ xs) [] e h = absurd (omega arith)
-same_items (x ∷ xs) (y ∷ ys) e h =
-    let first : x ≡ y = h 0 (omega arith) in
-    let rest : length xs ≡ length ys = omega arith in
-    λ i. first i ∷ same_items xs ys rest (λ k l. h (suc k) (omega arith)) i
-
-lower : (x y : ℕ) (ys : List ℕ) → x ≤ y → list_all (λ z. nat_lt y z) ys ≡ true → list_all (λ z. nat_lt x z) ys ≡ true
+pub lower : (x y : ℕ) (ys : List ℕ) → x ≤ y → list_all (λ z. nat_lt y z) ys ≡ true → list_all (λ z. nat_lt x z) ys ≡ true
 lower x y [] h e = refl
 lower x y (z ∷ zs) h e =
     let parts = and_parts (nat_lt y z) (list_all (λ w. nat_lt y w) zs) e in
     and_from (nat_lt x z) _ (grind arith) (lower x y zs h parts.1)
 
-all_above : (x : ℕ) (xs : List ℕ) → is_rising (x ∷ xs) ≡ true → list_all (λ y. nat_lt x y) xs ≡ true
+pub all_above : (x : ℕ) (xs : List ℕ) → is_rising (x ∷ xs) ≡ true → list_all (λ y. nat_lt x y) xs ≡ true
 all_above x [] e = refl
 all_above x (y ∷ ys) e =
     let parts = and_parts (nat_lt x y) (is_rising (y ∷ ys)) e in
     let less : x ≤ y = grind arith in
     and_from (nat_lt x y) _ parts.0 (lower x y ys less (all_above y ys parts.1))
 
-rises_later : (x : ℕ) (xs : List ℕ) → is_rising (x ∷ xs) ≡ true → is_rising xs ≡ true
-rises_later x [] e = refl
-rises_later x (y ∷ ys) e = (and_parts (nat_lt x y) (is_rising (y ∷ ys)) e).1
-
 -- a document that rises is counted once
-none_counted : (x row : ℕ) (xs : List ℕ) → row ≤ x → list_all (λ y. nat_lt x y) xs ≡ true → count_by (λ y. y == row) xs ≡ 0
+pub none_counted : (x row : ℕ) (xs : List ℕ) → row ≤ x → list_all (λ y. nat_lt x y) xs ≡ true → count_by (λ y. y == row) xs ≡ 0
 none_counted x row [] h e = refl
 none_counted x row (y ∷ ys) h e =
     let parts = and_parts (nat_lt x y) (list_all (λ z. nat_lt x z) ys) e in
@@ -50,7 +38,7 @@ none_counted x row (y ∷ ys) h e =
 pub counted_once : (docs : List ℕ) (row : ℕ) → is_rising docs ≡ true → count_by (λ x. x == row) docs ≡ cond (holds docs row) 1 0
 counted_once [] row e = refl
 counted_once (x ∷ xs) row e =
-    sum_by-cons (λ z. cond (z == row) 1 0) x xs ∙ by (x == row) refl (counted_once xs row (rises_later x xs e))
+    sum_by-cons (λ z. cond (z == row) 1 0) x xs ∙ by (x == row) refl (counted_once xs row (tail_rises x xs e))
   where
     by : (b : Bool) → (x == row) ≡ b → count_by (λ y. y == row) xs ≡ cond (holds xs row) 1 0 → cond b 1 0 + count_by (λ y. y == row) xs ≡ cond (b || holds xs row) 1 0
     by true f later = let none : count_by (λ y. y == row) xs ≡ 0 = none_counted x row xs (grind arith) (all_above x xs e) in omega (arith, none)
@@ -62,7 +50,7 @@ unfolding row_counts
 counts-rising n docs e below =
     let s : RowSet = record { num_rows = n; rows = docs } in
     let rows : AreRows s = and_from _ _ e below in
-    same_items (set_counts s) (map (λ d. count_by (λ x. x == d) docs) (range_with_len 0 n))
+    same_number_lists (set_counts s) (map (λ d. count_by (λ x. x == d) docs) (range_with_len 0 n))
     (length-set_counts s ∙ sym (length-map-range_with_len (λ d. count_by (λ x. x == d) docs) 0 n))
     (λ k l. set_counts-at s rows k ∙ sym (counted_once docs k e) ∙ sym (get_or-map-range_with_len (λ d. count_by (λ x. x == d) docs) 0 n k k 0 (omega (arith, l, length-set_counts s)) (omega arith)))
 
@@ -96,7 +84,7 @@ all_rows a (suc n) (x ∷ xs) e within many =
     let above = all_above x xs e in
     let low : a ≤ x = grind arith in
     let high : x < a + suc n = grind arith in
-    let rest = all_rows (a + 1) n xs (rises_later x xs e) (within_next a n x xs low above parts.1) (omega arith) in
+    let rest = all_rows (a + 1) n xs (tail_rises x xs e) (within_next a n x xs low above parts.1) (omega arith) in
     λ i. first_is a n x xs rest above low high i ∷ rest i
 
 from_none : (n : ℕ) (docs : List ℕ) → list_all (λ r. nat_lt r n) docs ≡ true → list_all (λ r. nat_le 0 r && nat_lt r (0 + n)) docs ≡ true
@@ -122,7 +110,7 @@ unfolding row_counts
 counts-all n docs e below many =
     let is : docs ≡ range_with_len 0 n = all_rows 0 n docs e (from_none n docs below) many in
     let counted = λ (d : ℕ). count_by (λ x. x == d) docs in
-    same_items (map counted (range_with_len 0 n)) (replicate n 1)
+    same_number_lists (map counted (range_with_len 0 n)) (replicate n 1)
     (length-map-range_with_len counted 0 n ∙ sym (length-replicate n 1))
     (λ k l.
     let low : k < n = omega (arith, l, length-map-range_with_len counted 0 n) in

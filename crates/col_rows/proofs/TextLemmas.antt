@@ -1,20 +1,21 @@
 -- Columns of texts, by the ordinals of their terms.
-use Rattle.std.proofs.Common.{◌≡◌, ◌<◌, ◌≤◌, ℕ, zero, suc, ◌+◌, ◌*◌, ◌-◌, ◌^◌, List, [], ◌∷◌, ◌++◌, length, map, take, get_or, Bool, true, false, cond, not, min, Some, unwrap_or, Result, Ok, Err, refl, sym, ap, ◌∙◌, subst, arith, lt-ltb, le-ltb, append_assoc}
-use Rattle.std.specs.Prelude.{nat_lt, nat_le, ◌&&◌, OnOk, slice_get, slice_index, slice_index_or, bytes_eq, sum_by}
+use Rattle.std.proofs.Common.{◌≡◌, ◌<◌, ◌≤◌, ℕ, zero, suc, ◌+◌, ◌*◌, ◌-◌, ◌^◌, List, [], ◌∷◌, ◌++◌, length, map, take, get_or, Bool, true, false, cond, not, min, Some, unwrap_or, Result, Ok, refl, sym, ap, ◌∙◌, subst, arith, lt-ltb, le-ltb, append_assoc}
+use Rattle.std.specs.Prelude.{nat_lt, nat_le, ◌&&◌, slice_get, slice_index, slice_index_or, bytes_eq, sum_by}
 use Rattle.std.specs.Int.{w32, to_le_bytes}
 use Rattle.std.specs.List.{list_all, zip, IsDistinct}
 use Rattle.std.specs.Ordering.{nat_cmp, is_gt}
 use Rattle.std.specs.Cmp.Lexicographic.{slice_cmp}
 use Rattle.std.proofs.lemmas.Bool.{and_parts, and_from}
-use Rattle.std.proofs.lemmas.List.{take_more}
+use Rattle.std.proofs.lemmas.List.{take_more, length-map}
 use Rattle.std.proofs.lemmas.List.Sorted.{length_permutation, sum_by-IsPermutation}
 use Rattle.std.proofs.lemmas.Nat.{from_le_bytes-to_le_bytes_4}
+use Rattle.std.proofs.lemmas.Option.{slice_get_within}
 use Rattle.col_common.specs.Outside.{SeenSink}
 use Rattle.col_common.specs.Reading.{parts_by_first}
 use Rattle.col_common.specs.Serializing.{Serializes}
 use Rattle.col_common.specs.declared.error.ColumnarError.{ColumnarError}
-use Rattle.col_common.specs.declared.error.ColumnarError.TheVariants.{OutOfMemory}
-use Rattle.col_common.proofs.SerializingLemmas.{serializes-then, serializes-no_memory}
+use Rattle.col_common.proofs.SerializingLemmas.{serializes-then}
+use Rattle.col_common.proofs.OnOkLemmas.{on_ok-map, on_ok-always}
 use Rattle.col_model.specs.Ascending.{are_below}
 use Rattle.col_model.specs.Column.{number_rows, is_stored, term_cell, term_column, content_of, column}
 use Rattle.col_model.specs.ColumnType.{ColumnType, has_terms}
@@ -24,7 +25,7 @@ use Rattle.col_model.specs.Index.{Counts}
 use Rattle.col_model.specs.Limits.{tightest, dictionary_length}
 use Rattle.col_model.specs.Lookup.{is_at_most}
 use Rattle.col_model.specs.Sorted.{inserted, sorted_items}
-use Rattle.col_model.specs.Table.{Cell, Content}
+use Rattle.col_model.specs.Table.{Cell}
 use Rattle.col_model.specs.Table as tables
 use Rattle.col_model.specs.U64List.{joined_lists}
 use Rattle.col_model.proofs.ReadingLaws.{front-append, back-append}
@@ -35,12 +36,12 @@ use Rattle.col_terms.specs.Laws.{OrdinalsAreInOrder, DictionariesAreReadBack, Te
 use Rattle.col_terms.specs.TermTable.{terms_of, IsTable, dictionary_bytes}
 use Rattle.col_terms.proofs.TableLemmas.{table_length}
 use Rattle.col_terms.proofs.OrderedLemmas.{permutation-ordered}
+use Rattle.col_indexer.proofs.TightestLemmas.{tightest-counts}
 use Rattle.col_rows.specs.Counted.{SerializesCounted, SerializesColumn}
 use Rattle.col_rows.specs.Rows.{values_at, picked_rows, numbers_in_order, ord_rows, cells_in_order, cell_rows}
 use Rattle.col_rows.specs.Terms.{ord_by, text_cells, text_content, SerializesBehindTerms}
-use Rattle.col_rows.proofs.IndexLemmas.{on_ok-map}
-use Rattle.col_rows.proofs.RowLemmas.{length-map, cut-joined}
-use Rattle.col_rows.proofs.ColumnLemmas.{picked-map, all-values, tightest-counts, lengths-map, length-picked}
+use Rattle.col_rows.proofs.RowLemmas.{cut-joined}
+use Rattle.col_rows.proofs.ColumnLemmas.{picked-map, all-values, lengths-map, length-picked}
 
 -- ---- how long a dictionary is
 
@@ -49,7 +50,7 @@ total-length ts d =
     let same = permutation-ordered ts d in
     omega (arith, length_permutation ts (ordered ts) same, sum_by-IsPermutation length ts (ordered ts) same)
 
-within : (m : ℕ) → nat_le (2 ^ 32) m ≡ false → m < 2 ^ 32
+pub within : (m : ℕ) → nat_le (2 ^ 32) m ≡ false → m < 2 ^ 32
 within m e = grind arith
 
 pub short-length : (ts : List (List ℕ)) → IsDistinct bytes_eq ts → is_too_long ts ≡ false → (dictionary_length (ordered ts) ≡ 4 + 4 * length ts + sum_by length ts) × (4 + 4 * length ts + sum_by length ts < 2 ^ 32)
@@ -74,11 +75,6 @@ long-test ts n b a e r d count bytes f g h =
 
 -- ---- the ordinals of terms
 
-found-below : {X : Type 0} (xs : List X) (i : ℕ) (x : X) → slice_get xs i ≡ Some x → i < length xs
-found-below [] i x e = absurd (cc)
-found-below (y ∷ ys) zero x e = omega arith
-found-below (y ∷ ys) (suc i) x e = omega (arith, found-below ys i x e)
-
 some-below : {X : Type 0} (xs : List X) (i : ℕ) → i < length xs → (x : X) × (slice_get xs i ≡ Some x)
 some-below [] i h = absurd (omega arith)
 some-below (y ∷ ys) zero h = (y, refl)
@@ -93,7 +89,7 @@ ords-below ts (id ∷ ids) law e =
     let parts = and_parts (nat_lt id (length ts)) (are_below (length ts) ids) e in
     let low = is_below id (length ts) parts.0 in
     let some = some-below ts id low in
-    let here : ord_by (ordinals ts) id < length (ordered ts) = found-below (ordered ts) (ord_by (ordinals ts) id) some.0 (law.places ts id low ∙ some.1) in
+    let here : ord_by (ordinals ts) id < length (ordered ts) = slice_get_within (ordered ts) (ord_by (ordinals ts) id) some.0 (law.places ts id low ∙ some.1) in
     and_from (nat_lt (ord_by (ordinals ts) id) (length (ordered ts))) (are_below (length (ordered ts)) (map (ord_by (ordinals ts)) ids)) (lt-ltb _ _ here) (ords-below ts ids law parts.1)
 
 cells-same : (ts : List (List ℕ)) (ids : List ℕ) → TermsAreThoseGiven → are_below (length ts) ids ≡ true → map (term_cell (ordered ts)) (map (ord_by (ordinals ts)) ids) ≡ map (term_cell ts) ids
@@ -184,11 +180,11 @@ picked-below m (d ∷ ds) docs xs e = and_from (are_below m (values_at (zip docs
 
 -- ---- the column
 
-parts-w32 : (a b : List ℕ) → length a < 2 ^ 32 → parts_by_first w32 ((a ++ b) ++ to_le_bytes w32 (length a)) ≡ Some (a, b)
+pub parts-w32 : (a b : List ℕ) → length a < 2 ^ 32 → parts_by_first w32 ((a ++ b) ++ to_le_bytes w32 (length a)) ≡ Some (a, b)
 unfolding parts_by_first
 parts-w32 a b h = rw (back-append 4 (a ++ b) (to_le_bytes w32 (length a)) refl) (front-append _ a b (from_le_bytes-to_le_bytes_4 (length a) h))
 
-term_column-read : (dict numbers : List ℕ) (t : ColumnType) (n : ℕ) (found : List (List ℕ)) (c : Counts) (rows : List (List ℕ)) → has_terms t ≡ true → length dict < 2 ^ 32 → terms dict ≡ Some found → number_rows numbers t 2 n ≡ Some (c, rows) → list_all (are_below (length found)) rows ≡ true → column ((dict ++ numbers) ++ to_le_bytes w32 (length dict)) t 2 n ≡ Some (content_of found (term_cell found) (c, rows))
+pub term_column-read : (dict numbers : List ℕ) (t : ColumnType) (n : ℕ) (found : List (List ℕ)) (c : Counts) (rows : List (List ℕ)) → has_terms t ≡ true → length dict < 2 ^ 32 → terms dict ≡ Some found → number_rows numbers t 2 n ≡ Some (c, rows) → list_all (are_below (length found)) rows ≡ true → column ((dict ++ numbers) ++ to_le_bytes w32 (length dict)) t 2 n ≡ Some (content_of found (term_cell found) (c, rows))
 unfolding column term_column
 term_column-read dict numbers t n found c rows has short is read below =
     rw (has, parts-w32 dict numbers short, is, read, below) refl
@@ -217,7 +213,7 @@ texts-content sorts ds docs ids ts known below rows e =
 
 length-ord_rows : (sorts : Bool) (ds : List ℕ) (ps : List (ℕ × ℕ)) → length (ord_rows sorts ds ps) ≡ length ds
 unfolding ord_rows
-length-ord_rows sorts ds ps = length-map (numbers_in_order sorts) (picked_rows ds ps) ∙ length-picked ds ps
+length-ord_rows sorts ds ps = length-map (picked_rows ds ps) (numbers_in_order sorts) ∙ length-picked ds ps
 
 below-ord_rows : (sorts : Bool) (m : ℕ) (ds docs xs : List ℕ) → are_below m xs ≡ true → list_all (are_below m) (ord_rows sorts ds (zip docs xs)) ≡ true
 unfolding ord_rows
@@ -228,7 +224,7 @@ text-read t sorts ds docs ids numbers ts known below has rows e read =
     let dict = dictionary_bytes (ordered ts) in
     let found = ordered ts in
     let c : Counts = record { cardinality = tightest_of (map length rows); of_rows = map length rows } in
-    let long : length (map length rows) ≡ length ds = length-map length rows ∙ ap length e ∙ length-ord_rows sorts ds (zip docs (map (ord_by (ordinals ts)) ids)) in
+    let long : length (map length rows) ≡ length ds = length-map rows length ∙ ap length e ∙ length-ord_rows sorts ds (zip docs (map (ord_by (ordinals ts)) ids)) in
     let plain : number_rows numbers t 2 (length ds) ≡ Some (c, rows) = ap (number_rows numbers t 2) (sym long) ∙ read ∙ ap (λ r. Some (c, r)) (cut-joined rows) in
     let each : list_all (are_below (length found)) rows ≡ true = ap (list_all (are_below (length found))) e ∙ below-ord_rows sorts (length found) ds docs (map (ord_by (ordinals ts)) ids) (ords-below ts ids known.given below) in
     ap (λ k. column ((dict ++ numbers) ++ to_le_bytes w32 k) t 2 (length ds)) (sym known.long)
@@ -236,7 +232,7 @@ text-read t sorts ds docs ids numbers ts known below has rows e read =
     ∙ ap Some (texts-content sorts ds docs ids ts known below rows e)
 
 -- a type of terms stores any numbers
-stores-all : (xs : List ℕ) (p : ℕ → Bool) → ((x : ℕ) → p x ≡ true) → list_all p xs ≡ true
+pub stores-all : (xs : List ℕ) (p : ℕ → Bool) → ((x : ℕ) → p x ≡ true) → list_all p xs ≡ true
 stores-all [] p h = refl
 stores-all (x ∷ xs) p h = and_from (p x) (list_all p xs) (h x) (stores-all xs p h)
 
@@ -254,12 +250,6 @@ stores-terms types.datetime xs e = absurd (cc)
 pub terms-written : (old new : SeenSink) (result : Result (Unit {0}) ColumnarError) (bytes : List ℕ) (b : Bool) → b ≡ false → SerializesWithin b old new result bytes → Serializes old new result bytes
 terms-written old new result bytes true e h = absurd (cc)
 terms-written old new result bytes false e h = h
-
-pub text-stopped : (old new : SeenSink) (e : ColumnarError) (bytes : List ℕ) (t : ColumnType) (n : ℕ) (content : Content) → Serializes old new (Err e) bytes → SerializesColumn old new (Err e) t n content
-text-stopped old new e bytes t n content s = record { bytes = bytes; again = tt; written = s }
-
-pub text-no_memory : (old new : SeenSink) (done : Unit {0}) (bytes : List ℕ) (t : ColumnType) (n : ℕ) (content : Content) → Serializes old new (Ok done) bytes → SerializesColumn old new (Err OutOfMemory) t n content
-text-no_memory old new done bytes t n content s = record { bytes = bytes ++ []; again = tt; written = serializes-then old new new done (Err OutOfMemory) bytes [] s (serializes-no_memory new []) }
 
 pub text-written : (old mid new : SeenSink) (done : Unit {0}) (result : Result (Unit {0}) ColumnarError) (t : ColumnType) (sorts : Bool) (ds docs ids : List ℕ) (ts : List (List ℕ)) → KnownTerms ts → are_below (length ts) ids ≡ true → has_terms t ≡ true → Serializes old mid (Ok done) (dictionary_bytes (ordered ts)) → (rows : List (List ℕ)) → rows ≡ ord_rows sorts ds (zip docs (map (ord_by (ordinals ts)) ids)) → SerializesBehindTerms mid new result t (map length rows) (joined_lists rows) (dictionary_length (ordered ts)) → SerializesColumn old new result t (length ds) (text_content sorts ds docs ts ids)
 text-written old mid new done result t sorts ds docs ids ts known below has front rows e s = record {
@@ -311,10 +301,6 @@ text-written-as old mid new done result t sorts ds docs ids ords ts len known be
     let rows = ord_rows sorts ds (zip docs ords) in
     text-written old mid new done result t sorts ds docs ids ts known below has front rows (ap (λ r. ord_rows sorts ds (zip docs r)) e)
     (subst (SerializesBehindTerms mid new result t (map length rows) (joined_lists rows)) count (s t (stores-terms t (joined_lists rows) has)))
-
-on_ok-always : {P : Type 0} (result : Result (Unit {0}) ColumnarError) → P → OnOk result P
-on_ok-always (Ok done) h = h
-on_ok-always (Err e) h = tt
 
 pub behind-written : (old mid new : SeenSink) (done : Unit {0}) (result : Result (Unit {0}) ColumnarError) (t : ColumnType) (cs xs last : List ℕ) (len : ℕ) → last ≡ to_le_bytes w32 len → SerializesCounted old mid (Ok done) t cs xs → Serializes mid new result last → SerializesBehindTerms old new result t cs xs len
 behind-written old mid new done result t cs xs last len e s end = record {

@@ -1,12 +1,13 @@
 -- Columns of numbers that rise by 1.
-use Rattle.std.proofs.Common.{◌≡◌, ℕ, zero, suc, ◌+◌, List, [], ◌∷◌, length, map, replicate, false, Some, Result, Ok, Err, refl, ap, ◌∙◌, arith}
-use Rattle.std.specs.Prelude.{ℤ, pos, ◌+ℤ◌, OnOk}
+use Rattle.std.proofs.Common.{◌≡◌, ℕ, zero, suc, ◌+◌, List, [], ◌∷◌, length, map, replicate, false, Some, Result, refl, ap, ◌∙◌, arith}
+use Rattle.std.specs.Prelude.{ℤ, pos, ◌+ℤ◌}
 use Rattle.std.specs.List.{range_with_len}
 use Rattle.std.proofs.lemmas.Int.{ints}
 use Rattle.col_common.specs.Outside.{SeenSink}
 use Rattle.col_common.specs.Serializing.{Serializes}
 use Rattle.col_common.specs.Walks.{int_range}
 use Rattle.col_common.specs.declared.error.ColumnarError.{ColumnarError}
+use Rattle.col_common.proofs.OnOkLemmas.{on_ok-always}
 use Rattle.col_model.specs.Column.{column}
 use Rattle.col_model.specs.ColumnType as types
 use Rattle.col_model.specs.Dictionary.{cut}
@@ -35,10 +36,6 @@ tie-seen start n =
     let first : start ≡ start +ℤ pos 0 = omega (arith, ints) in
     let rows = ap (map (map number)) (cut-ones (int_range start n)) ∙ tie-cells start start 0 n first in
     λ i. record { cardinality = full; terms = []; rows = rows i }
-
-on_ok-always : {P : Type 0} (result : Result (Unit {0}) ColumnarError) → P → OnOk result P
-on_ok-always (Ok done) h = h
-on_ok-always (Err e) h = tt
 
 pub ties-written : (old new : SeenSink) (result : Result (Unit {0}) ColumnarError) (start z : ℤ) (n : ℕ) → z ≡ start → is_past_ties n (Some start) ≡ false → (is_past_ties n (Some z) ≡ false → Serializes old new result (tie_column_bytes z n)) → (is_past_ties n (Some z) ≡ false → column (tie_column_bytes z n) types.i64 2 n ≡ Some (content_seen [] number full_shape (int_range z n))) → SerializesColumn old new result types.i64 n (tie_content start n)
 ties-written old new result start z n same within written read =

@@ -31,7 +31,8 @@ pub fn serialize_address_column<K: Sink>(
     requires few { length addresses.now < 2 ^ 32 }
     requires codes { let rows = picked_rows order.now (zip docs.now addresses.now) in
         least_codes (joined_lists rows) < 2 ^ 32 }
-    ensures { SerializesColumn (K.seen sink.old) (K.seen sink.new) result types.ip (length order.now)
+    ensures { SerializesColumn (K.seen sink.old) (K.seen sink.new) result types.ip
+        (length order.now)
         (number_content types.ip order.now docs.now addresses.now) }
 {
     order.documents_have_rows();

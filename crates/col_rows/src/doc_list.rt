@@ -9,7 +9,8 @@ use col_common::{DocId, RowId};
 use std::alloc::{AllocError, Global};
 use std::marker::Model;
 
-/// Documents that never fall. The first ones are 0, 1, 2 and so on, as far as that goes, and take no room.
+/// Documents that never fall. The first ones are 0, 1, 2 and so on, as far as that goes, and take
+/// no room.
 #[derive(Drop)]
 pub struct DocList {
     num_dense: u32,

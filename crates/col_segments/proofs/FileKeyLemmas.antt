@@ -1,37 +1,24 @@
 -- The columns of a file are of different slots.
-use Rattle.std.proofs.Common.{◌≡◌, ℕ, ◌+◌, ◌==◌, true, false, cond, List, [], ◌∷◌, map, find, length, Some, refl, sym, ap, ◌∙◌, subst}
+use Rattle.std.proofs.Common.{◌≡◌, ℕ, ◌==◌, true, false, cond, List, [], ◌∷◌, map, find, length, Some, sym, ap, ◌∙◌, subst}
 use Rattle.std.specs.Prelude.{Option}
 use Rattle.std.specs.List.{AllByRecursion}
 use Rattle.std.specs.Ordering.{is_eq}
 use Rattle.std.proofs.lemmas.Bool.{and_parts}
 use Rattle.std.proofs.lemmas.Cmp.{tied_itself}
-use Rattle.col_common.specs.Reading.{◌>>=◌, only_if, back, items, nothing_left}
-use Rattle.col_common.specs.VInt.{vint}
+use Rattle.col_common.specs.Reading.{◌>>=◌, only_if, back}
 use Rattle.col_model.specs.Ascending.{is_ascending}
 use Rattle.col_model.specs.Category.{same_slot}
 use Rattle.col_model.specs.File.{Part, PartColumn, part_column, parts_of}
-use Rattle.col_model.specs.Keys.{Key, key_bytes, keyed_length, are_keys, key_table, Entry, entries_from, total_length, FileKeys, FileFooter, file_footer, keys}
+use Rattle.col_model.specs.Keys.{Key, key_bytes, are_keys, key_table, Entry, entries_from, total_length, FileKeys, FileFooter, file_footer, keys}
 use Rattle.col_model.specs.Merge.{part_slot}
 use Rattle.col_model.proofs.DecodedNumbers.{step-of, if-of}
 use Rattle.col_model.proofs.SharedTypes.{same-some}
 use Rattle.col_model.proofs.SlotLaws.{slots_total}
-use Rattle.col_model.proofs.StatsLaws.{all_by, all_mapped, map-map}
-use Rattle.col_segments.proofs.KeyLemmas.{both, key_slot, names, AreApart, are-apart}
+use Rattle.col_model.proofs.StatsLaws.{all_by, all_mapped, map-map, all_both}
+use Rattle.col_model.proofs.DecodedTables.{key_table-keys, keys_of_entries}
+use Rattle.col_segments.proofs.KeyLemmas.{key_slot, names, AreApart, are-apart}
 
 -- ---- the keys of a file
-
-key_table-keys : (bytes : List ℕ) (found : List (Key × ℕ)) → key_table bytes ≡ Some found → are_keys (map (λ p. p.0) found) ≡ true
-unfolding key_table
-key_table-keys bytes found e =
-    let last : List (Key × ℕ) → Option (List (Key × ℕ)) = λ found. only_if (are_keys (map (λ p. p.0) found)) found in
-    let a = step-of (vint bytes) (λ n. items keyed_length n.0 n.1 >>= nothing_left >>= last) found e in
-    let b = step-of (items keyed_length a.x.0 a.x.1 >>= nothing_left) last found a.rest in
-    let made = if-of (are_keys (map (λ p. p.0) b.x)) b.x found b.rest in
-    subst (λ found. are_keys (map (λ p. p.0) found) ≡ true) made.1 made.0
-
-keys_of_entries : (start : ℕ) (ps : List (Key × ℕ)) → map (λ e. e.key) (entries_from start ps) ≡ map (λ p. p.0) ps
-keys_of_entries start [] = refl
-keys_of_entries start (p ∷ ps) = ap (λ r. p.0 ∷ r) (keys_of_entries (start + p.1) ps)
 
 entries-keyed : (bytes : List ℕ) (found : List (Key × ℕ)) → key_table bytes ≡ Some found → are_keys (map (λ e. e.key) (entries_from 0 found)) ≡ true
 entries-keyed bytes found e = ap are_keys (keys_of_entries 0 found) ∙ key_table-keys bytes found e
@@ -74,5 +61,5 @@ pub found-own : (cs : List PartColumn) → AreApart (map part_key cs) → AllByR
 found-own [] apart = tt
 found-own (c ∷ cs) apart = (
   ap (λ o. cond (is_eq o) (Some c) (find (λ d. same_slot (part_slot d) (part_slot c)) cs)) (tied_itself slots_total (part_slot c)),
-  all_by (λ d p. ap (λ b. cond b (Some c) (find (λ e. same_slot (part_slot e) (part_slot d)) cs)) p.0 ∙ p.1) cs (both _ _ cs (all_mapped (λ l. same_slot (part_slot c) (key_slot l) ≡ false) part_key cs apart.0) (found-own cs apart.1)),
+  all_by (λ d p. ap (λ b. cond b (Some c) (find (λ e. same_slot (part_slot e) (part_slot d)) cs)) p.0 ∙ p.1) cs (all_both _ _ cs (all_mapped (λ l. same_slot (part_slot c) (key_slot l) ≡ false) part_key cs apart.0) (found-own cs apart.1)),
 )

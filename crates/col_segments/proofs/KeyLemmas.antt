@@ -1,5 +1,5 @@
 -- Keys that ascend are of different slots.
-use Rattle.std.proofs.Common.{◌≡◌, ℕ, Bool, true, false, cond, List, [], ◌∷◌, map, filter, Some, refl, sym, ap, ◌∙◌, subst, T}
+use Rattle.std.proofs.Common.{◌≡◌, ℕ, Bool, true, false, cond, List, [], ◌∷◌, map, filter, refl, sym, ap, ◌∙◌, subst, T}
 use Rattle.std.specs.Prelude.{is_none}
 use Rattle.std.specs.List.{AllByRecursion}
 use Rattle.std.specs.Ordering.{nat_cmp, is_lt}
@@ -13,18 +13,14 @@ use Rattle.col_model.specs.ColumnType as types
 use Rattle.col_model.specs.Keys.{Key, key_bytes}
 use Rattle.col_model.proofs.OrderedColumns.{same-slots}
 use Rattle.col_model.proofs.OrderingLaws.{less_of}
-use Rattle.col_model.proofs.SharedTypes.{only-type}
-use Rattle.col_model.proofs.StatsLaws.{all_by, all_mapped}
+use Rattle.col_model.proofs.SharedTypes.{only-type, own-type}
+use Rattle.col_model.proofs.StatsLaws.{all_by, all_mapped, all_both}
 
 -- ---- lists
 
 any : {A : Type 0} {P : A → Type 0} → ((x : A) → P x) → (xs : List A) → AllByRecursion P xs
 any f [] = tt
 any f (x ∷ xs) = (f x, any f xs)
-
-pub both : {A : Type 0} (P Q : A → Type 0) (xs : List A) → AllByRecursion P xs → AllByRecursion Q xs → AllByRecursion (λ x. P x × Q x) xs
-both P Q [] p q = tt
-both P Q (x ∷ xs) p q = ((p.0, q.0), both P Q xs p.1 q.1)
 
 -- ---- byte lists that ascend
 
@@ -49,16 +45,6 @@ ascending-tail a (b ∷ bs) e = (and_parts (is_before a b) (is_ascending (b ∷ 
 abbrev pub key_slot : Key → Slot
 key_slot k = slot_of k.name k.column_type
 
--- only the numerical category has no type of its own
-own-type : (t : ColumnType) → is_numerical t ≡ false → only_type (category_of t) ≡ Some t
-own-type types.i64 e = absurd (false≢true (sym e))
-own-type types.u64 e = absurd (false≢true (sym e))
-own-type types.bytes e = refl
-own-type types.str e = refl
-own-type types.bool e = refl
-own-type types.ip e = refl
-own-type types.datetime e = refl
-
 numerical-by : (t : ColumnType) → is_numerical t ≡ is_none (only_type (category_of t))
 numerical-by types.i64 = refl
 numerical-by types.u64 = refl
@@ -68,7 +54,7 @@ numerical-by types.bool = refl
 numerical-by types.ip = refl
 numerical-by types.datetime = refl
 
--- k stands before l, and before it by name where both are numerical
+-- k stands before l, and before it by name where all_both are numerical
 record IsBehind (k l : Key) : Type 0 where
   before : is_before (key_bytes k) (key_bytes l) ≡ true
   numerical : is_numerical k.column_type ≡ true → is_numerical l.column_type ≡ true → is_before k.name l.name ≡ true
@@ -119,7 +105,7 @@ module _ (k : Key) (ks : List Key) (before : is_ascending (map key_bytes (k ∷ 
 
   all-behind : AllByRecursion (IsBehind k) ks
   all-behind = all_by (λ l p. record { before = p.0; numerical = p.1 }) ks
-      (both _ _ ks (all_mapped (λ b. is_before (key_bytes k) b ≡ true) key_bytes ks (behind (key_bytes k) (map key_bytes ks) before)) (by-name (is_numerical k.column_type) refl))
+      (all_both _ _ ks (all_mapped (λ b. is_before (key_bytes k) b ≡ true) key_bytes ks (behind (key_bytes k) (map key_bytes ks) before)) (by-name (is_numerical k.column_type) refl))
 
   names-tail : (b : Bool) → is_numerical k.column_type ≡ b → is_ascending (names ks) ≡ true
   names-tail true e = ascending-tail k.name (names ks) (named-as true e)

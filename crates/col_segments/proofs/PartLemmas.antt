@@ -1,31 +1,11 @@
 -- The part of a file that has a table is the part of that table.
-use Rattle.std.proofs.Common.{◌≡◌, ℕ, List, [], ◌∷◌, map, Option, Some, None, Ok, refl, ap, ap₂, ◌∙◌}
-use Rattle.std.proofs.lemmas.Option.{same_Some}
+use Rattle.std.proofs.Common.{◌≡◌, ℕ, List, Option, Some, None, Ok, ap}
 use Rattle.col_common.specs.Reading.{◌>>=◌}
-use Rattle.col_model.specs.File.{Part, PartColumn, parts_of, whole_column, for_each, table_of, table_of_part, part_of_column, part_of_table}
+use Rattle.col_model.specs.File.{Part, parts_of, table_of, table_of_part, part_of_table}
 use Rattle.col_model.specs.Refusal.{or_refuse, invalid_data}
-use Rattle.col_model.specs.Table.{Content, Column, Table}
+use Rattle.col_model.specs.Table.{Table}
+use Rattle.col_model.proofs.PartLaws.{whole-table}
 use Rattle.col_segments.specs.SegmentFiles.{file_table}
-
--- columns that are whole, as a part has them
-whole-columns : (ps : List PartColumn) (cs : List Column) → for_each whole_column ps ≡ Some cs → ps ≡ map part_of_column cs
-whole-columns [] cs e = ap (map part_of_column) (same_Some [] cs e)
-whole-columns (p ∷ ps) cs e = by p.content refl (for_each whole_column ps) refl e (λ ys rest. whole-columns ps ys rest)
-  where
-    by : (o : Option Content) → p.content ≡ o → (q : Option (List Column)) → for_each whole_column ps ≡ q → ((o >>= λ content. Some (record { name = p.name; column_type = p.column_type; content = content })) >>= λ (y : Column). q >>= λ ys. Some (y ∷ ys)) ≡ Some cs → ((ys : List Column) → for_each whole_column ps ≡ Some ys → ps ≡ map part_of_column ys) → p ∷ ps ≡ map part_of_column cs
-    by None at q rest h later = cc
-    by (Some content) at None rest h later = cc
-    by (Some content) at (Some ys) rest h later =
-        ap₂ (λ (c : PartColumn) cs. c ∷ cs) (λ i. record { name = p.name; column_type = p.column_type; content = at i }) (later ys rest)
-        ∙ ap (map part_of_column) (same_Some (record { name = p.name; column_type = p.column_type; content = content } ∷ ys) cs h)
-
--- a part whose table is this
-whole-table : (p : Part) (t : Table) → table_of_part p ≡ Some t → p ≡ part_of_table t
-whole-table p t e = by (for_each whole_column p.columns) refl e
-  where
-    by : (q : Option (List Column)) → for_each whole_column p.columns ≡ q → (q >>= λ cs. Some (record { row_count = p.row_count; columns = cs })) ≡ Some t → p ≡ part_of_table t
-    by None rest h = cc
-    by (Some cs) rest h = (λ i. record { row_count = p.row_count; columns = whole-columns p.columns cs rest i }) ∙ ap part_of_table (same_Some (record { row_count = p.row_count; columns = cs }) t h)
 
 -- the part of a file that has a table
 pub whole-part : (file : List ℕ) (t : Table) → table_of file ≡ Some t → or_refuse (parts_of file) invalid_data ≡ Ok (part_of_table t)

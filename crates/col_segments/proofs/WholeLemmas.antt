@@ -20,10 +20,10 @@ use Rattle.col_model.proofs.OrderedColumns.{EachIs, each-is, same-slots}
 use Rattle.col_model.proofs.RefusalLaws.{bind-ok, same_Ok, refuse_if-ok}
 use Rattle.col_model.proofs.SlotLaws.{slots_total}
 use Rattle.col_model.proofs.StackTables.{not-refused}
-use Rattle.col_model.proofs.StatsLaws.{all_by}
+use Rattle.col_model.proofs.StatsLaws.{all_by, all_both}
 use Rattle.col_segments.specs.SegmentFiles.{file_table, parts_in}
 use Rattle.col_segments.specs.FileLaws.{MergedFilesAreWhole}
-use Rattle.col_segments.proofs.KeyLemmas.{both, AreApart}
+use Rattle.col_segments.proofs.KeyLemmas.{AreApart}
 use Rattle.col_segments.proofs.FileKeyLemmas.{part_key, file-apart, found-own}
 use Rattle.col_segments.proofs.MadeLemmas.{part_in, ok-value}
 
@@ -47,7 +47,7 @@ slots-have (c ∷ cs) = (
 columns-whole : (p : Part) → AreApart (map part_key p.columns) → ((q : Slot) → has slot_cmp q (slots_in p) ≡ true → is_bad q p ≡ false) → AllByRecursion (λ c. is_none (whole_column c) ≡ false) p.columns
 columns-whole p apart good =
     all_by (λ c f. ap (λ o. is_some o && is_none (option_and_then whole_column o)) (sym f.0) ∙ good (part_slot c) f.1) p.columns
-    (both _ _ p.columns (found-own p.columns apart) (slots-have p.columns))
+    (all_both _ _ p.columns (found-own p.columns apart) (slots-have p.columns))
 
 table-made : (cs : List PartColumn) → AllByRecursion (λ c. is_none (whole_column c) ≡ false) cs → (ds : List Column) × (for_each whole_column cs ≡ Some ds)
 table-made [] all = ([], refl)

@@ -1,5 +1,5 @@
 -- Slots that are sorted, each once, are the distinct ones.
-use Rattle.std.proofs.Common.{◌≡◌, Bool, true, false, List, [], ◌∷◌, refl, sym, ◌∙◌}
+use Rattle.std.proofs.Common.{◌≡◌, List, [], ◌∷◌, refl, sym, ◌∙◌}
 use Rattle.std.specs.Ordering.{eq_by_cmp}
 use Rattle.std.specs.List.{list_any, dedup}
 use Rattle.std.specs.List.Sorted.{IsPermutation, IsSorted, IsStrictlySortedBy}
@@ -16,22 +16,18 @@ use Rattle.col_model.specs.Sorted.{distinct_items}
 use Rattle.col_model.proofs.SlotLaws.{slots_total}
 use Rattle.col_model.proofs.OrderedColumns.{same-slots, slot_cmp-antisymmetric}
 use Rattle.col_model.proofs.DistinctLaws.{has, has-distinct, sorted-with_item}
+use Rattle.col_model.proofs.TestLaws.{both-ways}
 
 sorted-distinct : (xs : List Slot) → IsStrictlySortedBy slot_cmp (distinct_items slot_cmp xs)
 unfolding distinct_items IsStrictlySortedBy
 sorted-distinct [] = tt
 sorted-distinct (x ∷ xs) = sorted-with_item slot_cmp slots_total x (distinct_items slot_cmp xs) (sorted-distinct xs)
 
-both_ways : (a b : Bool) → (a ≡ true → b ≡ true) → (b ≡ true → a ≡ true) → a ≡ b
-both_ways true b f g = sym (f refl)
-both_ways false true f g = g refl
-both_ways false false f g = refl
-
 -- without those that come again, the same slots are there
 has-dedup : (q : Slot) (xs : List Slot) → has slot_cmp q (dedup same_slot xs) ≡ has slot_cmp q xs
 has-dedup q xs =
     let equal = eq_by_cmp_equiv slots_total in
-    both_ways _ _
+    both-ways _ _
     (λ e. list_any-from_Contains equal q xs (Contains-from_dedup same_slot xs q (Contains-from_any same-slots q (dedup same_slot xs) e)))
     (λ e. list_any-from_Contains equal q (dedup same_slot xs) (Contains-dedup equal same-slots xs q (Contains-from_any same-slots q xs e)))
 

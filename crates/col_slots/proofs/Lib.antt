@@ -1,4 +1,4 @@
 pub mod CountLemmas
-mod ListLemmas
+pub mod ListLemmas
 mod DistinctLemmas
 mod RequiredLemmas

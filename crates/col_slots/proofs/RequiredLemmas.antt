@@ -18,6 +18,7 @@ use Rattle.col_model.specs.Merge.{Required, required_slot, required_type, contra
 use Rattle.col_model.specs.Refusal.{◌>>=◌, refuse_if, bad_name, required_conflict}
 use Rattle.col_model.specs.Written.{has_zero}
 use Rattle.col_model.proofs.OrderedColumns.{same-slots}
+use Rattle.col_model.proofs.WrittenSound.{no-zeros}
 use Rattle.col_slots.specs.RequiredTypes.{known_type, conflicts, or_type, Agrees, Requires, AreTypes}
 use Rattle.col_slots.specs.Slots.{required_of}
 use Rattle.col_slots.proofs.ListLemmas.{taken, dropped}
@@ -110,14 +111,6 @@ pub item-accepted : (earlier : List Required) (r : Required) (rs : List Required
 item-accepted earlier r rs e was c = rw (e, was.each r ∙ c) refl
 
 -- ---- names
-
-no-zeros : (name : List ℕ) → has_zero name ≡ false → list_all (λ b. not (b == 0)) name ≡ true
-no-zeros [] e = refl
-no-zeros (b ∷ name) e = by (b == 0) e (no-zeros name)
-  where
-    by : (test : Bool) → (test || has_zero name) ≡ false → (has_zero name ≡ false → list_all (λ b. not (b == 0)) name ≡ true) → (not test && list_all (λ b. not (b == 0)) name) ≡ true
-    by true e later = absurd (true≢false e)
-    by false e later = later e
 
 -- a text without a zero byte is a name
 pub name-of : (name : List ℕ) → is_utf8 name ≡ true → has_zero name ≡ false → is_name name ≡ true

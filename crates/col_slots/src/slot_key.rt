@@ -99,7 +99,8 @@ impl Eq for SlotKey {
 impl PartialOrd for SlotKey {
     ghost partial_cmp = { λ a b. Some (slot_cmp a b) };
 
-    ghost laws = { partial_order_from_agreeing_total slot_cmp slots_total (λ a b. refl) (λ a b. refl) };
+    ghost laws = { partial_order_from_agreeing_total slot_cmp slots_total
+        (λ a b. refl) (λ a b. refl) };
 
     fn partial_cmp(&self, other: &SlotKey) -> Option<Ordering> {
         Some(self.compare(other))

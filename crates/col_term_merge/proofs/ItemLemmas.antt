@@ -113,12 +113,12 @@ same-lists (x ∷ m) (y ∷ n) e f =
 
 -- ---- one item is set
 
-get-set-same : {X : Type 0} (xs : List X) (i : ℕ) (w v : X) → slice_get xs i ≡ Some v → slice_get (set xs i w) i ≡ Some w
+pub get-set-same : {X : Type 0} (xs : List X) (i : ℕ) (w v : X) → slice_get xs i ≡ Some v → slice_get (set xs i w) i ≡ Some w
 get-set-same [] i w v e = cc
 get-set-same (x ∷ xs) zero w v e = refl
 get-set-same (x ∷ xs) (suc i) w v e = get-set-same xs i w v e
 
-get-set-other : {X : Type 0} (xs : List X) (i k : ℕ) (w : X) → k ≢ i → slice_get (set xs i w) k ≡ slice_get xs k
+pub get-set-other : {X : Type 0} (xs : List X) (i k : ℕ) (w : X) → k ≢ i → slice_get (set xs i w) k ≡ slice_get xs k
 get-set-other [] i k w ne = refl
 get-set-other (x ∷ xs) zero zero w ne = absurd (ne refl)
 get-set-other (x ∷ xs) zero (suc k) w ne = refl

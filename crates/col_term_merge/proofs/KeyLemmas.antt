@@ -9,6 +9,7 @@ use Rattle.std.specs.FinMap.{IsAntisymmetric}
 use Rattle.std.proofs.lemmas.Bool.{true≢false}
 use Rattle.std.proofs.lemmas.Cmp.{nat_list_cmp_total, nat_cmp_total, on_total, then_total, tied_itself, alike_right, ranked, by_ranked}
 use Rattle.std.proofs.lemmas.Map.Text.{is_eq-slice_cmp}
+use Rattle.col_common.proofs.OctetLemmas.{then_equal}
 use Rattle.col_model.proofs.OrderingLaws.{bytes_eq-same}
 use Rattle.col_model.proofs.SeenLaws.{text_cmp-antisymmetric}
 use Rattle.col_term_merge.specs.declared.terms_with_segment_ord.TermsWithSegmentOrd.{TermsWithSegmentOrd}
@@ -19,11 +20,6 @@ use Rattle.col_term_merge.specs.Moves.{IsBehind}
 -- the order of keys
 abbrev pub by_bytes : List ℕ → List ℕ → Ordering
 by_bytes = slice_cmp nat_cmp
-
-then-equal : (a b : Ordering) → ordering_then a b ≡ Equal → (a ≡ Equal) × (b ≡ Equal)
-then-equal Less b e = cc
-then-equal Equal b e = (refl, e)
-then-equal Greater b e = cc
 
 then-not_less : (a b : Ordering) → is_lt (ordering_then a b) ≡ false → is_lt a ≡ false
 then-not_less Less b e = e
@@ -51,8 +47,8 @@ same-term a b p q r = λ i. record { key = p i; segment = q i; ord = r i }
 
 pub term_cmp-apart : IsAntisymmetric term_cmp
 term_cmp-apart a b e =
-    let first = then-equal (by_bytes a.key b.key) _ e in
-    let rest = then-equal (nat_cmp a.segment b.segment) _ first.1 in
+    let first = then_equal (by_bytes a.key b.key) _ e in
+    let rest = then_equal (nat_cmp a.segment b.segment) _ first.1 in
     same-term a b (text_cmp-antisymmetric a.key b.key first.0) (nat-tied a.segment b.segment rest.0) (nat-tied a.ord b.ord rest.1)
 
 -- a term of a lesser key stands before

@@ -14,13 +14,14 @@ use Rattle.col_model.specs.Ascending.{is_before, is_never_falling}
 use Rattle.col_model.specs.Sorted.{sorted_items}
 use Rattle.col_model.proofs.OrderingLaws.{less_where}
 use Rattle.col_model.proofs.StatsLaws.{all_by, mapped_all, all_both}
+use Rattle.col_model.proofs.ListLaws.{all-two}
 use Rattle.col_terms.specs.Streams.{OrdTerm}
 use Rattle.col_term_merge.specs.declared.terms_with_segment_ord.TermsWithSegmentOrd.{TermsWithSegmentOrd}
 use Rattle.col_term_merge.specs.Keys.{key_at, here_of, from_here}
 use Rattle.col_term_merge.specs.Places.{AllStand, places_at}
 use Rattle.col_term_merge.specs.Merging.{SegmentTerm, term_cmp, in_segment, in_order, has_key, terms_left, terms_here, terms_ahead, merged_step, key_of, places_of, is_on_key}
 use Rattle.col_term_merge.specs.Moves.{AreRising, LeftRises, StandsRising, AreReady, AreTaken, AreLater, StandTogether, StandIf, IsLeast, first_key, segments_of, merging_by}
-use Rattle.col_term_merge.proofs.PermutationLemmas.{all-moved, all-parts, all-flat, all-joined}
+use Rattle.col_term_merge.proofs.PermutationLemmas.{all-moved, all-parts, all-flat}
 use Rattle.col_term_merge.proofs.SortLemmas.{sorted-moved, sorted-joined, moved-sorted, all-sorted}
 use Rattle.col_term_merge.proofs.KeyLemmas.{term_cmp-total, term_cmp-apart, by_bytes, before-term, other-key, own-key}
 use Rattle.col_term_merge.proofs.StreamLemmas.{left-behind, ahead-split}
@@ -140,7 +141,7 @@ module _ (old at ahead : List TermsWithSegmentOrd) (stand : AllByRecursion Stand
   ordered =
       ahead-moved old (at ++ ahead) taken.moved
       ∙ sorted-moved term_cmp term_cmp-total term_cmp-apart (terms_ahead (at ++ ahead)) (terms_here at ++ (terms_left at ++ terms_ahead ahead)) parted
-      ∙ sorted-joined _ (terms_here at) (terms_left at ++ terms_ahead ahead) (before-all (terms_here at) (terms_left at ++ terms_ahead ahead) here-all (all-joined (IsAfter key) (terms_left at) (terms_ahead ahead) left-all ahead-all))
+      ∙ sorted-joined _ (terms_here at) (terms_left at ++ terms_ahead ahead) (before-all (terms_here at) (terms_left at ++ terms_ahead ahead) here-all (all-two (IsAfter key) (terms_left at) (terms_ahead ahead) left-all ahead-all))
 
   here-long : 0 < length (in_order (terms_here at))
   here-long = omega (arith, length_permutation _ _ (moved-sorted (λ a b. not (is_gt (term_cmp a b))) (terms_here at)), here-some at taken.together.some both-stand.0)
@@ -148,7 +149,7 @@ module _ (old at ahead : List TermsWithSegmentOrd) (stand : AllByRecursion Stand
   -- the merge stands on the least key, with all its terms
   pub merged-on : merging_by true at ahead ≡ merged_step (in_order (terms_ahead old))
   merged-on =
-      let after = all-joined (IsAfter key) (terms_left at) (terms_ahead ahead) left-all ahead-all in
+      let after = all-two (IsAfter key) (terms_left at) (terms_ahead ahead) left-all ahead-all in
       sym (ap merged_step ordered ∙ step-parts key (in_order (terms_here at)) (in_order (terms_left at ++ terms_ahead ahead)) here-long (all-sorted _ (Has key) (terms_here at) here-all) (all-sorted _ (IsAfter key) (terms_left at ++ terms_ahead ahead) after))
 
   pub merged-found : is_on_key (merging_by true at ahead) ≡ true

@@ -58,11 +58,6 @@ streams-whole columns ss n whole h e =
 
 -- ---- a step of the list
 
--- a merge that goes on to a key had one left
-pub step-some : (left : List SegmentTerm) → is_on_key (merged_step left) ≡ true → 0 < length left
-step-some [] on = absurd (true≢false (sym on))
-step-some (t ∷ ts) on = omega arith
-
 pub step-shorter : (left : List SegmentTerm) → is_on_key (merged_step left) ≡ true → length (merged_step left).left < length left
 step-shorter [] on = absurd (true≢false (sym on))
 step-shorter (t ∷ ts) on =

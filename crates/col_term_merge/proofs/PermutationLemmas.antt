@@ -4,6 +4,7 @@ use Rattle.std.specs.Prelude.{flat_map}
 use Rattle.std.specs.List.{swap, AllByRecursion}
 use Rattle.std.proofs.lemmas.List.Elements.{recursion_from_All, All-from_recursion}
 use Rattle.std.proofs.lemmas.List.Sorted.{All-permutation, IsPermutation-keeps, IsPermutation-refl, IsPermutation-trans, IsPermutation-append_left, IsPermutation-append_right, IsPermutation-append_comm}
+use Rattle.col_model.proofs.ListLaws.{all-two}
 
 -- A relation that goes under a first item, over two that change places, and from step to step.
 module _ {X : Type 0} (R : List X → List X → Type 0)
@@ -45,14 +46,10 @@ flat-moved f = along (λ xs ys. IsPermutation (flat_map f xs) (flat_map f ys))
 pub all-moved : {A : Type 0} (P : A → Type 0) (xs ys : List A) → IsPermutation xs ys → AllByRecursion P xs → AllByRecursion P ys
 all-moved P xs ys p h = recursion_from_All P ys (All-permutation P xs ys p (All-from_recursion P xs h))
 
-pub all-joined : {A : Type 0} (P : A → Type 0) (xs ys : List A) → AllByRecursion P xs → AllByRecursion P ys → AllByRecursion P (xs ++ ys)
-all-joined P [] ys h k = k
-all-joined P (x ∷ xs) ys h k = (h.0, all-joined P xs ys h.1 k)
-
 pub all-parts : {A : Type 0} (P : A → Type 0) (xs ys : List A) → AllByRecursion P (xs ++ ys) → AllByRecursion P xs × AllByRecursion P ys
 all-parts P [] ys h = (tt, h)
 all-parts P (x ∷ xs) ys h = let rest = all-parts P xs ys h.1 in ((h.0, rest.0), rest.1)
 
 pub all-flat : {A B : Type 0} (P : B → Type 0) (f : A → List B) (xs : List A) → AllByRecursion (λ x. AllByRecursion P (f x)) xs → AllByRecursion P (flat_map f xs)
 all-flat P f [] h = tt
-all-flat P f (x ∷ xs) h = all-joined P (f x) (flat_map f xs) h.0 (all-flat P f xs h.1)
+all-flat P f (x ∷ xs) h = all-two P (f x) (flat_map f xs) h.0 (all-flat P f xs h.1)

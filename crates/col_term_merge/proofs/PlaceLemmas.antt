@@ -20,23 +20,20 @@ use Rattle.col_model.proofs.DistinctLaws.{has, has-distinct, sorted-with_item}
 use Rattle.col_model.proofs.OrderingLaws.{bytes_eq-true, bytes_eq-same}
 use Rattle.col_model.proofs.RangeCodes.{all-distinct}
 use Rattle.col_model.proofs.StatsLaws.{all_by, mapped_all, map-map}
+use Rattle.col_model.proofs.ListLaws.{all-two}
 use Rattle.col_terms.specs.Building.{id_of}
 use Rattle.col_terms.specs.Streams.{OrdTerm, numbered}
+use Rattle.col_terms.proofs.WalkLemmas.{numbered-terms}
 use Rattle.col_term_merge.specs.Merging.{SegmentTerm, term_cmp, has_key, in_segment, in_order}
 use Rattle.col_term_merge.specs.Numbering.{terms_from, terms_in_order, keys_of, KeysAscend, item_at, IsIn}
 use Rattle.col_term_merge.proofs.SortLemmas.{all-inserted, moved-sorted}
 use Rattle.col_term_merge.proofs.ItemLemmas.{in-left, in-right, in-map, all-filtered}
 use Rattle.col_term_merge.proofs.KeyLemmas.{by_bytes, own-key, key-behind, key-further, key-tied}
-use Rattle.col_term_merge.proofs.PermutationLemmas.{all-joined}
 
 abbrev term_key : SegmentTerm → List ℕ
 term_key t = t.key
 
 -- ---- numbered terms
-
-pub numbered-terms : (n : ℕ) (ts : List (List ℕ)) → map (λ (p : OrdTerm). p.1) (enumerate_from n ts) ≡ ts
-numbered-terms n [] = refl
-numbered-terms n (t ∷ ts) = ap (λ r. t ∷ r) (numbered-terms (n + 1) ts)
 
 numbered-at : (n : ℕ) (ts : List (List ℕ)) → AllByRecursion (λ (p : OrdTerm). (n ≤ p.0) × (slice_get ts (p.0 - n) ≡ Some p.1)) (enumerate_from n ts)
 numbered-at n [] = tt
@@ -82,7 +79,7 @@ genuine-from n [] = tt
 genuine-from n (ts ∷ tss) =
     let whole = IsOf n (ts ∷ tss) in
     let own = mapped_all whole (λ (p : OrdTerm). record { key = p.1; segment = n; ord = p.0 }) (numbered ts) (all_by (here-of-segment n ts tss) (numbered ts) (numbered-at 0 ts)) in
-    all-joined whole (in_segment n (numbered ts)) (terms_from (n + 1) tss) own (all_by (later-of-segment n ts tss) (terms_from (n + 1) tss) (genuine-from (n + 1) tss))
+    all-two whole (in_segment n (numbered ts)) (terms_from (n + 1) tss) own (all_by (later-of-segment n ts tss) (terms_from (n + 1) tss) (genuine-from (n + 1) tss))
 
 pub genuine-all : (tss : List (List (List ℕ))) → AllByRecursion (λ t. item_at tss (t.segment, t.ord) ≡ Some t.key) (terms_from 0 tss)
 genuine-all tss = all_by (λ (t : SegmentTerm) (h : IsOf 0 tss t). whole t h) (terms_from 0 tss) (genuine-from 0 tss)

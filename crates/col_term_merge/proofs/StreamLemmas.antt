@@ -1,5 +1,5 @@
 -- What walks have to give, where they are and further on.
-use Rattle.std.proofs.Common.{◌≡◌, ℕ, ◌+◌, ◌<◌, true, false, List, [], ◌∷◌, ◌++◌, map, take, length, get_or, is_some, Option, Some, None, append_assoc, refl, sym, ap, ◌∙◌, subst, IsPermutation}
+use Rattle.std.proofs.Common.{◌≡◌, ℕ, ◌+◌, ◌<◌, true, List, [], ◌∷◌, ◌++◌, map, take, length, get_or, is_some, Option, Some, None, append_assoc, refl, sym, ap, ◌∙◌, subst, IsPermutation}
 use Rattle.std.specs.List.{AllByRecursion}
 use Rattle.std.specs.List.Sorted.{IsStrictlySortedBy}
 use Rattle.std.specs.declared.cmp.Ordering.TheVariants.{Less}
@@ -60,14 +60,6 @@ stepped-ahead old new e h = go old.left new e h
     go : (ps : List OrdTerm) (s : TermStream) → s ≡ walks.stepped ps → is_some s.current ≡ true → from_here s.current s.left ≡ ps
     go [] s e h = absurd (true≢false (sym h ∙ ap (λ (v : TermStream). is_some v.current) e))
     go (p ∷ ps) s e h = ap (λ (v : TermStream). from_here v.current v.left) e
-
--- a walk that is at its end had nothing left
-pub stepped-end : (old new : TermStream) → new ≡ walks.stepped old.left → is_some new.current ≡ false → old.left ≡ []
-stepped-end old new e h = go old.left new e h
-  where
-    go : (ps : List OrdTerm) (s : TermStream) → s ≡ walks.stepped ps → is_some s.current ≡ false → ps ≡ []
-    go [] s e h = refl
-    go (p ∷ ps) s e h = absurd (true≢false (sym (ap (λ (v : TermStream). is_some v.current) e) ∙ h))
 
 -- ---- all walks
 

@@ -84,10 +84,6 @@ pub record AreTaken (old at ahead : List TermsWithSegmentOrd) : Type 0 where
   pub together : StandTogether at
   pub behind : AllByRecursion (λ s. AllByRecursion (IsBehind s) ahead) at
 
--- walks none of which is at a key before this one
-abbrev pub AreFrom : List ℕ → List TermsWithSegmentOrd → Type 0
-AreFrom key ahead = AllByRecursion (λ s. is_before (key_at s.terms) key ≡ false) ahead
-
 -- walks at keys behind this one
 abbrev pub AreLater : List ℕ → List TermsWithSegmentOrd → Type 0
 AreLater key ahead = AllByRecursion (λ s. is_before key (key_at s.terms) ≡ true) ahead

@@ -140,7 +140,8 @@ fn put_behind<'a>(stream: TermsWithSegmentOrd<'a>, heap: &mut BinaryHeap<TermsWi
 fn put<'a>(stream: TermsWithSegmentOrd<'a>, heap: &mut BinaryHeap<TermsWithSegmentOrd<'a>>)
     requires { heap_len heap.old < heap_capacity heap.old }
     ensures moved { IsPermutation (stream.entry ∷ heap_items heap.old) (heap_items heap.new) }
-    ensures heap { IsHeap stream_cmp (heap_items heap.old) → IsHeap stream_cmp (heap_items heap.new) }
+    ensures heap { IsHeap stream_cmp (heap_items heap.old) →
+        IsHeap stream_cmp (heap_items heap.new) }
     ensures len { heap_len heap.new ≡ heap_len heap.old + 1 }
     ensures capacity { heap_capacity heap.old ≤ heap_capacity heap.new }
 {
@@ -214,7 +215,8 @@ fn take<'a>(
     requires room { vec_len streams.old < vec_capacity streams.old }
     ensures taken { AreTaken (streams.old.items ++ heap_items heap.old)
         streams.new.items (heap_items heap.new) }
-    ensures len { heap_len heap.new + vec_len streams.new ≡ heap_len heap.old + vec_len streams.old }
+    ensures len { heap_len heap.new + vec_len streams.new
+        ≡ heap_len heap.old + vec_len streams.old }
     ensures less { heap_len heap.new < heap_len heap.old }
     ensures room { vec_capacity streams.new ≡ vec_capacity streams.old }
     ensures capacity { heap_capacity heap.new ≡ heap_capacity heap.old }

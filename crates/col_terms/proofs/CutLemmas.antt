@@ -3,9 +3,9 @@ use Rattle.std.proofs.Common.{◌≡◌, ℕ, zero, suc, ◌+◌, ◌-◌, ◌*�
 use Rattle.std.proofs.lemmas.Bool.{and_parts, and_from, and_left, and_right, le-leb, lt-leb, leb-true, ne_eqb}
 use Rattle.std.proofs.lemmas.Bool.Decides.{nat_tests}
 use Rattle.std.proofs.lemmas.List.{length-drop, drop-drop, drop_all}
-use Rattle.std.proofs.lemmas.List.Sums.{sum_by-cons}
 use Rattle.col_model.specs.Ascending.{is_before, is_ascending, is_never_falling, differences}
 use Rattle.col_model.specs.Dictionary.{cut}
+use Rattle.col_model.proofs.ListLaws.{sum-cons}
 use Rattle.col_terms.specs.TermTable.{number_at, numbers_in, cut_whole, follows}
 use Rattle.col_terms.proofs.NumberLemmas.{length-numbers_in, drop-numbers_in}
 
@@ -23,9 +23,6 @@ cut_rest start last ends rest = is_never_falling (start ∷ ends) && (sum (diffe
 and_true : (b : Bool) → (b && true) ≡ b
 and_true true = refl
 and_true false = refl
-
-pub sum-cons : (x : ℕ) (xs : List ℕ) → sum (x ∷ xs) ≡ x + sum xs
-sum-cons x xs = sum_by-cons (λ k. k) x xs
 
 -- no end is left
 pub cut_rest-none : (start : ℕ) (last : Option (List ℕ)) (rest : List ℕ) → cut_rest start last [] rest ≡ (0 == length rest)

@@ -12,7 +12,7 @@ use Rattle.col_terms.specs.Laws.{TermsAreThoseGiven}
 use Rattle.col_terms.proofs.OrderedLemmas.{in_order-ordered, is_ascending-in_order}
 use Rattle.col_terms.proofs.PlaceLemmas.{known_at, place_below, term_at_place}
 
-known-ordered : (ts : List (List ℕ)) (t : List ℕ) → is_known (ordered ts) t ≡ is_known ts t
+pub known-ordered : (ts : List (List ℕ)) (t : List ℕ) → is_known (ordered ts) t ≡ is_known ts t
 known-ordered ts t = among-has t (ordered ts) ∙ has-distinct (slice_cmp nat_cmp) nat_list_cmp_total t ts ∙ sym (among-has t ts)
 
 term-at-ordinal : (ts : List (List ℕ)) (id : ℕ) → id < length ts → slice_get (ordered ts) (slice_index (ordinals ts) id) ≡ slice_get ts id

@@ -10,8 +10,8 @@ use Rattle.col_model.specs.Dictionary.{cut, terms}
 use Rattle.col_model.specs.Limits.{dictionary_length}
 use Rattle.col_terms.specs.TermTable.{number_at, numbers_in, start_at, terms_by, cut_whole, terms_of, IsTable}
 use Rattle.col_terms.proofs.NumberLemmas.{items-numbers, length-numbers_in, number_at-drop, get_or-numbers_in}
-use Rattle.col_terms.proofs.CutLemmas.{sum-cons, cut-at, rises, ends-within, length-cut}
-use Rattle.col_model.proofs.ListLaws.{length-differences}
+use Rattle.col_terms.proofs.CutLemmas.{cut-at, rises, ends-within, length-cut}
+use Rattle.col_model.proofs.ListLaws.{length-differences, sum-cons}
 
 -- what the bytes have where they have a count and ends
 module _ (bytes : List ℕ) where

@@ -7,7 +7,7 @@ use Rattle.col_terms.specs.Streams.{OrdTerm, numbered, walk_between, IsWalk}
 use Rattle.col_terms.specs.TermTable.{terms_of}
 use Rattle.col_terms.proofs.TableLemmas.{table_ascending}
 
-numbered-terms : (n : ℕ) (ts : List (List ℕ)) → map (λ (p : OrdTerm). p.1) (enumerate_from n ts) ≡ ts
+pub numbered-terms : (n : ℕ) (ts : List (List ℕ)) → map (λ (p : OrdTerm). p.1) (enumerate_from n ts) ≡ ts
 numbered-terms n [] = refl
 numbered-terms n (t ∷ ts) = ap (λ r. t ∷ r) (numbered-terms (n + 1) ts)
 

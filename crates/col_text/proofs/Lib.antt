@@ -1,3 +1,3 @@
 mod TermRangeLemmas
 mod TermLookupLemmas
-mod OpenTextLemmas
+pub mod OpenTextLemmas

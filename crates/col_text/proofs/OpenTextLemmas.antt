@@ -5,7 +5,7 @@ use Rattle.std.specs.List.{All, list_all}
 use Rattle.std.proofs.lemmas.Bool.{ltb-true}
 use Rattle.std.proofs.lemmas.Bool.Decides.{nat_tests}
 use Rattle.std.proofs.lemmas.List.{length-drop, take-append-drop}
-use Rattle.std.proofs.lemmas.List.Folds.{list_all-append, sum_by-replicate}
+use Rattle.std.proofs.lemmas.List.Folds.{list_all-append}
 use Rattle.std.proofs.lemmas.List.Sums.{sum_by-cons, AllPass-from_list_all}
 use Rattle.col_column.specs.Columns.{Seen, IsCounted, counts_by, rows_by}
 use Rattle.col_column.specs.Opened.{counted_rows}
@@ -14,18 +14,19 @@ use Rattle.col_model.specs.Ascending.{is_ascending}
 use Rattle.col_model.specs.Column.{number_rows, term_column, column}
 use Rattle.col_model.specs.ColumnType as types
 use Rattle.col_model.specs.Dictionary.{cut, terms}
-use Rattle.col_model.specs.Index.{Shape, empty_shape, full_shape, optional_shape, multivalued_shape}
+use Rattle.col_model.specs.Index.{Shape}
 use Rattle.col_numbers.specs.NumValues.{num_values_of}
 use Rattle.col_numbers.specs.declared.num_values.NumValues.{NumValues}
 use Rattle.col_terms.proofs.TableLemmas.{table_ascending, table_counted}
 use Rattle.col_terms.specs.TermTable.{terms_of}
 use Rattle.col_values.specs.Codes.{number_cmp}
 use Rattle.col_values.specs.Values.{IsAtMost}
+use Rattle.col_column.proofs.SerializeRowLemmas.{sum-counts_by}
 use Rattle.col_text.specs.Texts.{texts_content}
 
 -- ---- a test of the numbers of all rows
 
-all-cut : (p : ℕ → Bool) (cs xs : List ℕ) → sum cs ≡ length xs → list_all (list_all p) (cut cs xs) ≡ list_all p xs
+pub all-cut : (p : ℕ → Bool) (cs xs : List ℕ) → sum cs ≡ length xs → list_all (list_all p) (cut cs xs) ≡ list_all p xs
 unfolding cut
 all-cut p [] [] e = refl
 all-cut p [] (x ∷ xs) e = absurd (omega arith)
@@ -34,16 +35,10 @@ all-cut p (c ∷ cs) xs e =
     ap (λ b. list_all p (take c xs) && b) (all-cut p cs (drop c xs) rest)
     ∙ sym (list_all-append p (take c xs) (drop c xs)) ∙ ap (list_all p) (take-append-drop c xs)
 
-sum-counted : (s : Shape) (n : ℕ) → IsCounted s n → sum (counts_by s n) ≡ n
-sum-counted (empty_shape m) n none = sum_by-replicate (λ k. k) m 0 ∙ omega arith
-sum-counted full_shape n any = sum_by-replicate (λ k. k) n 1 ∙ omega arith
-sum-counted (optional_shape cs) n all = all
-sum-counted (multivalued_shape cs) n all = all
-
 -- where a shape counts just the numbers, all pass where those of all rows do
-all-rows : (p : ℕ → Bool) (s : Shape) (xs : List ℕ) → IsCounted s (length xs) → list_all (list_all p) (rows_by s xs) ≡ list_all p xs
+pub all-rows : (p : ℕ → Bool) (s : Shape) (xs : List ℕ) → IsCounted s (length xs) → list_all (list_all p) (rows_by s xs) ≡ list_all p xs
 unfolding rows_by
-all-rows p s xs counted = all-cut p (counts_by s (length xs)) xs (sum-counted s (length xs) counted)
+all-rows p s xs counted = all-cut p (counts_by s (length xs)) xs (sum-counts_by s (length xs) counted)
 
 -- ---- the parts
 

@@ -25,7 +25,8 @@ pub record AreOrdinals (terms : List (List ℕ)) (ords : Seen (NumValues ℕ)) :
 
 -- what stands in the column
 abbrev pub texts_content : Texts → Content
-texts_content c = content_seen c.terms (term_cell c.terms) c.ords.shape (num_values_of c.ords.values)
+texts_content c =
+    content_seen c.terms (term_cell c.terms) c.ords.shape (num_values_of c.ords.values)
 
 -- the terms from a key on are those of the ordinals from a place on
 abbrev pub StartAt : List (List ℕ) → List ℕ → ℕ → Type 0
@@ -37,7 +38,8 @@ abbrev pub EndAt : List (List ℕ) → List ℕ → ℕ → Type 0
 EndAt terms key end = (n : ℕ) → n < length terms →
     is_at_most (term_cell terms n) (text key) ≡ nat_lt n end
 
--- The text of a term, where there is one. NotUtf8 says that it is no text; a refusal leaves nothing.
+-- The text of a term, where there is one. NotUtf8 says that it is no text; a refusal leaves
+-- nothing.
 abbrev pub ReadsText : Result Bool ColumnarError → String Global → Option (List ℕ) → Type 0
 ReadsText (Ok found) output None = (found ≡ false) × (string_bytes output ≡ [])
 ReadsText (Ok found) output (Some t) = (found ≡ true) × (string_bytes output ≡ t) × IsUtf8 t

@@ -62,7 +62,8 @@ impl BytesColumn {
     /// `output` is left empty.
     pub fn ord_to_bytes(&self, ord: u64, output: &mut Vec<u8>) -> Result<bool, ColumnarError>
         ensures found { IfOk result (λ found. found ≡ nat_lt ord (length self.now.terms)) }
-        ensures term { OnOk result (output.new.items ≡ unwrap_or (slice_get self.now.terms ord) []) }
+        ensures term { OnOk result
+            (output.new.items ≡ unwrap_or (slice_get self.now.terms ord) []) }
         ensures err { IfErr result
             (λ e. (e ≡ ColumnarError.OutOfMemory) × (output.new.items ≡ [])) }
     {

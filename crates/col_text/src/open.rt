@@ -67,7 +67,8 @@ fn open_texts(
 
 // Whether each value is the ordinal of a term, which the greatest one tells.
 fn are_ordinals(dictionary: &Dictionary, ords: &NumColumn<u64>) -> bool
-    ensures { result ≡ list_all (λ n. nat_lt n (length dictionary.now)) (num_values_of ords.now.values) }
+    ensures { result
+        ≡ list_all (λ n. nat_lt n (length dictionary.now)) (num_values_of ords.now.values) }
 {
     let values = ords.values();
     values.num_vals() == 0 || values.max_value() < dictionary.num_terms() as u64

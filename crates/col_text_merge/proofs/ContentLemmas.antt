@@ -6,16 +6,12 @@ use Rattle.std.specs.List.{AllByRecursion, list_all}
 use Rattle.std.proofs.lemmas.Bool.{and_from}
 use Rattle.std.proofs.lemmas.List.{length-map}
 use Rattle.std.proofs.lemmas.Option.{slice_get-map}
-use Rattle.std.proofs.lemmas.Nat.{from_le_bytes-to_le_bytes_4}
-use Rattle.col_common.specs.Reading.{parts_by_first}
 use Rattle.col_model.specs.Ascending.{are_below}
-use Rattle.col_model.specs.Column.{number_rows, term_cell, term_column, content_of, column}
+use Rattle.col_model.specs.Column.{number_rows, term_cell, content_of, column}
 use Rattle.col_model.specs.ColumnType.{ColumnType, has_terms}
 use Rattle.col_model.specs.Dictionary.{terms}
-use Rattle.col_model.specs.Index.{Counts}
 use Rattle.col_model.specs.Limits.{dictionary_length}
 use Rattle.col_model.specs.Order.{Order, stack, shuffle}
-use Rattle.col_model.proofs.ReadingLaws.{front-append, back-append}
 use Rattle.col_order.specs.Orders.{picks_of}
 use Rattle.col_indexer.specs.Merged.{merged_counts, merged_cardinality}
 use Rattle.col_terms.specs.Building.{ordered, ordinals, is_too_long}
@@ -25,6 +21,7 @@ use Rattle.col_text.specs.Texts.{Texts}
 use Rattle.col_term_merge.specs.Numbering.{terms_of, IsIn}
 use Rattle.col_value_merge.specs.Merges.{picked_row, merged_rows}
 use Rattle.col_value_merge.specs.TermColumns.{term_columns, remapped_columns}
+use Rattle.col_rows.proofs.TextLemmas.{term_column-read}
 use Rattle.col_text_merge.specs.Noting.{Noted, ord_by, ords_by}
 use Rattle.col_text_merge.specs.Merged.{picked_cells, shapes_of, merged_content, has_long_terms}
 use Rattle.col_text_merge.specs.Taking.{AreTold, IsTaken, IsNowhere, AreNoted}
@@ -78,16 +75,6 @@ module _ (columns : List Texts) (order : Order) (n : Noted) (told : AllByRecursi
       (ap₂ (λ a b. a ∷ b) row.0 rest.0, and_from (are_below (length found) (picked_row (remapped_columns columns maps) p)) (list_all (are_below (length found)) (merged_rows (remapped_columns columns maps) ps)) row.1 rest.1)
 
 -- ---- the column
-
--- a dictionary and what stands behind it, cut again
-parts-w32 : (a b : List ℕ) → length a < 2 ^ 32 → parts_by_first w32 ((a ++ b) ++ to_le_bytes w32 (length a)) ≡ Some (a, b)
-unfolding parts_by_first
-parts-w32 a b h = rw (back-append 4 (a ++ b) (to_le_bytes w32 (length a)) refl) (front-append _ a b (from_le_bytes-to_le_bytes_4 (length a) h))
-
-term_column-read : (dict numbers : List ℕ) (t : ColumnType) (n : ℕ) (found : List (List ℕ)) (c : Counts) (rows : List (List ℕ)) → has_terms t ≡ true → length dict < 2 ^ 32 → terms dict ≡ Some found → number_rows numbers t 2 n ≡ Some (c, rows) → list_all (are_below (length found)) rows ≡ true → column ((dict ++ numbers) ++ to_le_bytes w32 (length dict)) t 2 n ≡ Some (content_of found (term_cell found) (c, rows))
-unfolding column term_column
-term_column-read dict numbers t n found c rows has short is read below =
-    rw (has, parts-w32 dict numbers short, is, read, below) refl
 
 module _ (columns : List Texts) (order : Order) (n : Noted) (told : AllByRecursion AreTold columns) (h : AreNoted columns (IsTaken columns order) IsNowhere n) (given : TermsAreThoseGiven) where
   -- the bytes of the terms are too long where those of the merged ones are

@@ -1,31 +1,18 @@
 -- The bytes of a dictionary that is written.
-use Rattle.std.proofs.Common.{◌≡◌, ℕ, ◌+◌, ◌*◌, ◌<◌, ◌^◌, false, List, [], length, unwrap_or, Some, sym, ap, ◌∙◌, arith}
-use Rattle.std.specs.Prelude.{nat_le, bytes_eq, sum_by}
-use Rattle.std.specs.List.{IsDistinct}
-use Rattle.std.proofs.lemmas.List.Sorted.{length_permutation, sum_by-IsPermutation}
+use Rattle.std.proofs.Common.{◌≡◌, ℕ, ◌<◌, ◌^◌, false, List, [], length, unwrap_or, Some, sym, ap, ◌∙◌}
 use Rattle.col_model.specs.Dictionary.{terms}
 use Rattle.col_model.specs.Limits.{dictionary_length}
 use Rattle.col_terms.specs.Building.{ordered, is_too_long}
 use Rattle.col_terms.specs.Laws.{TermsAreThoseGiven, DictionariesAreReadBack}
 use Rattle.col_terms.specs.TermTable.{dictionary_bytes, terms_of, IsTable}
-use Rattle.col_terms.proofs.OrderedLemmas.{permutation-ordered}
 use Rattle.col_terms.proofs.TableLemmas.{table_length}
+use Rattle.col_rows.proofs.TextLemmas.{within}
 
 -- the bytes of terms stand for them, and 32 bits count them
 pub record AreWritten (ts : List (List ℕ)) : Type 0 where
   pub read : terms (dictionary_bytes (ordered ts)) ≡ Some (ordered ts)
   pub long : length (dictionary_bytes (ordered ts)) ≡ dictionary_length (ordered ts)
   pub short : dictionary_length (ordered ts) < 2 ^ 32
-
-within : (m : ℕ) → nat_le (2 ^ 32) m ≡ false → m < 2 ^ 32
-within m e = grind arith
-
--- where no term is there twice, the length is that of the terms as they came
-pub short-length : (ts : List (List ℕ)) → IsDistinct bytes_eq ts → is_too_long ts ≡ false → (dictionary_length (ordered ts) ≡ 4 + 4 * length ts + sum_by length ts) × (4 + 4 * length ts + sum_by length ts < 2 ^ 32)
-short-length ts d e =
-    let same = permutation-ordered ts d in
-    let total : dictionary_length (ordered ts) ≡ 4 + 4 * length ts + sum_by length ts = omega (arith, length_permutation ts (ordered ts) same, sum_by-IsPermutation length ts (ordered ts) same) in
-    (total, omega (arith, total, within (dictionary_length (ordered ts)) e))
 
 pub written : (ts : List (List ℕ)) → TermsAreThoseGiven → DictionariesAreReadBack → is_too_long ts ≡ false → AreWritten ts
 unfolding terms_of

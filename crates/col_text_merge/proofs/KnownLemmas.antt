@@ -1,7 +1,5 @@
 -- Lists of terms, and what is one of them.
 use Rattle.std.proofs.Common.{◌≡◌, ◌⊎◌, ℕ, zero, suc, Bool, true, false, ◌||◌, List, [], ◌∷◌, ◌++◌, map, filter_map, bytes_eq, Some, slice_get, refl, sym, ap, ◌∙◌, subst, inl, inr}
-use Rattle.std.specs.Ordering.{nat_cmp}
-use Rattle.std.specs.Cmp.Lexicographic.{slice_cmp}
 use Rattle.std.specs.BTreeSet.{BTreeSet}
 use Rattle.std.proofs.lemmas.Bool.{true≢false}
 use Rattle.std.proofs.lemmas.Cmp.{nat_list_cmp_total}
@@ -9,10 +7,9 @@ use Rattle.std.proofs.lemmas.Map.Lookups.{exact_bytes, btree_set_from_contains}
 use Rattle.col_model.specs.Table.{Cell, text, number}
 use Rattle.col_model.specs.U64List.{joined_lists}
 use Rattle.col_model.specs.Written.{text_of}
-use Rattle.col_model.proofs.DistinctLaws.{has-distinct}
 use Rattle.col_model.proofs.OrderingLaws.{bytes_eq-true, bytes_eq-same}
 use Rattle.col_model.proofs.SoundTables.{among-has}
-use Rattle.col_terms.specs.Building.{is_known, ordered}
+use Rattle.col_terms.specs.Building.{is_known}
 use Rattle.col_terms.proofs.OrderedLemmas.{AreInOrder}
 use Rattle.col_term_merge.specs.Numbering.{IsIn}
 use Rattle.col_term_merge.proofs.ItemLemmas.{in-left, in-right}
@@ -42,20 +39,11 @@ in-known (u ∷ ts) t i = elim i [ inl e ↦ first e | inr rest ↦ later (in-kn
         go true = refl
         go false = h
 
--- the terms in order are those that are there
-pub known-ordered : (ts : List (List ℕ)) (t : List ℕ) → is_known (ordered ts) t ≡ is_known ts t
-known-ordered ts t = among-has t (ordered ts) ∙ has-distinct (slice_cmp nat_cmp) nat_list_cmp_total t ts ∙ sym (among-has t ts)
-
 -- lists in order with the same terms are one
 pub same-ordered : (xs ys : List (List ℕ)) → AreInOrder xs → AreInOrder ys → ((t : List ℕ) → is_known xs t ≡ is_known ys t) → xs ≡ ys
 same-ordered xs ys s t same =
     let set_of : List (List ℕ) → BTreeSet (List ℕ) = λ zs. record { keys = zs } in
     btree_set_from_contains nat_list_cmp_total (set_of xs) (set_of ys) s t (λ q. sym (among-has q xs) ∙ same q ∙ among-has q ys) exact_bytes
-
-pub both : (a b : Bool) → (a ≡ true → b ≡ true) → (b ≡ true → a ≡ true) → a ≡ b
-both true b f g = sym (f refl)
-both false true f g = g refl
-both false false f g = refl
 
 -- ---- items of lists
 

@@ -1,30 +1,15 @@
 -- Terms of columns that are noted one by one.
 use Rattle.std.proofs.Common.{◌≡◌, ◌⊎◌, ℕ, zero, suc, ◌<◌, Bool, true, false, cond, List, [], ◌∷◌, ◌++◌, map, length, replicate, is_some, Option, Some, None, slice_get, refl, sym, ap, ◌∙◌, subst, inl, inr, arith}
-use Rattle.std.specs.Prelude.{option_and_then}
 use Rattle.std.proofs.lemmas.Bool.{true≢false}
+use Rattle.std.proofs.lemmas.Option.{slice_get_within}
 use Rattle.col_text.specs.Texts.{Texts}
 use Rattle.col_terms.specs.Building.{is_known, with_term, Allocates}
 use Rattle.col_term_merge.specs.Numbering.{terms_of, item_at}
 use Rattle.col_term_merge.proofs.ItemLemmas.{some-same}
-use Rattle.col_text_merge.specs.Noting.{Noted, no_ids_of, nothing_noted, HasId, HasIdIf, Sets, Notes, IsNoted}
+use Rattle.col_text_merge.specs.Noting.{Noted, no_ids_of, nothing_noted, HasIdIf, Sets, Notes, IsNoted}
 use Rattle.col_text_merge.specs.Taking.{Place, IsPlace, StandsAt, AreNoted}
 
 -- ---- one term
-
--- a place that has its id
-pub notes-there : (n : Noted) (p : ℕ × ℕ) (t : List ℕ) → HasIdIf n p t → is_some (option_and_then (λ id. id) (item_at n.ids p)) ≡ true → Notes p t n n
-notes-there n p t held some = record {
-  lengths = refl;
-  told = go (item_at n.ids p) refl some;
-  others = λ q. inr refl;
-  stay = λ id h. refl;
-  came = λ id h. inl h;
-}
-  where
-    go : (o : Option (Option ℕ)) → item_at n.ids p ≡ o → is_some (option_and_then (λ id. id) o) ≡ true → HasId n p t
-    go None e h = absurd (true≢false (sym h))
-    go (Some None) e h = absurd (true≢false (sym h))
-    go (Some (Some id)) e h = record { id = id; there = e; is = held id e }
 
 -- the last of a list
 last-is : (ts : List (List ℕ)) (t : List ℕ) → slice_get (ts ++ t ∷ []) (length ts) ≡ Some t
@@ -71,12 +56,6 @@ notes-new n m p t id a s = record {
 
 -- ---- all terms
 
--- what has an item lies within
-pub get-below : {X : Type 0} (xs : List X) (i : ℕ) (x : X) → slice_get xs i ≡ Some x → i < length xs
-get-below [] i x e = cc
-get-below (y ∷ xs) zero x e = omega arith
-get-below (y ∷ xs) (suc i) x e = let more = get-below xs i x e in omega (arith, more)
-
 pub some-item : {X : Type 0} (o : Option X) → is_some o ≡ true → (x : X) × (o ≡ Some x)
 some-item None e = absurd (true≢false (sym e))
 some-item (Some x) e = (x, refl)
@@ -90,7 +69,7 @@ module _ (columns : List Texts) (Whole : Place → Type 0) where
   id-below Left n h q id e =
       let there : is_some (item_at (terms_of columns) q) ≡ true = sym (some-same (terms_of columns) n.ids h.lengths q.0 q.1) ∙ ap is_some e in
       let item = some-item (item_at (terms_of columns) q) there in
-      get-below n.terms id item.0 (h.ids q id e ∙ item.1)
+      slice_get_within n.terms id item.0 (h.ids q id e ∙ item.1)
 
   pub noted-more : (Left Next : Place → Type 0) (n m : Noted) (p : Place) (t : List ℕ) → AreNoted columns Whole Left n → Whole p → item_at (terms_of columns) p ≡ Some t → Notes p t n m → ((q : Place) → Whole q → Left q → (q ≡ p) ⊎ Next q) → AreNoted columns Whole Next m
   noted-more Left Next n m p t h here is notes next = record {

@@ -4,7 +4,7 @@ use Rattle.std.specs.Prelude.{option_and_then, nat_lt}
 use Rattle.std.specs.List.{AllByRecursion, list_all}
 use Rattle.std.proofs.lemmas.Bool.{and_from, and_parts, lt-ltb}
 use Rattle.std.proofs.lemmas.List.{length-map}
-use Rattle.std.proofs.lemmas.Option.{slice_get-map, none-some}
+use Rattle.std.proofs.lemmas.Option.{slice_get-map, none-some, slice_get_within}
 use Rattle.col_model.specs.Ascending.{are_below}
 use Rattle.col_model.specs.Column.{term_cell}
 use Rattle.col_model.specs.Order.{Order, has_row, picks}
@@ -25,7 +25,7 @@ use Rattle.col_value_merge.proofs.MergedRowLemmas.{picks-there}
 use Rattle.col_value_merge.proofs.RemappedLemmas.{remapped-are}
 use Rattle.col_text_merge.specs.Noting.{Noted, IsIdBelow, ord_by, ords_by}
 use Rattle.col_text_merge.specs.Taking.{AreTold, Place, IsNowhere, AreNoted}
-use Rattle.col_text_merge.proofs.NoteLemmas.{some-item, id-below, get-below}
+use Rattle.col_text_merge.proofs.NoteLemmas.{some-item, id-below}
 use Rattle.col_text_merge.proofs.TakeLemmas.{item-of}
 use Rattle.col_text_merge.proofs.PickLemmas.{row-segment}
 
@@ -86,7 +86,7 @@ module _ (columns : List Texts) (Whole : Place → Type 0) (n : Noted) (h : AreN
           let low = id-below columns Whole IsNowhere n h (k, o) id f in
           let same : slice_get (ordered n.terms) (slice_index (map (ord_by (ordinals n.terms)) ids) o) ≡ item_at (terms_of columns) (k, o) = ap (slice_get (ordered n.terms)) at ∙ given.places n.terms id low ∙ h.ids (k, o) id f in
           let item = some-item (item_at (terms_of columns) (k, o)) (h.whole (k, o) w) in
-          record { below = get-below (ordered n.terms) (slice_index (map (ord_by (ordinals n.terms)) ids) o) item.0 (same ∙ item.1); same = same }
+          record { below = slice_get_within (ordered n.terms) (slice_index (map (ord_by (ordinals n.terms)) ids) o) item.0 (same ∙ item.1); same = same }
 
   -- so are those of a row, as cells and as ordinals
   pub row-turned : (k : ℕ) (c : Texts) (ids : List (Option ℕ)) → slice_get columns k ≡ Some c → slice_get n.ids k ≡ Some ids → (os : List ℕ) → ((o : ℕ) → IsIn o os → Whole (k, o))

@@ -2,7 +2,7 @@
 use Rattle.std.proofs.Common.{◌≡◌, ℕ, ◌+◌, ◌<◌, true, List, [], ◌∷◌, length, drop, get_or, is_some, unwrap_or, Some, slice_get, refl, sym, ap, ◌∙◌, subst}
 use Rattle.std.specs.List.{list_all}
 use Rattle.std.proofs.lemmas.List.{drop_more}
-use Rattle.std.proofs.lemmas.Option.{slice_get-get_or}
+use Rattle.std.proofs.lemmas.Option.{slice_get-get_or, slice_get_within}
 use Rattle.col_common.specs.declared.error.ColumnarError.{ColumnarError}
 use Rattle.col_model.specs.Order.{shuffle, has_row}
 use Rattle.col_column.specs.Columns.{row_at, docs_in, rows_in}
@@ -14,7 +14,7 @@ use Rattle.col_value_merge.specs.Merges.{picked_row}
 use Rattle.col_value_merge.specs.TermColumns.{term_columns}
 use Rattle.col_text_merge.specs.Noting.{Noted, HasIdIf, Notes, IsNoteRefusal}
 use Rattle.col_text_merge.specs.Taking.{IsPicked, IsAhead, AreNoted, TakesRow, IsTakeRefusal}
-use Rattle.col_text_merge.proofs.NoteLemmas.{get-below, noted-more, noted-less, noted-held, noted-within}
+use Rattle.col_text_merge.proofs.NoteLemmas.{noted-more, noted-less, noted-held, noted-within}
 use Rattle.col_text_merge.proofs.TakeLemmas.{place-at, place-below}
 use Rattle.col_text_merge.proofs.PickLemmas.{row_counts_of, named-row, row-segment, row-within, picked-is, ahead-start, ahead-more, ahead-end}
 use Rattle.col_text_merge.proofs.KnownLemmas.{get-in}
@@ -37,7 +37,7 @@ module _ (columns : List Texts) (counts : List ℕ) (rows : List (ℕ × ℕ)) (
 -- what is left from an item on
 drop-from : {X : Type 0} (xs : List X) (i : ℕ) (x : X) → slice_get xs i ≡ Some x → drop i xs ≡ x ∷ drop (i + 1) xs
 drop-from xs i x e =
-    let low = get-below xs i x e in
+    let low = slice_get_within xs i x e in
     drop_more xs i x low ∙ ap (λ o. unwrap_or o x ∷ drop (i + 1) xs) (sym (slice_get-get_or xs i x low) ∙ e)
 
 -- at first all of its ordinals are left

@@ -10,19 +10,8 @@ use Rattle.std.specs.declared.vec.Vec.{Vec}
 use Rattle.std.specs.declared.alloc.Global.{Global}
 use Rattle.std.proofs.Math.ListN.{length-set}
 use Rattle.col_term_merge.specs.Numbering.{item_at}
+use Rattle.col_term_merge.proofs.ItemLemmas.{get-set-same, get-set-other}
 use Rattle.col_text_merge.specs.Noting.{ids_of, Sets}
-
-get-set-same : {X : Type 0} (xs : List X) (i : ℕ) (w v : X) → slice_get xs i ≡ Some v → slice_get (set xs i w) i ≡ Some w
-get-set-same [] i w v e = cc
-get-set-same (x ∷ xs) zero w v e = refl
-get-set-same (x ∷ xs) (suc i) w v e = get-set-same xs i w v e
-
-get-set-other : {X : Type 0} (xs : List X) (i k : ℕ) (w : X) → k ≢ i → slice_get (set xs i w) k ≡ slice_get xs k
-get-set-other [] i k w ne = refl
-get-set-other (x ∷ xs) zero zero w ne = absurd (ne refl)
-get-set-other (x ∷ xs) zero (suc k) w ne = refl
-get-set-other (x ∷ xs) (suc i) zero w ne = refl
-get-set-other (x ∷ xs) (suc i) (suc k) w ne = get-set-other xs i k w (λ e. ne (ap suc e))
 
 lengths-set : {X : Type 0} (m : List (List X)) (i j : ℕ) (x : X) (row : List X) → slice_get m i ≡ Some row → map length (set m i (set row j x)) ≡ map length m
 lengths-set [] i j x row e = refl

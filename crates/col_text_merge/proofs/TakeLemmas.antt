@@ -4,12 +4,12 @@ use Rattle.std.specs.Prelude.{option_and_then}
 use Rattle.std.specs.List.{AllByRecursion}
 use Rattle.std.proofs.lemmas.Bool.{true≢false, eqb-true, eq-eqb}
 use Rattle.std.proofs.lemmas.List.{take_more}
-use Rattle.std.proofs.lemmas.Option.{slice_get-map, slice_get-get_or}
+use Rattle.std.proofs.lemmas.Option.{slice_get-map, slice_get-get_or, slice_get_within}
 use Rattle.col_model.proofs.ListLaws.{all_push}
 use Rattle.col_text.specs.Texts.{Texts}
 use Rattle.col_term_merge.specs.Numbering.{terms_of, item_at}
 use Rattle.col_text_merge.specs.Taking.{Place, IsPlace, IsFrom, IsNowhere}
-use Rattle.col_text_merge.proofs.NoteLemmas.{some-item, get-below}
+use Rattle.col_text_merge.proofs.NoteLemmas.{some-item}
 
 -- ---- the terms of a column
 
@@ -27,7 +27,7 @@ place-at columns segment ord c e low =
 pub place-below : (columns : List Texts) (segment ord : ℕ) (c : Texts) → slice_get columns segment ≡ Some c → IsPlace columns (segment, ord) → ord < length c.terms
 place-below columns segment ord c e there =
     let item = some-item (item_at (terms_of columns) (segment, ord)) there in
-    get-below c.terms ord item.0 (sym (item-of columns segment ord c e) ∙ item.1)
+    slice_get_within c.terms ord item.0 (sym (item-of columns segment ord c e) ∙ item.1)
 
 -- at first all places are left
 pub from-all : (q : Place) → IsFrom 0 0 q

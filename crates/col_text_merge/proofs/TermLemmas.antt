@@ -5,6 +5,7 @@ use Rattle.std.proofs.lemmas.Bool.{true≢false, or_parts}
 use Rattle.std.specs.Cmp.{IsEquivalence}
 use Rattle.std.proofs.lemmas.Map.Keys.{IsDistinct-cons}
 use Rattle.std.proofs.lemmas.Map.Made.{length-le_from_is_member}
+use Rattle.std.proofs.lemmas.Option.{slice_get_within}
 use Rattle.col_common.specs.declared.error.ColumnarError.{ColumnarError}
 use Rattle.col_model.specs.Column.{term_cell}
 use Rattle.col_model.specs.Order.{Order, stack, shuffle}
@@ -12,22 +13,24 @@ use Rattle.col_model.specs.Table.{text}
 use Rattle.col_model.specs.U64List.{joined_lists}
 use Rattle.col_model.specs.Written.{text_of}
 use Rattle.col_model.proofs.OrderingLaws.{bytes_eq-true, bytes_eq-same}
+use Rattle.col_model.proofs.TestLaws.{both-ways}
 use Rattle.col_terms.specs.Building.{is_known, ordered}
 use Rattle.col_terms.proofs.OrderedLemmas.{AreInOrder, in_order-ordered}
+use Rattle.col_terms.proofs.GivenLemmas.{known-ordered}
 use Rattle.col_column.specs.Columns.{row_at, rows_in}
 use Rattle.col_numbers.specs.NumValues.{num_values_of}
+use Rattle.col_column.proofs.CellLemmas.{row-map}
 use Rattle.col_text.specs.Texts.{Texts}
 use Rattle.col_term_merge.specs.Numbering.{terms_of, item_at, IsIn}
 use Rattle.col_term_merge.proofs.ItemLemmas.{in-map, in-left, in-right}
 use Rattle.col_value_merge.specs.Merges.{picked_row}
 use Rattle.col_value_merge.specs.TermColumns.{term_columns}
-use Rattle.col_value_merge.proofs.MergedCellLemmas.{row-map}
 use Rattle.col_text_merge.specs.Noting.{Noted, IsPastIds, IsNoteRefusal}
 use Rattle.col_text_merge.specs.Merged.{picked_cells, merged_terms, has_long_terms}
 use Rattle.col_text_merge.specs.Taking.{AreTold, Place, IsPicked, IsTaken, IsNowhere, AreNoted, IsTakeRefusal}
-use Rattle.col_text_merge.proofs.NoteLemmas.{some-item, get-below}
+use Rattle.col_text_merge.proofs.NoteLemmas.{some-item}
 use Rattle.col_text_merge.proofs.PickLemmas.{picked-is, picked-there}
-use Rattle.col_text_merge.proofs.KnownLemmas.{known-in, in-known, known-ordered, same-ordered, both, in-either, get-in, in-get, text-in, in-text, in-mapped, InJoined, in-joined, joined-in}
+use Rattle.col_text_merge.proofs.KnownLemmas.{known-in, in-known, same-ordered, in-either, get-in, in-get, text-in, in-text, in-mapped, InJoined, in-joined, joined-in}
 
 -- ---- the terms of all columns
 
@@ -129,14 +132,14 @@ module _ (columns : List Texts) (order : Order) (Left : Place → Type 0) (n : N
   pub noted-known : (t : List ℕ) → is_known n.terms t ≡ true → is_known (merged_terms columns order) t ≡ true
   noted-known t e =
       let at = in-get n.terms t (known-in n.terms t e) in
-      let from = h.from at.0 (get-below n.terms at.0 t at.1) in
+      let from = h.from at.0 (slice_get_within n.terms at.0 t at.1) in
       taken-known columns order t (record { place = from.place; whole = from.whole; is = sym from.is ∙ at.1 })
 
 -- the noted terms in order are the merged ones
 pub noted-merged : (columns : List Texts) (order : Order) (n : Noted) → AllByRecursion AreTold columns → AreNoted columns (IsTaken columns order) IsNowhere n → ordered n.terms ≡ merged_terms columns order
 noted-merged columns order n told h =
     same-ordered (ordered n.terms) (merged_terms columns order) (in_order-ordered n.terms) (merged-in_order columns order)
-    (λ t. known-ordered n.terms t ∙ both (is_known n.terms t) (is_known (merged_terms columns order) t) (noted-known columns order IsNowhere n h t) (back t))
+    (λ t. known-ordered n.terms t ∙ both-ways (is_known n.terms t) (is_known (merged_terms columns order) t) (noted-known columns order IsNowhere n h t) (back t))
   where
     back : (t : List ℕ) → is_known (merged_terms columns order) t ≡ true → is_known n.terms t ≡ true
     back t e =
@@ -151,7 +154,7 @@ noted-merged columns order n told h =
 bytes_equal : IsEquivalence bytes_eq
 bytes_equal = record {
   refl = bytes_eq-same;
-  symm = λ x y. both (bytes_eq x y) (bytes_eq y x) (turn x y) (turn y x);
+  symm = λ x y. both-ways (bytes_eq x y) (bytes_eq y x) (turn x y) (turn y x);
   congr = λ x y z e. ap (λ w. bytes_eq w z) (bytes_eq-true x y e);
 }
   where

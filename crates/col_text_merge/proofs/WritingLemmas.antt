@@ -1,16 +1,16 @@
 -- What calls leave of a merged column.
-use Rattle.std.proofs.Common.{◌≡◌, ◌⊎◌, ℕ, ◌<◌, ◌^◌, sum, Bool, true, false, List, [], ◌∷◌, ◌++◌, map, length, unwrap_or, Some, Result, Ok, Err, append_assoc, refl, sym, ap, ◌∙◌, subst, inl, inr, arith}
-use Rattle.std.specs.Prelude.{OnOk}
+use Rattle.std.proofs.Common.{◌≡◌, ◌⊎◌, ℕ, ◌<◌, ◌^◌, sum, Bool, true, false, List, [], ◌++◌, map, length, unwrap_or, Some, Result, Ok, Err, append_assoc, refl, sym, ap, ◌∙◌, subst, inl, inr, arith}
 use Rattle.std.specs.Int.{w32, to_le_bytes}
-use Rattle.std.specs.List.{AllByRecursion, list_all}
-use Rattle.std.proofs.lemmas.Bool.{true≢false, and_from, eq-eqb}
+use Rattle.std.specs.List.{AllByRecursion}
+use Rattle.std.proofs.lemmas.Bool.{true≢false, eq-eqb}
 use Rattle.std.proofs.lemmas.List.{length-map, map-id}
 use Rattle.col_common.specs.Outside.{SeenSink}
 use Rattle.col_common.specs.Serializing.{Serializes}
 use Rattle.col_common.specs.declared.error.ColumnarError.{ColumnarError}
 use Rattle.col_common.specs.declared.error.ColumnarError.TheVariants.{OutOfMemory, TooLarge}
 use Rattle.col_common.proofs.SerializingLemmas.{serializes-then, serializes-no_memory}
-use Rattle.col_model.specs.Column.{number_rows, is_stored}
+use Rattle.col_common.proofs.OnOkLemmas.{on_ok-always, on_ok-map}
+use Rattle.col_model.specs.Column.{number_rows}
 use Rattle.col_model.specs.ColumnType.{ColumnType, has_terms}
 use Rattle.col_model.specs.ColumnType as types
 use Rattle.col_model.specs.Index.{Counts, Shape, empty_shape, full_shape, optional_shape, multivalued_shape, counts_over}
@@ -25,7 +25,7 @@ use Rattle.col_terms.specs.Building.{ordered, ordinals, is_too_long, SerializesW
 use Rattle.col_terms.specs.Laws.{TermsAreThoseGiven, DictionariesAreReadBack}
 use Rattle.col_terms.specs.TermTable.{dictionary_bytes}
 use Rattle.col_column.specs.Columns.{row_count, counts_seen, IsCounted}
-use Rattle.col_column.specs.Written.{Stores64, StandForRows}
+use Rattle.col_column.specs.Written.{StandForRows}
 use Rattle.col_rows.specs.Counted.{SerializesColumn}
 use Rattle.col_text.specs.Texts.{Texts}
 use Rattle.col_term_merge.specs.Numbering.{IsIn}
@@ -33,6 +33,7 @@ use Rattle.col_value_merge.specs.Merges.{Merge, IsMerge, picked_row, merged_rows
 use Rattle.col_value_merge.specs.Laws.{MergedValuesAreRows, IsOrdered, HasPickedRows}
 use Rattle.col_value_merge.proofs.MergedRowLemmas.{length-merged, picks-there}
 use Rattle.col_value_merge.specs.TermColumns.{remapped_columns}
+use Rattle.col_rows.proofs.TextLemmas.{stores-terms}
 use Rattle.col_text_merge.specs.Noting.{Noted, ords_by}
 use Rattle.col_text_merge.specs.Merged.{shapes_of, merged_content, MergesTexts, has_long_terms}
 use Rattle.col_text_merge.specs.Taking.{AreTold, IsTaken, IsNowhere, AreNoted}
@@ -69,10 +70,6 @@ pub texts-refused : (b : Bool) (sink : SeenSink) (e : ColumnarError) (t : Column
 texts-refused true sink e t n content h = record { same = refl; refused = elim h [ inl f ↦ inr (ap Err f) | inr f ↦ inl (ap Err f.0) ] }
 texts-refused false sink e t n content h = record { bytes = []; again = tt; written = elim h [ inl f ↦ subst (λ r. Serializes sink sink (Err r) []) (sym f) (serializes-no_memory sink []) | inr f ↦ absurd (true≢false (sym f.1)) ] }
 
-on_ok-map : {P Q : Type 0} (result : Result (Unit {0}) ColumnarError) → (P → Q) → OnOk result P → OnOk result Q
-on_ok-map (Ok done) f h = f h
-on_ok-map (Err e) f h = tt
-
 -- ---- the whole column
 
 merges-within : (long : Bool) (old new : SeenSink) (result : Result (Unit {0}) ColumnarError) (t : ColumnType) (n : ℕ) (content : Content) → long ≡ false → SerializesColumn old new result t n content → MergesTexts long old new result t n content
@@ -98,20 +95,6 @@ module _ (columns : List Texts) (order : Order) (n : Noted) (told : AllByRecursi
 
 -- ---- ordinals behind a dictionary
 
--- a type of terms stores any numbers
-stores-all : (xs : List ℕ) (p : ℕ → Bool) → ((x : ℕ) → p x ≡ true) → list_all p xs ≡ true
-stores-all [] p h = refl
-stores-all (x ∷ xs) p h = and_from (p x) (list_all p xs) (h x) (stores-all xs p h)
-
-stores-terms : (t : ColumnType) (xs : List ℕ) → has_terms t ≡ true → Stores64 t xs
-stores-terms types.str xs e = record { list = λ bytes. refl; images = stores-all xs (is_stored types.str) (λ x. refl) }
-stores-terms types.bytes xs e = record { list = λ bytes. refl; images = stores-all xs (is_stored types.bytes) (λ x. refl) }
-stores-terms types.i64 xs e = absurd (cc)
-stores-terms types.u64 xs e = absurd (cc)
-stores-terms types.bool xs e = absurd (cc)
-stores-terms types.ip xs e = absurd (cc)
-stores-terms types.datetime xs e = absurd (cc)
-
 -- a shape that counts rows has their counts
 counts-own : (s : Shape) (m : ℕ) → counts_over (row_count s m) s ≡ Some (counts_seen s m)
 counts-own (empty_shape k) m = rw (eq-eqb k k refl) refl
@@ -121,10 +104,6 @@ counts-own (multivalued_shape cs) m = rw (eq-eqb (length cs) (length cs) refl) r
 
 counts-whole : (n m : ℕ) (s : Shape) (counts : Counts) → row_count s m ≡ n → counts_over n s ≡ Some counts → counts_seen s m ≡ counts
 counts-whole n m s counts rows e = ap (λ o. unwrap_or o counts) (sym (counts-own s m) ∙ ap (λ k. counts_over k s) rows ∙ e)
-
-on_ok-always : {P : Type 0} (result : Result (Unit {0}) ColumnarError) → P → OnOk result P
-on_ok-always (Ok done) h = h
-on_ok-always (Err e) h = tt
 
 module _ (m v : Merge ℕ) (same : v ≡ m) (is : IsMerge m) (in_order : IsOrdered m) where
   -- as many ordinals as are counted

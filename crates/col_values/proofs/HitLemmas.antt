@@ -7,16 +7,17 @@ use Rattle.std.specs.declared.cmp.Ordering.{Ordering}
 use Rattle.std.specs.List.Sorted.{IsStrictlyIncreasing}
 use Rattle.std.proofs.lemmas.List.Kept.{IsStrictlyIncreasing-filter}
 use Rattle.std.proofs.lemmas.Grind.{common_steps}
-use Rattle.std.proofs.lemmas.List.{map-id, take_more, take_more_set, take-set, drop_more, get_or-drop, length-drop, length-map}
+use Rattle.std.proofs.lemmas.List.{take_more, take_more_set, take-set, drop_more, get_or-drop, length-drop, length-map}
 use Rattle.std.proofs.lemmas.List.Elements.{filter-append, filter_agree, recursion_from_All}
-use Rattle.std.proofs.lemmas.List.FromFn.{map-range_with_len_more, length-range_with_len, get_or-range_with_len}
+use Rattle.std.proofs.lemmas.List.FromFn.{length-range_with_len, get_or-range_with_len}
 use Rattle.std.proofs.lemmas.Option.{get_or_from_slice_get}
+use Rattle.std.specs.Int.{is_in_range}
+use Rattle.std.proofs.lemmas.Bool.Decides.{nat_tests}
 use Rattle.col_common.proofs.OrderingLemmas.{range_rises}
+use Rattle.col_model.proofs.ListLaws.{range-more}
 use Rattle.col_values.specs.Monotonic.{Passes}
 use Rattle.col_values.specs.Values.{passes, hits, hits_between, is_between, span}
-
-one_more : (a n : ℕ) → range_with_len a (n + 1) ≡ range_with_len a n ++ ((a + n) ∷ [])
-one_more a n = sym (map-id _) ∙ map-range_with_len_more (λ k. k) a n (a + n) refl ∙ ap (λ l. l ++ ((a + n) ∷ [])) (map-id _)
+use Rattle.col_values.specs.Codes.{number_cmp}
 
 -- no position, no hit
 pub hits_none : {T : Type 0} (test : T → Bool) (values : List T) (from n : ℕ) → n ≡ 0 → hits test values from n ≡ []
@@ -28,7 +29,7 @@ hits_more : {T : Type 0} (test : T → Bool) (values : List T) (from n m row : �
 unfolding hits
 hits_more test values from n m row v b at next value answer =
     let p = λ (k : ℕ). passes test (slice_get values k) in
-    let e : filter p (range_with_len from (n + 1)) ≡ filter p (range_with_len from n) ++ filter p ((from + n) ∷ []) = ap (filter p) (one_more from n) ∙ filter-append p (range_with_len from n) _ in
+    let e : filter p (range_with_len from (n + 1)) ≡ filter p (range_with_len from n) ++ filter p ((from + n) ∷ []) = ap (filter p) (range-more from n) ∙ filter-append p (range_with_len from n) _ in
     ap (hits test values from) next ∙ e ∙ ap (λ k. hits test values from n ++ filter p (k ∷ [])) at
     ∙ ap (λ w. hits test values from n ++ cond (passes test w) (row ∷ []) []) value
     ∙ ap (λ w. hits test values from n ++ cond w (row ∷ []) []) answer
@@ -127,3 +128,14 @@ module _ {X Y : Type 0} (cx : X → X → Option Ordering) (cy : Y → Y → Opt
   moved_ends a b from_low to_high from to =
       hits_mapped is_in there (is_between cy low high) (is_between cx a b) (λ x h. ap₂ (λ s t. s && t) (from_low x h) (to_high x h)) values all from (span (length (map there values)) from to)
       ∙ ap (λ n. hits (is_between cx a b) values from (span n from to)) (length-map values there)
+
+-- tests that agree on a range find the same in it
+pub rows_same : (p q : ℕ → Bool) (a n : ℕ) → ((k : ℕ) → a ≤ k → k < a + n → p k ≡ q k) → filter p (range_with_len a n) ≡ filter q (range_with_len a n)
+rows_same p q a zero same = refl
+rows_same p q a (suc n) same =
+    let rest = rows_same p q (a + 1) n (λ k h l. same k (omega arith) (omega arith)) in
+    rw (same a (omega arith) (omega arith), rest) refl
+
+-- numbers between two bounds are those in their range
+pub in_between : (low high x : ℕ) → is_between number_cmp low high x ≡ is_in_range low high x
+in_between low high x = grind (arith, nat_tests)

@@ -23,8 +23,8 @@ const PATHS: &[u8] = b"\0\0\0\0\0\0\0\0\0\0\
 \x84\x86col1\0\x04\x81\x8ecol1\x01subcol1\0\x04\x82\x8ecol1\x01subcol2\0\0\x83\x86col2\0\x04\x84\
 \x31\0\0\0\0\0\0\0\0\0\0\0\x02\0\0\0\x02qwB";
 
-// Ends that the format doesn't have: one that is cut, a magic byte, a length of the key table, a code
-// of a type, and two numerical columns of one name.
+// Ends that the format doesn't have: one that is cut, a magic byte, a length of the key table, a
+// code of a type, and two numerical columns of one name.
 const REFUSED: [&[u8]; 5] = [
     b"\x80\x01\0\0\0\0\0\0\0\0\0\0\0\x02\0\0\0\x02q",
     b"\x80\x01\0\0\0\0\0\0\0\0\0\0\0\x02\0\0\0\x02qwC",

@@ -195,6 +195,9 @@ fn equals(rt: &impl Abort, reader: &U64Values, vals: &[u64], what: &str) {
         let mut part = [0; 4];
         reader.get_range(510, &mut part);
         assert_eq!(rt; part.as_slice(), &vals[510..514], "{what} in two blocks");
+        let (last, first) = reader.get_pair(511);
+        assert_eq!(rt; last, vals[511], "{what} at a block's end");
+        assert_eq!(rt; first, vals[512], "{what} at the next one's start");
     }
 }
 

@@ -1,6 +1,7 @@
 use Rattle.std.proofs.lemmas.Result.{err_from_is_err_and}
 use Rattle.col_common.proofs.SerializingLemmas.{serializes-stopped}
-use Rattle.col_column.proofs.SerializeNumberLemmas.{on_ok, numbers-written, appended-fit, length-behind}
+use Rattle.col_common.proofs.OnOkLemmas.{on_ok-always}
+use Rattle.col_column.proofs.SerializeNumberLemmas.{numbers-written, appended-fit, length-behind}
 use Rattle.col_column.proofs.serialize.serialize_numbers_behind.Goals as goal
 
 pub returns-in_err-serialize_u64_based_column_values-clause-ok : goal.returns-in_err-serialize_u64_based_column_values-clause-ok
@@ -15,4 +16,4 @@ returns-clause-ok g c =
 
 pub returns-clause-fit : goal.returns-clause-fit
 returns-clause-fit g c =
-    on_ok _ (appended-fit (g.K.Sink.seen c.args.sink.now) (g.K.Sink.seen c.serialize_u64_based_column_values.new.sink) _ c.in_ok-serialize_u64_based_column_values.ensures.list)
+    on_ok-always _ (appended-fit (g.K.Sink.seen c.args.sink.now) (g.K.Sink.seen c.serialize_u64_based_column_values.new.sink) _ c.in_ok-serialize_u64_based_column_values.ensures.list)

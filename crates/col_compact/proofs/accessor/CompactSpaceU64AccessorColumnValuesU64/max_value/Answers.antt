@@ -1,6 +1,6 @@
 use Rattle.std.proofs.Common.{◌∙◌, ap}
 use Rattle.col_model.specs.Stats.{greatest_of}
-use Rattle.col_compact.proofs.LookupLemmas.{greatest-above}
+use Rattle.col_model.proofs.StatsLaws.{greatest-above}
 use Rattle.col_compact.proofs.accessor.CompactSpaceU64AccessorColumnValuesU64.max_value.Goals as goal
 
 pub returns-clause-encloses : goal.returns-clause-encloses

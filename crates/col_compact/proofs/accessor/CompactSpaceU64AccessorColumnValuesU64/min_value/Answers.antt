@@ -1,6 +1,6 @@
 use Rattle.std.proofs.Common.{◌∙◌, ap}
 use Rattle.col_model.specs.Stats.{least_of}
-use Rattle.col_compact.proofs.LookupLemmas.{least-below}
+use Rattle.col_model.proofs.StatsLaws.{least-below}
 use Rattle.col_compact.proofs.accessor.CompactSpaceU64AccessorColumnValuesU64.min_value.Goals as goal
 
 pub returns-clause-encloses : goal.returns-clause-encloses

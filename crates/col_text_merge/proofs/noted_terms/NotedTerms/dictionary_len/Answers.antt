@@ -1,8 +1,8 @@
 use Rattle.std.proofs.Common.{ap, ◌∙◌, arith}
 use Rattle.col_model.specs.Limits.{dictionary_length}
 use Rattle.col_terms.specs.Building.{ordered, is_too_long}
+use Rattle.col_rows.proofs.TextLemmas.{short-length}
 use Rattle.col_text_merge.specs.Noting.{Noted}
-use Rattle.col_text_merge.proofs.DictionaryLemmas.{short-length}
 use Rattle.col_text_merge.proofs.noted_terms.NotedTerms.dictionary_len.Goals as goal
 
 pub overflow_mul-result : goal.overflow_mul-result

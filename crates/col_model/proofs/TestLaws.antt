@@ -1,0 +1,8 @@
+-- What tests say of each other.
+use Rattle.std.proofs.Common.{◌≡◌, Bool, true, false, refl, sym}
+
+-- tests that follow from each other are the same
+pub both-ways : (s t : Bool) → (s ≡ true → t ≡ true) → (t ≡ true → s ≡ true) → s ≡ t
+both-ways true t f g = sym (f refl)
+both-ways false true f g = g refl
+both-ways false false f g = refl
