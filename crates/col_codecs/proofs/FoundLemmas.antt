@@ -100,3 +100,11 @@ map_by_one m d (k ∷ ks) e =
     let same : d * k ≡ 1 * k = ap (λ n. n * k) e in
     let first : m + k ≡ m + d * k = omega (arith, same) in
     λ i. first i ∷ map_by_one m d ks e i
+
+-- ---- a least of 0
+
+pub map_no_least : (m : ℕ) (ks : List ℕ) → m ≡ 0 → ks ≡ map (λ k. m + k) ks
+map_no_least m [] e = refl
+map_no_least m (k ∷ ks) e =
+    let first : k ≡ m + k = omega (arith, e) in
+    λ i. first i ∷ map_no_least m ks e i

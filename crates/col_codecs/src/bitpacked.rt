@@ -221,11 +221,14 @@ fn take_values(stats: &ColumnStats, steps: &mut [u64])
     }
 }
 
-// The same where the divisor is 1.
+// The same where the divisor is 1. Where the least is 0, steps are values.
 fn raise(min_value: u64, steps: &mut [u64])
     requires { AllByRecursion (λ k. min_value + k < 2 ^ 64) steps.old }
     ensures { steps.new ≡ map (λ k. min_value + k) steps.old }
 {
+    if min_value == 0 {
+        return;
+    }
     for at in 0..steps.len() {
         steps[at] += min_value;
     }
