@@ -2,6 +2,7 @@
 use Rattle.std.proofs.Common.{◌≡◌, ℕ, zero, suc, ◌+◌, ◌<◌, ◌≤◌, Bool, true, false, cond, List, [], ◌∷◌, ◌++◌, length, take, set, sym, refl, ap, ◌∙◌, arith, append_assoc, append-nil, add-zero, zero-add}
 use Rattle.std.specs.List.{range_with_len, filter}
 use Rattle.std.specs.Int.{is_in_range}
+use Rattle.std.proofs.lemmas.Bool.Decides.{nat_tests}
 use Rattle.std.proofs.lemmas.List.{take_more_set, take-set}
 use Rattle.std.proofs.lemmas.List.FromFn.{map-range_with_len_more}
 use Rattle.std.proofs.lemmas.List.Elements.{filter-append}
@@ -77,3 +78,15 @@ ids_rise bytes w low high a n = IsStrictlyIncreasing-filter (λ id. is_in_range 
 -- one item more
 pub items-push : (bytes : List ℕ) (w n : ℕ) → items bytes w 0 (n + 1) ≡ items bytes w 0 n ++ item bytes w n ∷ []
 items-push bytes w n = map-range_with_len_more (item bytes w) 0 n n (omega arith)
+
+-- ---- a range that ends before it begins
+
+misses : (low high v : ℕ) → high < low → is_in_range low high v ≡ false
+misses low high v h = grind (arith, nat_tests)
+
+pub ids_outside : (bytes : List ℕ) (w low high a n : ℕ) → high < low → ids_between bytes w low high a n ≡ []
+unfolding ids_between
+ids_outside bytes w low high a zero h = refl
+ids_outside bytes w low high a (suc n) h =
+    let later : List ℕ = ids_between bytes w low high (a + 1) n in
+    ap (λ b. cond b (a ∷ later) later) (misses low high (item bytes w a) h) ∙ ids_outside bytes w low high (a + 1) n h

@@ -307,6 +307,9 @@ impl BitUnpacker {
         ensures front { take result output.new ≡ take at output.old
             ++ ids_between «data».now self.now low high ids.start (ids.end - ids.start) }
     {
+        if low > high {
+            return at;
+        }
         let unpacker = *self;
         let mut kept = at;
         for id in ids.start..ids.end {
@@ -386,10 +389,11 @@ impl BitUnpacker {
     }
 }
 
-// Whether a value is one from `low` to `high`.
+// Whether a value is one from `low` to `high`, by how far it lies above `low`.
 #[inline(always)]
 fn is_within(value: u64, low: u64, high: u64) -> bool
+    requires { low ≤ high }
     ensures { result ≡ is_in_range low high value }
 {
-    low <= value && value <= high
+    value.wrapping_sub(low) <= high - low
 }

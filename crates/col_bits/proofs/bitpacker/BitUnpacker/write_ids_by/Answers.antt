@@ -1,5 +1,5 @@
 use Rattle.std.proofs.Common.{◌++◌, ◌+◌, ◌-◌, take, ap, sym, ◌∙◌, arith, append-nil}
-use Rattle.col_bits.proofs.ItemLemmas.{ids_none, ids_more, kept_within}
+use Rattle.col_bits.proofs.ItemLemmas.{ids_none, ids_outside, ids_more, kept_within}
 use Rattle.col_bits.proofs.bitpacker.BitUnpacker.write_ids_by.Goals as goal
 
 pub loop-id-init : goal.loop-id-init
@@ -20,3 +20,9 @@ loop-id-preserved g c =
       below = omega (arith, kept_within l.kept (a.at + l.id - a.ids.start) b (omega arith));
       front = ids_more a.«data».now a.self.now a.low a.high a.ids.start (l.id - a.ids.start) (l.id + 1 - a.ids.start) l.id l.kept c.item_at-value.result (take a.at a.output.now) l.output b (omega arith) (omega arith) c.is_within.ensures c.item_at-value.ensures (omega arith) l.invariant.front;
     }
+
+pub returns-then-low-high-clause-front : goal.returns-then-low-high-clause-front
+returns-then-low-high-clause-front g c =
+    let a = c.args in
+    let front = take a.at a.output.now in
+    sym (append-nil front) ∙ ap (λ xs. front ++ xs) (sym (ids_outside a.«data».now a.self.now a.low a.high a.ids.start (a.ids.«end» - a.ids.start) c.if-low-high.true))
