@@ -1,5 +1,5 @@
 -- Items of a list under Bitpacked, by arithmetic.
-use Rattle.std.proofs.Common.{◌≡◌, ℕ, zero, suc, ◌+◌, ◌*◌, ◌/◌, ◌^◌, ◌<◌, ◌≤◌, Bool, true, false, List, length, map, take, drop, slice_index, slice_get, Option, Some, None, sym, ◌∙◌, ap, arith}
+use Rattle.std.proofs.Common.{◌≡◌, ℕ, zero, suc, ◌+◌, ◌*◌, ◌/◌, ◌^◌, ◌<◌, ◌≤◌, Bool, true, false, List, [], ◌∷◌, length, map, take, drop, slice_index, slice_get, Option, Some, None, refl, sym, ◌∙◌, ap, arith}
 use Rattle.std.specs.List.{range_with_len, AllByRecursion}
 use Rattle.std.proofs.lemmas.Option.{slice_get-get_or}
 use Rattle.std.proofs.lemmas.List.FromFn.{length-map-range_with_len, get_or-map-range_with_len}
@@ -141,3 +141,11 @@ part-read s bytes read list w start m e reader same h =
     ∙ ap (λ v. map (λ i. s.least + s.divisor * item bytes v i) (range_with_len start m)) reader.width_is
     ∙ range-part (bitpacked_item s bytes) s.count start m h
     ∙ ap (λ xs. take m (drop start xs)) e
+
+-- the values of steps at positions fit, and are those of the list
+pub at-read : (s : Stats) (bytes read list : List ℕ) (w : ℕ) (at : List ℕ) → bitpacked_items s bytes ≡ list → IsReader s w bytes → read ≡ bytes → AllByRecursion (λ i. i < length list) at → AllByRecursion (λ i. s.least + s.divisor * item read w i < 2 ^ 64) at × (map (λ i. Some (s.least + s.divisor * item read w i)) at ≡ map (slice_get list) at)
+at-read s bytes read list w [] e reader same all = (tt, refl)
+at-read s bytes read list w (i ∷ at) e reader same all =
+    let here = reads-at s bytes read list w i (item read w i) e reader same refl all.0 in
+    let later = at-read s bytes read list w at e reader same all.1 in
+    ((here.0, later.0), λ j. sym here.1 j ∷ later.1 j)

@@ -23,6 +23,7 @@ use crate::codec::{ColumnCodec, ColumnCodecEstimator};
 use crate::column_stats::ColumnStats;
 use crate::header::take_stats;
 use crate::packing::take_steps;
+use crate::step_vals::{find_vals, read_vals};
 use crate::turning::{Turn, serialize_turned};
 use bytes::Bytes;
 use col_bits::{BitUnpacker, compute_num_bits, is_packed};
@@ -152,6 +153,26 @@ impl ColumnValues<u64> for BitpackedReader {
         self.bit_unpacker
             .get_range(start as u32, self.data.as_slice(), output);
         take_values(&self.stats, output);
+    }
+
+    fn get_vals(&self, indexes: &[u32], output: &mut [u64]) {
+        read_vals(
+            &self.stats,
+            self.bit_unpacker,
+            self.data.as_slice(),
+            indexes,
+            output,
+        );
+    }
+
+    fn get_vals_opt(&self, indexes: &[u32], output: &mut [Option<u64>]) {
+        find_vals(
+            &self.stats,
+            self.bit_unpacker,
+            self.data.as_slice(),
+            indexes,
+            output,
+        );
     }
 
     fn get_row_ids_between(

@@ -14,6 +14,7 @@ mod linear_params;
 mod packing;
 mod positions;
 mod stats_collector;
+mod step_vals;
 mod turning;
 
 pub use bitpacked::{BitpackedCodec, BitpackedCodecEstimator, BitpackedReader};
