@@ -12,7 +12,10 @@ use std::marker::{Model, PhantomData};
 use std::ops::Range;
 
 // So many numbers are read before they are seen as values.
-const BLOCK_LEN: usize = 64;
+const BLOCK_LEN: usize = 512;
+
+// The same where fewer are asked for.
+const SHORT_BLOCK_LEN: usize = 64;
 
 /// A list of numbers, seen as the values whose numbers a map takes them to.
 #[derive(Drop)]
@@ -116,8 +119,13 @@ where
     }
 
     fn get_range(&self, start: u64, output: &mut [T]) {
-        let mut block = [0; BLOCK_LEN];
-        see_range(&self.values, &self.mapping, start, &mut block, output);
+        if output.len() <= SHORT_BLOCK_LEN {
+            let mut block = [0; SHORT_BLOCK_LEN];
+            see_range(&self.values, &self.mapping, start, &mut block, output);
+        } else {
+            let mut block = [0; BLOCK_LEN];
+            see_range(&self.values, &self.mapping, start, &mut block, output);
+        }
     }
 
     fn get_row_ids_between(
