@@ -2,5 +2,6 @@ pub mod ChoiceLemmas
 pub mod CoercionLemmas
 pub mod CollectingLemmas
 pub mod ImageLemmas
+pub mod PlaceLemmas
 pub mod ViewLemmas
 pub mod WrittenLemmas

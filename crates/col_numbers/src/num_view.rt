@@ -1,7 +1,8 @@
 //! A list of numbers, seen through a map as values of a type.
-ghost use Rattle.std.specs.Prelude.{◌≡◌, ◌+◌, ◌≤◌, ◌<◌, length, take, drop, map};
+ghost use Rattle.std.specs.Prelude.{◌≡◌, ◌+◌, ◌≤◌, ◌<◌, length, take, drop, map, slice_get, Some};
 ghost use Rattle.std.specs.List.{All};
 ghost use Rattle.col_values.specs.Monotonic.{Passes};
+ghost use Rattle.col_values.specs.Values.{AreBelow};
 ghost use Rattle.col_numbers.specs.Views.{is_seen, IsLeastOf, IsGreatestOf};
 ghost use Rattle.col_numbers.specs.Readers.{list_of};
 
@@ -128,6 +129,26 @@ where
         }
     }
 
+    fn get_vals(&self, indexes: &[u32], output: &mut [T]) {
+        if output.len() <= SHORT_BLOCK_LEN {
+            let mut block = [0; SHORT_BLOCK_LEN];
+            see_vals(&self.values, &self.mapping, indexes, &mut block, output);
+        } else {
+            let mut block = [0; BLOCK_LEN];
+            see_vals(&self.values, &self.mapping, indexes, &mut block, output);
+        }
+    }
+
+    fn get_vals_opt(&self, indexes: &[u32], output: &mut [Option<T>]) {
+        if output.len() <= SHORT_BLOCK_LEN {
+            let mut block = [0; SHORT_BLOCK_LEN];
+            find_vals(&self.values, &self.mapping, indexes, &mut block, output);
+        } else {
+            let mut block = [0; BLOCK_LEN];
+            find_vals(&self.values, &self.mapping, indexes, &mut block, output);
+        }
+    }
+
     fn get_row_ids_between(
         &self,
         low: T,
@@ -184,6 +205,62 @@ where
     }
 }
 
+// The values that the numbers at positions are seen as, a block at a time.
+fn see_vals<T, M>(
+    values: &U64Values,
+    mapping: &M,
+    indexes: &[u32],
+    block: &mut [u64],
+    output: &mut [T],
+)
+where
+    T: MonotonicallyMappableToU64,
+    M: StrictlyMonotonicFn<u64, u64>,
+    requires seen { All (Passes (is_seen (M.is_in mapping.now) (M.there mapping.now) T.is_code))
+        (list_of values.now) }
+    requires below { AreBelow indexes.now (length (list_of values.now)) }
+    requires alike { length indexes.now ≡ length output.old }
+    requires room { 0 < length block.old }
+    ensures { map Some output.new ≡ map (slice_get
+        (map (λ n. T.value (M.there mapping.now n)) (list_of values.now))) indexes.now }
+{
+    let mut done = 0;
+    while done < output.len() {
+        let len = (output.len() - done).min(block.len());
+        values.get_vals(&indexes[done..done + len], &mut block[..len]);
+        see_block(mapping, &block[..len], &mut output[done..done + len]);
+        done += len;
+    }
+}
+
+// The same, each found.
+fn find_vals<T, M>(
+    values: &U64Values,
+    mapping: &M,
+    indexes: &[u32],
+    block: &mut [u64],
+    output: &mut [Option<T>],
+)
+where
+    T: MonotonicallyMappableToU64,
+    M: StrictlyMonotonicFn<u64, u64>,
+    requires seen { All (Passes (is_seen (M.is_in mapping.now) (M.there mapping.now) T.is_code))
+        (list_of values.now) }
+    requires below { AreBelow indexes.now (length (list_of values.now)) }
+    requires alike { length indexes.now ≡ length output.old }
+    requires room { 0 < length block.old }
+    ensures { output.new ≡ map (slice_get
+        (map (λ n. T.value (M.there mapping.now n)) (list_of values.now))) indexes.now }
+{
+    let mut done = 0;
+    while done < output.len() {
+        let len = (output.len() - done).min(block.len());
+        values.get_vals(&indexes[done..done + len], &mut block[..len]);
+        find_block(mapping, &block[..len], &mut output[done..done + len]);
+        done += len;
+    }
+}
+
 // The values that the numbers of a block are seen as.
 fn see_block<T, M>(mapping: &M, block: &[u64], output: &mut [T])
 where
@@ -196,6 +273,21 @@ where
 {
     for at in 0..block.len() {
         output[at] = see(mapping, block[at]);
+    }
+}
+
+// The same, each found.
+fn find_block<T, M>(mapping: &M, block: &[u64], output: &mut [Option<T>])
+where
+    T: MonotonicallyMappableToU64,
+    M: StrictlyMonotonicFn<u64, u64>,
+    requires seen { All (Passes (is_seen (M.is_in mapping.now) (M.there mapping.now) T.is_code))
+        block.now }
+    requires alike { length block.now ≡ length output.old }
+    ensures { output.new ≡ map (λ n. Some (T.value (M.there mapping.now n))) block.now }
+{
+    for at in 0..block.len() {
+        output[at] = Some(see(mapping, block[at]));
     }
 }
 
