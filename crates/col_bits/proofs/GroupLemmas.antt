@@ -156,7 +156,7 @@ room_for_block start word count w long aligned within room =
     let scaled : 8 * q * w ≤ (start + count) * w = mul-le-mul_right w most in
     omega (arith, scaled)
 
-item_fits : (bytes : List ℕ) (w i : ℕ) → w ≤ 32 → item bytes w i < 2 ^ 32
+pub item_fits : (bytes : List ℕ) (w i : ℕ) → w ≤ 32 → item bytes w i < 2 ^ 32
 item_fits bytes w i h =
     lt_of_lt_of_le (mod_below (number_of 256 bytes / 2 ^ (i * w)) (2 ^ w) (pow_pos w)) (pow-le-pow_right {n = 2} (lit< tt) {i = w} {j = 32} h)
 

@@ -1,6 +1,6 @@
 -- Bounds of blocks, and lookups by them.
-use Rattle.std.proofs.Common.{◌≡◌, ℕ, suc, ◌+◌, ◌-◌, ◌*◌, ◌/◌, ◌<◌, ◌≤◌, inl, inr, List, [], ◌∷◌, ◌++◌, length, map, fold, min, max, take, set, get_or, refl, sym, ◌∙◌, ap, subst, arith, append_assoc, append-nil}
-use Rattle.std.specs.List.{range_with_len}
+use Rattle.std.proofs.Common.{◌≡◌, ℕ, zero, suc, ◌^◌, ◌+◌, ◌-◌, ◌*◌, ◌/◌, ◌<◌, ◌≤◌, inl, inr, List, [], ◌∷◌, ◌++◌, length, map, fold, min, max, take, set, get_or, refl, sym, ◌∙◌, ap, subst, arith, append_assoc, append-nil}
+use Rattle.std.specs.List.{AllByRecursion, range_with_len}
 use Rattle.std.proofs.lemmas.Bool.{cases_lt}
 use Rattle.std.proofs.lemmas.List.{take_more, take_more_set, take_all, get_or_append_left}
 use Rattle.std.proofs.lemmas.List.Elements.{All-get_or, All-from_recursion}
@@ -54,6 +54,11 @@ bounds_enclose b xs k are h =
     let low : least_of xs ≤ get_or xs k 0 = All-get_or (λ x. least_of xs ≤ x) xs k 0 h (All-from_recursion (λ x. least_of xs ≤ x) xs (least_of-all xs)) in
     let high : get_or xs k 0 ≤ greatest_of xs = All-get_or (λ x. x ≤ greatest_of xs) xs k 0 h (All-from_recursion (λ x. x ≤ greatest_of xs) xs (fold-max 0 xs).1) in
     (omega (arith, low, are.least), omega (arith, high, are.greatest))
+
+-- numbers of 32 bits, as they are read
+pub all_small : (f : ℕ → ℕ) (from n : ℕ) → ((i : ℕ) → f i < 2 ^ 32) → AllByRecursion (λ v. v < 2 ^ 32) (map f (range_with_len from n))
+all_small f from zero small = tt
+all_small f from (suc n) small = (small from, all_small f (from + 1) n small)
 
 -- ---- blocks
 

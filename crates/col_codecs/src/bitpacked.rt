@@ -310,6 +310,10 @@ impl BoundedItems for PackedItems<'_> {
         self.bit_unpacker.get_range(start, self.bytes, output);
     }
 
+    fn is_small(&self) -> bool {
+        u32::from(self.bit_unpacker.bit_width()) <= u32::BITS
+    }
+
     fn push_ids(
         &self,
         low: u64,

@@ -1,7 +1,7 @@
 //! The least and the greatest number of each block of a list, by which a lookup passes over blocks.
 ghost use Rattle.std.specs.Prelude.{◌≡◌, ◌<◌, ◌≤◌, ◌+◌, ◌-◌, ◌^◌, ◌++◌, ℕ, true, false, length, take, OnOk};
 ghost use Rattle.std.specs.Int.{is_in_range};
-ghost use Rattle.std.specs.List.{range_with_len};
+ghost use Rattle.std.specs.List.{AllByRecursion, range_with_len};
 ghost use Rattle.col_codecs.specs.BlockBounds.{AreBounds, LiesIn};
 
 use std::alloc::AllocError;
@@ -33,6 +33,26 @@ pub fn bounds_of(vals: &[u64]) -> Bounds
         greatest = greatest.max(*value);
     }
     Bounds { least, greatest }
+}
+
+/// The bounds of numbers of 32 bits, in lanes of as many.
+pub fn small_bounds_of(vals: &[u64]) -> Bounds
+    requires some { 0 < length vals.now }
+    requires small { AllByRecursion (λ v. v < 2 ^ 32) vals.now }
+    ensures { AreBounds result vals.now }
+{
+    let first = vals[0] as u32;
+    let mut least = first;
+    let mut greatest = first;
+    for value in vals {
+        let value = *value as u32;
+        least = least.min(value);
+        greatest = greatest.max(value);
+    }
+    Bounds {
+        least: least.into(),
+        greatest: greatest.into(),
+    }
 }
 
 /// Whether the numbers of a block are known to lie outside a range.

@@ -1,6 +1,6 @@
 //! Numbers by position with the bounds of their blocks: the pass that finds the bounds, and the
 //! lookup that passes over blocks by them.
-ghost use Rattle.std.specs.Prelude.{◌≡◌, ◌<◌, ◌≤◌, ◌+◌, ◌-◌, ◌%◌, ◌^◌, ◌++◌, length, map, slice_index_or, IfOk, IfErr, OnOk};
+ghost use Rattle.std.specs.Prelude.{◌≡◌, ◌<◌, ◌≤◌, ◌+◌, ◌-◌, ◌%◌, ◌^◌, ◌++◌, ℕ, length, map, slice_index_or, IfOk, IfErr, OnOk};
 ghost use Rattle.std.specs.Int.{is_in_range};
 ghost use Rattle.std.specs.List.{range_with_len};
 ghost use Rattle.col_common.specs.Replacing.{Replaces};
@@ -10,7 +10,7 @@ ghost use Rattle.col_codecs.specs.BlockBounds.{AreBounds, Enclose};
 ghost use Rattle.col_codecs.specs.BoundedItems.{ids_by};
 
 use crate::block_bounds::{
-    BOUNDED_LEN, BOUNDED_SIZE, Bounds, bounds_of, is_inside, is_outside, push_all,
+    BOUNDED_LEN, BOUNDED_SIZE, Bounds, bounds_of, is_inside, is_outside, push_all, small_bounds_of,
 };
 use crate::column_stats::ColumnStats;
 use crate::stats_collector::{StatsCollector, collect_bounded};
@@ -20,7 +20,7 @@ use std::ops::Range;
 
 /// Numbers by position, which are read a block at a time.
 pub trait BoundedItems {
-    ghost use Rattle.std.specs.Prelude.{◌≡◌, ◌≤◌, ◌+◌, ◌-◌, ◌++◌, ℕ, length, map, OnOk};
+    ghost use Rattle.std.specs.Prelude.{◌≡◌, ◌<◌, ◌≤◌, ◌+◌, ◌-◌, ◌^◌, ◌++◌, ℕ, true, length, map, OnOk};
     ghost use Rattle.std.specs.List.{range_with_len};
     ghost use Rattle.col_codecs.specs.BoundedItems.{ids_by};
 
@@ -39,6 +39,13 @@ pub trait BoundedItems {
         requires within { start + length output.old ≤ count self.now }
         ensures { output.new ≡
             map (item self.now) (range_with_len start (length output.old)) };
+
+    /// Whether each number is known to have 32 bits.
+    fn is_small(&self) -> bool
+        ensures { result ≡ true → (i : ℕ) → item self.now i < 2 ^ 32 }
+    {
+        false
+    }
 
     /// Appends which of the ids of a block have a number from `low` to `high`.
     fn push_ids(
@@ -142,8 +149,21 @@ fn read_block<I: BoundedItems>(
         (map (I.item items.now) (range_with_len from (length block.old))) }
 {
     items.read(from, block);
-    let bounds = bounds_of(block);
+    let bounds = bounds_read(items, block);
     (collect_bounded(collector, block, bounds), bounds)
+}
+
+// The bounds of numbers that were read.
+fn bounds_read<I: BoundedItems>(items: &I, vals: &[u64]) -> Bounds
+    requires some { 0 < length vals.now }
+    requires read { (from : ℕ) × (vals.now ≡
+        map (I.item items.now) (range_with_len from (length vals.now))) }
+    ensures { AreBounds result vals.now }
+{
+    if items.is_small() {
+        return small_bounds_of(vals);
+    }
+    bounds_of(vals)
 }
 
 /// Puts there which of the ids have a number from `low` to `high`, block by block.

@@ -21,4 +21,4 @@ returns-clause-collected g c =
     ∙ ap collected_of (numbers-joined f a.from (length a.block.now))
 
 pub returns-clause-bounds : goal.returns-clause-bounds
-returns-clause-bounds g c = subst (AreBounds c.bounds_of-bounds.result) c.read.ensures c.bounds_of-bounds.ensures
+returns-clause-bounds g c = subst (AreBounds c.bounds_read-bounds.result) c.read.ensures c.bounds_read-bounds.ensures
