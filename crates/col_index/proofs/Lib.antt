@@ -20,6 +20,7 @@ pub mod MemberLaws
 mod ValueLemmas
 mod PushLemmas
 mod SelectedLemmas
+mod IfAnyLemmas
 mod InRowLemmas
 mod RowsAtLemmas
 mod KeptLemmas

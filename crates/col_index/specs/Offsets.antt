@@ -1,10 +1,10 @@
 -- Rows with a value and where their values start.
-use Rattle.std.specs.Prelude.{◌≡◌, ℕ, ◌+◌, ◌-◌, ◌^◌, ◌==◌, ◌≤◌, ◌&&◌, Bool, true, List, length, map, flat_map, sum, Option, if◌then◌else◌}
+use Rattle.std.specs.Prelude.{◌≡◌, ℕ, ◌+◌, ◌-◌, ◌^◌, ◌==◌, ◌≤◌, ◌&&◌, Bool, true, List, length, map, flat_map, slice_index, sum, Option, if◌then◌else◌}
 use Rattle.std.specs.List.{range_with_len}
 use Rattle.col_common.specs.Reading.{only_if}
 use Rattle.col_model.specs.Ascending.{is_rising, is_never_falling, are_below}
 use Rattle.col_model.specs.Index.{RowSet, RowOffsets, Shape, empty_shape, full_shape, optional_shape, multivalued_shape, are_starts, are_offsets}
-use Rattle.col_model.specs.Positions.{values_in}
+use Rattle.col_model.specs.Positions.{values_in, count_in, index_range, positions_in}
 use Rattle.col_model.specs.Table as tables
 use Rattle.col_index.specs.Sets.{AreRows}
 
@@ -27,6 +27,14 @@ pub record AreOldOffsets (starts : List ℕ) : Type 0 where
   pub offsets : are_offsets starts ≡ true
   pub never_fall : is_never_falling starts ≡ true
   pub few : length starts ≤ 2 ^ 32 - 1
+
+-- the positions of a row's values, and 0 to 0 where it has none
+abbrev pub range_if_any : List ℕ → ℕ → ℕ × ℕ
+range_if_any counts row = if slice_index counts row == 0 then (0, 0) else index_range counts row
+
+-- the same of any shape
+abbrev pub positions_if_any : Shape → ℕ → ℕ × ℕ
+positions_if_any s row = if count_in s row == 0 then (0, 0) else positions_in s row
 
 -- so many positions from one on, each beside a row
 abbrev pub run : ℕ → ℕ → ℕ → List (ℕ × ℕ)

@@ -7,7 +7,7 @@ ghost use Rattle.col_model.specs.Index.{set_counts, optional_shape, multivalued_
 ghost use Rattle.col_model.specs.Positions.{count_in, start_in, positions_in, rows_in};
 ghost use Rattle.col_index.specs.Versions.{cardinality_of};
 ghost use Rattle.col_index.specs.Appending.{AppendsBoth, PushesBoth};
-ghost use Rattle.col_index.specs.Offsets.{cardinality_in, positions_of_rows, docs_of, positions_of, AreInside};
+ghost use Rattle.col_index.specs.Offsets.{positions_if_any, cardinality_in, positions_of_rows, docs_of, positions_of, AreInside};
 ghost use Rattle.col_index.specs.MultiValues.{counts_of};
 
 use crate::cardinality::Cardinality;
@@ -103,6 +103,21 @@ impl ColumnIndex {
             ColumnIndex::Full => doc_id..doc_id + 1,
             ColumnIndex::Optional(index) => index.range(doc_id),
             ColumnIndex::Multivalued(index) => index.range(doc_id),
+        }
+    }
+
+    /// The positions of a row's values; 0..0 where it has none.
+    #[inline(always)]
+    pub fn value_row_ids_if_any(&self, doc_id: DocId) -> Range<RowId>
+        requires { shape_of self.now ≡ full_shape → doc_id < 2 ^ 32 - 1 }
+        ensures start { result.start ≡ (positions_if_any (shape_of self.now) doc_id).0 }
+        ensures end { result.end ≡ (positions_if_any (shape_of self.now) doc_id).1 }
+    {
+        match self {
+            ColumnIndex::Empty { .. } => 0..0,
+            ColumnIndex::Full => doc_id..doc_id + 1,
+            ColumnIndex::Optional(index) => index.range_if_any(doc_id),
+            ColumnIndex::Multivalued(index) => index.range_if_any(doc_id),
         }
     }
 

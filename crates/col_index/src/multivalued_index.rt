@@ -7,7 +7,7 @@ ghost use Rattle.col_model.specs.Ascending.{is_rising, differences};
 ghost use Rattle.col_model.specs.Positions.{start_of, index_range, rows_with_value, next_row, starts_of, rows_at};
 ghost use Rattle.col_numbers.specs.Readers.{list_of};
 ghost use Rattle.col_values.specs.Values.{AreBelow};
-ghost use Rattle.col_index.specs.Offsets.{AreOldOffsets, row_positions, docs_of, positions_of};
+ghost use Rattle.col_index.specs.Offsets.{range_if_any, AreOldOffsets, row_positions, docs_of, positions_of};
 ghost use Rattle.col_index.specs.Appending.{PushesBoth};
 
 use crate::multivalued_index_v2::MultiValueIndexV2;
@@ -70,6 +70,17 @@ impl MultiValueIndex {
     {
         match self {
             MultiValueIndex::MultiValueIndexV2(index) => index.range(doc_id),
+        }
+    }
+
+    /// The positions of a row's values; 0..0 where it has none.
+    #[inline(always)]
+    pub fn range_if_any(&self, doc_id: DocId) -> Range<RowId>
+        ensures start { result.start ≡ (range_if_any (counts_of self.now) doc_id).0 }
+        ensures end { result.end ≡ (range_if_any (counts_of self.now) doc_id).1 }
+    {
+        match self {
+            MultiValueIndex::MultiValueIndexV2(index) => index.range_if_any(doc_id),
         }
     }
 

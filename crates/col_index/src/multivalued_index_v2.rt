@@ -7,7 +7,7 @@ ghost use Rattle.col_model.specs.Index.{offset_counts};
 ghost use Rattle.col_model.specs.Positions.{start_of, index_range, rows_with_value, next_row, starts_of, rows_at};
 ghost use Rattle.col_numbers.specs.Readers.{list_of};
 ghost use Rattle.col_values.specs.Values.{AreBelow};
-ghost use Rattle.col_index.specs.Offsets.{AreOldOffsets, row_positions, docs_of, positions_of, is_start_list, offsets_by};
+ghost use Rattle.col_index.specs.Offsets.{AreOldOffsets, range_if_any, row_positions, docs_of, positions_of, is_start_list, offsets_by};
 ghost use Rattle.col_index.specs.Appending.{PushesBoth};
 
 use crate::appending::push_run;
@@ -184,6 +184,18 @@ impl MultiValueIndexV2 {
         }
         let start = self.start_at(rank);
         start..start
+    }
+
+    /// The positions of a row's values, and 0..0 where it has none.
+    #[inline(always)]
+    pub(crate) fn range_if_any(&self, doc_id: DocId) -> Range<RowId>
+        ensures start { result.start ≡ (range_if_any (offset_counts self.now) doc_id).0 }
+        ensures end { result.end ≡ (range_if_any (offset_counts self.now) doc_id).1 }
+    {
+        match self.optional_index.rank_if_exists(doc_id) {
+            Some(rank) => self.range_at(rank),
+            None => 0..0,
+        }
     }
 
     /// Appends each document once for each of its values, and these values' positions, as far as

@@ -8,6 +8,7 @@ ghost use Rattle.col_model.specs.Index.{RowSet, set_counts};
 ghost use Rattle.col_model.specs.Positions.{rank, next_row, index_range};
 ghost use Rattle.col_values.specs.Values.{AreBelow};
 ghost use Rattle.col_index.specs.Appending.{AppendsBoth, PushesBoth};
+ghost use Rattle.col_index.specs.Offsets.{range_if_any};
 ghost use Rattle.col_index.specs.RankedRows.{AreRankedRows};
 ghost use Rattle.col_index.specs.Sets.{AreRows, holds, held, held_ranks, set_by};
 ghost use Rattle.col_numbers.specs.Readers.{list_of};
@@ -246,6 +247,20 @@ impl OptionalIndex {
             rank..rank + 1
         } else {
             rank..rank
+        }
+    }
+
+    /// The positions of a row's values; 0..0 where it has none.
+    #[inline(always)]
+    pub(crate) fn range_if_any(&self, doc_id: DocId) -> Range<RowId>
+        ensures start { result.start ≡ (range_if_any (set_counts self.now) doc_id).0 }
+        ensures end { result.end ≡ (range_if_any (set_counts self.now) doc_id).1 }
+    {
+        // Rows are below a count of 32 bits.
+        let _num_rows = self.num_rows;
+        match self.rank_if_exists(doc_id) {
+            Some(rank) => rank..rank + 1,
+            None => 0..0,
         }
     }
 
