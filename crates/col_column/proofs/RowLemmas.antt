@@ -1,11 +1,12 @@
 -- The rows that a shape cuts values into, by the positions of their values.
-use Rattle.std.proofs.Common.{◌≡◌, ℕ, zero, suc, ◌+◌, ◌-◌, ◌<◌, ◌≤◌, List, [], ◌∷◌, length, take, drop, sum, get_or, replicate, slice_get, slice_range, Option, Some, None, refl, sym, ap, add-one, ◌∙◌, if◌then◌else◌, subst, arith}
-use Rattle.std.proofs.lemmas.Bool.{lt-ltb}
+use Rattle.std.proofs.Common.{◌≡◌, ℕ, zero, suc, ◌+◌, ◌-◌, ◌<◌, ◌≤◌, ◌==◌, Bool, true, false, cond, List, [], ◌∷◌, length, take, drop, sum, get_or, replicate, slice_get, slice_range, Option, Some, None, refl, sym, ap, add-one, ◌∙◌, if◌then◌else◌, subst, arith}
+use Rattle.std.proofs.lemmas.Bool.{eqb-true, lt-ltb}
 use Rattle.std.proofs.lemmas.List.{drop-drop}
 use Rattle.std.proofs.lemmas.List.Sums.{sum_by-take-le}
 use Rattle.col_model.specs.Dictionary.{cut}
 use Rattle.col_model.specs.Index.{Shape, empty_shape, full_shape, optional_shape, multivalued_shape}
-use Rattle.col_model.specs.Positions.{start_of, positions_in, index_range}
+use Rattle.col_model.specs.Positions.{start_of, count_in, positions_in, index_range}
+use Rattle.col_index.specs.Offsets.{positions_if_any}
 use Rattle.col_model.proofs.ListLaws.{sum-cons}
 use Rattle.col_column.specs.Columns.{Seen, row_count, docs_in, IsCounted, rows_by, rows_in, row_at, AreOf}
 
@@ -97,7 +98,7 @@ counted-row cs xs d all inside = subst (λ b. AreOf xs (if b then (start_of cs d
       ap (λ n. take n (drop (start_of cs d) xs)) size ∙ sym (row_at-cut cs xs d);
 })
 
-pub row_values : {T : Type 0} (s : Shape) (xs : List T) (d : ℕ) → IsCounted s (length xs) → d < row_count s (length xs) → AreOf xs (positions_in s d) (row_at (rows_by s xs) d)
+row_values : {T : Type 0} (s : Shape) (xs : List T) (d : ℕ) → IsCounted s (length xs) → d < row_count s (length xs) → AreOf xs (positions_in s d) (row_at (rows_by s xs) d)
 unfolding rows_by
 row_values (empty_shape m) xs d none inside = record {
   order = omega arith;
@@ -112,8 +113,28 @@ row_values full_shape xs d any inside = record {
 row_values (optional_shape cs) xs d all inside = counted-row cs xs d all inside
 row_values (multivalued_shape cs) xs d all inside = counted-row cs xs d all inside
 
+-- a row without values
+row-none : {T : Type 0} (s : Shape) (xs : List T) (d : ℕ) → count_in s d ≡ 0 → row_at (rows_by s xs) d ≡ []
+unfolding rows_by
+row-none (empty_shape m) xs d none = row-empty m xs d
+row-none full_shape xs d none = absurd (omega (arith, none))
+row-none (optional_shape cs) xs d none = row_at-cut cs xs d ∙ ap (λ n. take n (drop (start_of cs d) xs)) none
+row-none (multivalued_shape cs) xs d none = row_at-cut cs xs d ∙ ap (λ n. take n (drop (start_of cs d) xs)) none
+
+-- the same from 0 to 0 where there are none
+pub row_values-if_any : {T : Type 0} (s : Shape) (xs : List T) (d : ℕ) → IsCounted s (length xs) → d < row_count s (length xs) → AreOf xs (positions_if_any s d) (row_at (rows_by s xs) d)
+row_values-if_any s xs d counted inside = go (count_in s d == 0) refl
+  where
+    go : (b : Bool) → (count_in s d == 0) ≡ b → AreOf xs (cond b (0, 0) (positions_in s d)) (row_at (rows_by s xs) d)
+    go true e = record {
+      order = omega arith;
+      within = omega arith;
+      values = sym (row-none s xs d (eqb-true _ _ e));
+    }
+    go false e = row_values s xs d counted inside
+
 -- the same of a column
-pub column_row : {V T : Type 0} (list : V → List T) (c : Seen V) (s : Shape) (v : V) (d start end : ℕ) → record { shape = s; values = v } ≡ c → IsCounted s (length (list v)) → d < docs_in list c → start ≡ (positions_in s d).0 → end ≡ (positions_in s d).1 → AreOf (list c.values) (start, end) (row_at (rows_in list c) d)
+pub column_row : {V T : Type 0} (list : V → List T) (c : Seen V) (s : Shape) (v : V) (d start end : ℕ) → record { shape = s; values = v } ≡ c → IsCounted s (length (list v)) → d < docs_in list c → start ≡ (positions_if_any s d).0 → end ≡ (positions_if_any s d).1 → AreOf (list c.values) (start, end) (row_at (rows_in list c) d)
 column_row list c s v d start end is counted inside first last =
     subst (λ c. d < docs_in list c → AreOf (list c.values) (start, end) (row_at (rows_in list c) d)) is
-    (λ within. rw (first, last) (row_values s (list v) d counted within)) inside
+    (λ within. rw (first, last) (row_values-if_any s (list v) d counted within)) inside

@@ -211,7 +211,7 @@ where
     {
         // That there are fewer than 2 ^ 32 values is known of the count.
         let _count = self.values.num_vals();
-        self.index.value_row_ids(doc_id)
+        self.index.value_row_ids_if_any(doc_id)
     }
 
     /// The documents in a range that have a value from the first to the last, ascending, each once.
