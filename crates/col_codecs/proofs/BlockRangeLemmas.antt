@@ -1,12 +1,14 @@
 -- A range of items, read block by block.
-use Rattle.std.proofs.Common.{◌≡◌, ℕ, ◌+◌, ◌-◌, ◌/◌, ◌%◌, ◌≤◌, List, ◌++◌, map, length, take, drop, sym, ◌∙◌, ap, arith, length-drop}
+use Rattle.std.proofs.Common.{◌≡◌, ℕ, ◌+◌, ◌-◌, ◌*◌, ◌/◌, ◌%◌, ◌^◌, ◌≤◌, List, ◌++◌, map, length, take, drop, sym, ◌∙◌, ap, arith, length-drop}
 use Rattle.std.specs.List.{range_with_len}
 use Rattle.std.proofs.lemmas.List.{length-take-le, take_all}
 use Rattle.std.proofs.lemmas.List.FromFn.{length-map-range_with_len, get_or-map-range_with_len}
 use Rattle.std.proofs.lemmas.Slice.{take-put_mid}
 use borrow.Rule.Slice.PartMut.{put_mid, same_len_mid}
 use Rattle.col_model.specs.Stats.{Stats}
+use Rattle.col_model.specs.Line.{line, signed_32}
 use Rattle.col_codecs.specs.declared.blockwise_linear.block.Block.{Block}
+use Rattle.col_codecs.specs.Line.{raised}
 use Rattle.col_codecs.specs.Blocks.{block_of, step_in, step_of, item_of, items_in}
 use Rattle.col_codecs.proofs.LinearReaderLemmas.{filled_from}
 use Rattle.col_codecs.proofs.ListLemmas.{range-part}
@@ -53,3 +55,14 @@ range-read s bs bytes start filled n output long all held =
 -- a part of the items
 pub items_in-part : (s : Stats) (bs : List Block) (bytes : List ℕ) (start m : ℕ) → start + m ≤ s.count → map (own_item s bs bytes) (range_with_len start m) ≡ take m (drop start (items_in s bs bytes))
 items_in-part s bs bytes start m h = range-part (own_item s bs bytes) s.count start m h ∙ ap (λ xs. take m (drop start xs)) (sym (items_in-is s bs bytes))
+
+-- an item that lies one divisor of 1 a step above the least is one above a line that is raised by it
+pub raised-first : (least divisor slope intercept slope' intercept' i offset : ℕ) → slope' ≡ slope → intercept' ≡ (intercept + least) % 2 ^ 64 → divisor ≡ 1 → raised slope' intercept' (i, offset) ≡ (least + divisor * raised slope intercept (i, offset)) % 2 ^ 64
+unfolding line
+raised-first least divisor slope intercept slope' intercept' i offset same high one =
+    let h = signed_32 (i * slope % 2 ^ 64 / 2 ^ 32) in
+    let step = raised slope intercept (i, offset) in
+    let once : divisor * step ≡ 1 * step = ap (λ d. d * step) one in
+    ap (λ s. raised s intercept' (i, offset)) same
+    ∙ ap (λ t. raised slope t (i, offset)) high
+    ∙ omega (arith, once)

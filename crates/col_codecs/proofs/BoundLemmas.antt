@@ -60,6 +60,19 @@ pub all_small : (f : ℕ → ℕ) (from n : ℕ) → ((i : ℕ) → f i < 2 ^ 32
 all_small f from zero small = tt
 all_small f from (suc n) small = (small from, all_small f (from + 1) n small)
 
+-- one upper half more
+pub above-more : (xs : List ℕ) (n most next : ℕ) → ((k : ℕ) → k < n → get_or xs k 0 / 2 ^ 32 ≤ most) → most ≤ next → get_or xs n 0 / 2 ^ 32 ≤ next → (k : ℕ) → k < n + 1 → get_or xs k 0 / 2 ^ 32 ≤ next
+above-more xs n most next before more here k h =
+    elim (cases_lt k n) [
+      | inl less ↦ omega (arith, before k less, more)
+      | inr not ↦ let same : k ≡ n = omega (arith, not, h) in subst (λ i. get_or xs i 0 / 2 ^ 32 ≤ next) (sym same) here
+    ]
+
+-- numbers that are small each
+pub each_small : (xs : List ℕ) → ((k : ℕ) → k < length xs → get_or xs k 0 < 2 ^ 32) → AllByRecursion (λ v. v < 2 ^ 32) xs
+each_small [] each = tt
+each_small (x ∷ xs) each = (each 0 (omega arith), each_small xs (λ k h. each (suc k) (omega (arith, h))))
+
 -- ---- blocks
 
 -- one block more

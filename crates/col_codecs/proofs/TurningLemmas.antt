@@ -1,6 +1,6 @@
 -- Lists that are turned and packed, a block at a time.
-use Rattle.std.proofs.Common.{◌≡◌, ℕ, suc, ◌+◌, ◌*◌, ◌%◌, ◌^◌, ◌<◌, ◌≤◌, min, List, [], ◌∷◌, ◌++◌, map, length, take, drop, get_or, set, Ok, Err, refl, sym, ap, ◌∙◌, subst, arith, append_assoc, append-nil, length-take, length-drop, zero-mul}
-use Rattle.std.specs.List.{AllByRecursion, enumerate_from}
+use Rattle.std.proofs.Common.{◌≡◌, ℕ, zero, suc, ◌+◌, ◌*◌, ◌%◌, ◌^◌, ◌<◌, ◌≤◌, min, List, [], ◌∷◌, ◌++◌, map, length, take, drop, get_or, set, Ok, Err, refl, sym, ap, ◌∙◌, subst, arith, append_assoc, append-nil, length-take, length-drop, zero-mul}
+use Rattle.std.specs.List.{AllByRecursion, enumerate_from, range_with_len}
 use Rattle.std.proofs.lemmas.List.{map-append, take_all, take_more, drop_more, drop_all, set_at, get_or_at, length-map, take-append-drop, drop-drop}
 use Rattle.std.proofs.Math.Seq.{take-add}
 use Rattle.std.proofs.lemmas.List.FromFn.{length-enumerate_from}
@@ -67,6 +67,11 @@ all_of f (x ∷ xs) = (f x, all_of f xs)
 pub by_position-alone : (f : ℕ → ℕ) (k : ℕ) (xs : List ℕ) → by_position (λ p. f p.1) k xs ≡ map f xs
 by_position-alone f k [] = refl
 by_position-alone f k (x ∷ xs) = ap (λ ys. f x ∷ ys) (by_position-alone f (k + 1) xs)
+
+-- items that are counted from the same position
+pub by_position-of : (f : ℕ × ℕ → ℕ) (g : ℕ → ℕ) (k n : ℕ) → by_position f k (map g (range_with_len k n)) ≡ map (λ i. f (i, g i)) (range_with_len k n)
+by_position-of f g k zero = refl
+by_position-of f g k (suc n) = ap (λ ys. f (k, g k) ∷ ys) (by_position-of f g (k + 1) n)
 
 -- the items before a position are written, left are those from there on, and another block begins at a byte
 pub record IsWritten (f : ℕ × ℕ → ℕ) (w : ℕ) (items : List ℕ) (start : ℕ) (left : List ℕ) (old new : SeenSink) : Type 0 where

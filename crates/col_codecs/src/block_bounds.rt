@@ -25,6 +25,28 @@ pub fn bounds_of(vals: &[u64]) -> Bounds
     requires { 0 < length vals.now }
     ensures { AreBounds result vals.now }
 {
+    if are_small(vals) {
+        return small_bounds_of(vals);
+    }
+    wide_bounds_of(vals)
+}
+
+// Whether each number has 32 bits.
+fn are_small(vals: &[u64]) -> bool
+    ensures { result ≡ true → AllByRecursion (λ v. v < 2 ^ 32) vals.now }
+{
+    let mut greatest = 0;
+    for value in vals {
+        greatest = greatest.max((*value >> 32) as u32);
+    }
+    greatest == 0
+}
+
+// The bounds of numbers, in lanes of 64 bits.
+fn wide_bounds_of(vals: &[u64]) -> Bounds
+    requires { 0 < length vals.now }
+    ensures { AreBounds result vals.now }
+{
     let first = vals[0];
     let mut least = first;
     let mut greatest = first;

@@ -1,12 +1,13 @@
 //! Lines through positions, in whole numbers.
-ghost use Rattle.std.specs.Prelude.{◌≡◌, ◌<◌, ◌≤◌, ◌+◌, ◌^◌, ◌++◌, ℕ, List, length, option_map, fold, min, Some};
+ghost use Rattle.std.specs.Prelude.{◌≡◌, ◌<◌, ◌≤◌, ◌+◌, ◌%◌, ◌^◌, ◌++◌, ℕ, List, length, option_map, fold, min, Some};
 ghost use Rattle.std.specs.List.{enumerate_from};
 ghost use Rattle.col_common.specs.Decoding.{TakesFront};
 ghost use Rattle.col_common.specs.Serializing.{Serializes};
 ghost use Rattle.col_common.specs.VInt.{vint_bytes};
 ghost use Rattle.col_model.specs.Line.{line, line_at};
 ghost use Rattle.col_model.specs.Training.{trained_slope, rise, fall, trained_line, line_of};
-ghost use Rattle.col_codecs.specs.Line.{line_seen, distance, distances};
+ghost use Rattle.col_codecs.specs.Line.{line_seen, raised, distance, distances};
+ghost use Rattle.col_codecs.specs.Turning.{by_position};
 
 use crate::column_stats::serialize_two;
 use crate::positions::Positions;
@@ -38,6 +39,29 @@ impl Line {
         let rise = (u64::from(x).wrapping_mul(self.slope) >> 32) as u32;
         self.intercept
             .wrapping_add(i64::from(rise.cast_signed()).cast_unsigned())
+    }
+
+    /// The same line, so much higher, modulo 2^64.
+    pub fn raised_by(&self, rise: u64) -> Line
+        ensures slope { result.slope ≡ self.now.slope }
+        ensures intercept { result.intercept ≡ (self.now.intercept + rise) % 2 ^ 64 }
+    {
+        Line {
+            slope: self.slope,
+            intercept: self.intercept.wrapping_add(rise),
+        }
+    }
+
+    /// Adds the line's values from a position on to offsets, modulo 2^64.
+    pub fn add_to(&self, start: u32, offsets: &mut [u64])
+        requires { start + length offsets.old ≤ 2 ^ 32 }
+        ensures { offsets.new ≡ by_position (raised self.now.slope self.now.intercept)
+            start offsets.old }
+    {
+        let line = *self;
+        for at in 0..offsets.len() {
+            offsets[at] = line.eval(start + at as u32).wrapping_add(offsets[at]);
+        }
     }
 
     /// The line that is trained on a list's first and last value, their number, and some of its

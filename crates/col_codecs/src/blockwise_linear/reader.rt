@@ -224,8 +224,21 @@ fn read_part(least: u64, divisor: u64, block: Block, place: u32, bytes: &[u8], o
     ensures { output.new ≡ map (λ i. (least + divisor * step_in block bytes.now i) % 2 ^ 64)
         (range_with_len place (length output.old)) }
 {
-    for at in 0..output.len() {
-        let step = block.step_at(place + at as u32, bytes);
-        output[at] = least.wrapping_add(divisor.wrapping_mul(step));
+    block
+        .bit_unpacker
+        .get_range(place, &bytes[block.start..], output);
+    if divisor == 1 {
+        return block.line.raised_by(least).add_to(place, output);
+    }
+    block.line.add_to(place, output);
+    take_items(least, divisor, output);
+}
+
+// Turns steps into the items that lie so many divisors above the least, modulo 2^64.
+fn take_items(least: u64, divisor: u64, steps: &mut [u64])
+    ensures { steps.new ≡ map (λ k. (least + divisor * k) % 2 ^ 64) steps.old }
+{
+    for at in 0..steps.len() {
+        steps[at] = least.wrapping_add(divisor.wrapping_mul(steps[at]));
     }
 }

@@ -167,9 +167,8 @@ impl BoundedItems for LinearItems<'_> {
     ghost IsWhole = { λ _. Unit {0} };
 
     fn read(&self, start: u32, output: &mut [u64]) {
-        for at in 0..output.len() {
-            output[at] = item_at(self.line, self.bit_unpacker, start + at as u32, self.bytes);
-        }
+        self.bit_unpacker.get_range(start, self.bytes, output);
+        self.line.add_to(start, output);
     }
 }
 

@@ -1,4 +1,4 @@
-use Rattle.std.proofs.Common.{ℕ, ◌≤◌, arith}
+use Rattle.std.proofs.Common.{◌≤◌, arith}
 use Rattle.std.proofs.lemmas.Bool.Decides.{nat_tests}
 use Rattle.col_bits.proofs.GroupLemmas.{item_fits}
 use Rattle.col_codecs.proofs.bitpacked.PackedItemsBoundedItems.is_small.Goals as goal

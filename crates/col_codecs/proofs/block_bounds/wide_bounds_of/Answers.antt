@@ -1,7 +1,7 @@
 use Rattle.std.proofs.Common.{min, max, get_or, ap, ◌∙◌, sym}
 use Rattle.std.proofs.lemmas.List.Sums.{fold_more}
 use Rattle.col_codecs.proofs.BoundLemmas.{bounds_whole}
-use Rattle.col_codecs.proofs.block_bounds.bounds_of.Goals as goal
+use Rattle.col_codecs.proofs.block_bounds.wide_bounds_of.Goals as goal
 
 pub loop-value-preserved : goal.loop-value-preserved
 loop-value-preserved c =

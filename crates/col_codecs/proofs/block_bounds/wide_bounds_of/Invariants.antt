@@ -1,5 +1,5 @@
 use Rattle.std.proofs.Common.{◌≡◌, min, max, fold, take}
-use Rattle.col_codecs.proofs.block_bounds.bounds_of.Given as goal
+use Rattle.col_codecs.proofs.block_bounds.wide_bounds_of.Given as goal
 
 -- the bounds of the first number and of those so far
 abbrev pub invariant-loop-value : goal.invariant-loop-value
