@@ -13,10 +13,10 @@ use Rattle.col_model.specs.ColumnType.{ColumnType}
 use Rattle.col_model.specs.Report.{lines_text, row_line, count_data, list_data, cell_data}
 use Rattle.col_model.specs.Table.{Cell}
 use Rattle.col_model.specs.Index.{Shape}
-use Rattle.col_model.specs.Positions.{positions_in}
+use Rattle.col_index.specs.Offsets.{positions_if_any}
 use Rattle.col_column.specs.Columns.{Seen, AreOf, IsCounted, row_at, rows_in, docs_in}
 use Rattle.col_column.proofs.FirstLemmas.{range_step}
-use Rattle.col_column.proofs.RowLemmas.{row_values}
+use Rattle.col_column.proofs.RowLemmas.{row_values-if_any}
 use Rattle.col_report.specs.Printed.{Spells, Prints, more_text, filled_lines}
 
 -- ---- lines behind lines
@@ -119,9 +119,9 @@ module _ {T : Type 0} (t : ColumnType) (cell : T → Cell) (xs : List T) where
 
 -- ---- where a row's values stand
 
-pub row-positions : {V T : Type 0} (list : V → List T) (c : Seen V) (i : Shape) (row start upto : ℕ) → i ≡ c.shape → IsCounted c.shape (length (list c.values)) → row < docs_in list c → start ≡ (positions_in i row).0 → upto ≡ (positions_in i row).1 → AreOf (list c.values) (start, upto) (row_at (rows_in list c) row)
+pub row-positions : {V T : Type 0} (list : V → List T) (c : Seen V) (i : Shape) (row start upto : ℕ) → i ≡ c.shape → IsCounted c.shape (length (list c.values)) → row < docs_in list c → start ≡ (positions_if_any i row).0 → upto ≡ (positions_if_any i row).1 → AreOf (list c.values) (start, upto) (row_at (rows_in list c) row)
 row-positions list c i row start upto same counted inside first last =
-    rw (first, last, same) (row_values c.shape (list c.values) row counted inside)
+    rw (first, last, same) (row_values-if_any c.shape (list c.values) row counted inside)
 
 -- ---- the lines of all rows
 

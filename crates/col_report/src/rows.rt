@@ -67,7 +67,7 @@ where
     // That there are fewer than 2 ^ 32 values is known of the count.
     let _count = column.values().num_vals();
     column.values_are_counted();
-    column.index().value_row_ids(row)
+    column.index().value_row_ids_if_any(row)
 }
 
 // Appends the line of a row with the values at these positions.

@@ -8,12 +8,12 @@ use Rattle.std.proofs.lemmas.Option.{gets, get_or_from_slice_get, slice_get_case
 use Rattle.col_common.specs.declared.iterable.Walk.{Walk}
 use Rattle.col_common.specs.declared.row.RowAddr.{RowAddr}
 use Rattle.col_model.specs.Order.{shuffle, has_row}
-use Rattle.col_model.specs.Positions.{positions_in}
 use Rattle.col_model.specs.U64List.{joined_lists}
 use Rattle.col_order.specs.Orders.{address_of}
+use Rattle.col_index.specs.Offsets.{positions_if_any}
 use Rattle.col_column.specs.Columns.{AreOf}
 use Rattle.col_column.proofs.FirstLemmas.{range_step}
-use Rattle.col_column.proofs.RowLemmas.{row_values}
+use Rattle.col_column.proofs.RowLemmas.{row_values-if_any}
 use Rattle.col_value_merge.specs.Merges.{Columns, AreColumns, segment_shape, segment_values, picked_row, merged_rows, Merge, IsMerge, merge_of, values_of, runs_by, StandsInRun, values_to_give, Finds}
 use Rattle.col_value_merge.proofs.StackedValueLemmas.{runs-joined}
 
@@ -80,8 +80,8 @@ pub row-within : (counts : List ℕ) (p : ℕ × ℕ) → has_row counts p ≡ t
 row-within counts p h = grind (arith, common_steps, gets, slice_get_cases counts p.0)
 
 -- the positions of the values of a row that an address names
-pub row-positions : {T : Type 0} (c : Columns T) (counts : List ℕ) (addr : RowAddr) (start end : ℕ) → AreColumns counts c → has_row counts (address_of addr) ≡ true → start ≡ (positions_in (segment_shape c addr.segment_ord) addr.row_id).0 → end ≡ (positions_in (segment_shape c addr.segment_ord) addr.row_id).1 → AreOf (segment_values c addr.segment_ord) (start, end) (picked_row c (address_of addr))
+pub row-positions : {T : Type 0} (c : Columns T) (counts : List ℕ) (addr : RowAddr) (start end : ℕ) → AreColumns counts c → has_row counts (address_of addr) ≡ true → start ≡ (positions_if_any (segment_shape c addr.segment_ord) addr.row_id).0 → end ≡ (positions_if_any (segment_shape c addr.segment_ord) addr.row_id).1 → AreOf (segment_values c addr.segment_ord) (start, end) (picked_row c (address_of addr))
 row-positions c counts addr start end are named first last =
     let there = row-within counts (address_of addr) named in
     let column = are.each addr.segment_ord there.0 in
-    rw (first, last) (row_values (segment_shape c addr.segment_ord) (segment_values c addr.segment_ord) addr.row_id column.counted (omega (arith, there.1, column.rows)))
+    rw (first, last) (row_values-if_any (segment_shape c addr.segment_ord) (segment_values c addr.segment_ord) addr.row_id column.counted (omega (arith, there.1, column.rows)))

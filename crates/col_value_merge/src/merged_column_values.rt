@@ -103,7 +103,7 @@ where
         columns_by (map shape_of s.column_indexes.now) (map V.values s.column_values.now) };
 
     fn value_row_ids(&self, segment: usize, row_id: RowId) -> Range<RowId> {
-        self.column_indexes[segment].value_row_ids(row_id)
+        self.column_indexes[segment].value_row_ids_if_any(row_id)
     }
 
     #[inline(always)]

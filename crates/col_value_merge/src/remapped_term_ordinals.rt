@@ -87,7 +87,7 @@ impl<'a> Segments<u64> for RemappedColumns<'a> {
         self.bytes_columns[segment]
             .ords()
             .index()
-            .value_row_ids(row_id)
+            .value_row_ids_if_any(row_id)
     }
 
     #[inline(always)]

@@ -1,7 +1,7 @@
 //! Columns of segments, asked by segment and position.
 ghost use Rattle.std.specs.Prelude.{◌≡◌, ◌-◌, ◌<◌, ◌^◌, ◌++◌, length, slice_get, Some, OnOk};
 ghost use Rattle.col_model.specs.Index.{full_shape};
-ghost use Rattle.col_model.specs.Positions.{positions_in};
+ghost use Rattle.col_index.specs.Offsets.{positions_if_any};
 ghost use Rattle.col_value_merge.specs.Merges.{Columns, segment_shape, segment_values};
 
 use col_common::RowId;
@@ -13,15 +13,15 @@ pub(crate) trait Segments<T: Copy> {
     /// Their shapes and values.
     ghost columns: { Self → Columns T };
 
-    /// The positions of the values of a segment's row.
+    /// The positions of the values of a segment's row; 0..0 where it has none.
     fn value_row_ids(&self, segment: usize, row_id: RowId) -> Range<RowId>
         requires segment { segment < length (columns self.now).shapes }
         requires row { segment_shape (columns self.now) segment ≡ full_shape
             → row_id < 2 ^ 32 - 1 }
         ensures start { result.start
-            ≡ (positions_in (segment_shape (columns self.now) segment) row_id).0 }
+            ≡ (positions_if_any (segment_shape (columns self.now) segment) row_id).0 }
         ensures end { result.end
-            ≡ (positions_in (segment_shape (columns self.now) segment) row_id).1 };
+            ≡ (positions_if_any (segment_shape (columns self.now) segment) row_id).1 };
 
     /// How many values a segment has.
     fn num_vals(&self, segment: usize) -> u32
