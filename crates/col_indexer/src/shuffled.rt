@@ -202,14 +202,11 @@ fn num_values_in_set(index: &OptionalIndex, row: RowId) -> RowId
     if index.contains(row) { 1 } else { 0 }
 }
 
-// The same where a row may have several. Only one with a value is ranked.
+// The same where a row may have several.
 #[inline(always)]
 fn num_values_in_rows(index: &MultiValueIndex, row: RowId) -> RowId
     ensures { result ≡ slice_index (counts_of index.now) row }
 {
-    if !index.has_value(row) {
-        return 0;
-    }
-    let positions = index.range(row);
+    let positions = index.range_if_any(row);
     positions.end - positions.start
 }
