@@ -9,7 +9,6 @@ use Rattle.std.proofs.lemmas.Option.{slice_get-map}
 use Rattle.col_model.specs.Ascending.{are_below}
 use Rattle.col_model.specs.Column.{number_rows, term_cell, content_of, column}
 use Rattle.col_model.specs.ColumnType.{ColumnType, has_terms}
-use Rattle.col_model.specs.Dictionary.{terms}
 use Rattle.col_model.specs.Limits.{dictionary_length}
 use Rattle.col_model.specs.Order.{Order, stack, shuffle}
 use Rattle.col_order.specs.Orders.{picks_of}
@@ -60,7 +59,8 @@ module _ (columns : List Texts) (order : Order) (n : Noted) (told : AllByRecursi
       let both = row-turned columns (IsTaken columns order) n h given p.0 c ids e f (picked_row (term_columns columns) p) (λ o i. held-taken columns order p o told there i) in
       (ap (map (term_cell found)) row ∙ both.0 ∙ sym (picked-cells columns p c e), ap (are_below (length found)) row ∙ both.1)
 
-  ids-long : length n.ids ≡ length columns
+  -- ids are kept for each column
+  pub ids-long : length n.ids ≡ length columns
   ids-long = sym (length-map n.ids length) ∙ ap length h.lengths ∙ length-map (terms_of columns) length ∙ length-map columns (λ (c : Texts). c.terms)
 
   rows-are : (ps : List (ℕ × ℕ)) → ((p : ℕ × ℕ) → IsIn p ps → IsIn p (picks_of order)) → ((p : ℕ × ℕ) → IsIn p ps → p.0 < length columns)

@@ -6,6 +6,8 @@ mod KnownLemmas
 mod TermLemmas
 mod RowLemmas
 mod OrdinalLemmas
+mod IdLemmas
+mod IdOrdinalLemmas
 mod DictionaryLemmas
 mod ContentLemmas
 mod WritingLemmas

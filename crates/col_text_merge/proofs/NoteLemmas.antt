@@ -44,12 +44,20 @@ came-is false ts new t known e id h = by (subst (λ (us : List (List ℕ)). id <
         below-or-last (v ∷ us) u zero l = inl (omega arith)
         below-or-last (v ∷ us) u (suc k) l = elim (below-or-last us u k (omega (arith, l))) [ inl under ↦ inl (omega (arith, under)) | inr at ↦ inr (ap suc at) ]
 
+-- no id is none
+none-apart : (id : ℕ) → Some None ≡ Some (Some id) → ⊥
+none-apart id e = cc
+
 -- a place that gets an id
-pub notes-new : (n m : Noted) (p : ℕ × ℕ) (t : List ℕ) (id : ℕ) → Allocates n.terms t id m.terms → Sets p (Some id) n.ids m.ids → Notes p t n m
-notes-new n m p t id a s = record {
+pub notes-new : (n m : Noted) (p : ℕ × ℕ) (t : List ℕ) (id : ℕ) → item_at n.ids p ≡ Some None → Allocates n.terms t id m.terms → Sets p (Some id) n.ids m.ids → Notes p t n m
+notes-new n m p t id free a s = record {
   lengths = s.lengths;
   told = record { id = id; there = s.told; is = a.held };
   others = s.others;
+  keeps = λ q k e. elim (s.others q) [
+    | inl same ↦ absurd (none-apart k (sym free ∙ ap (item_at n.ids) (sym same) ∙ e))
+    | inr kept ↦ kept ∙ e
+  ];
   stay = a.stays;
   came = came-is (is_known n.terms t) n.terms m.terms t refl a.terms;
 }

@@ -34,6 +34,10 @@ module _ (columns : List Texts) (counts : List ℕ) (rows : List (ℕ × ℕ)) (
   pub row-there : (c : Texts) → c ≡ get_or columns a.0 c → a.1 < docs_in num_values_of c.ords
   row-there c is = row-within columns a c (column-there c is) (named-row columns counts rows i a fit all e)
 
+-- the row's ordinals are those that are picked
+pub row-held : (columns : List Texts) (a : ℕ × ℕ) (c : Texts) (ords : List ℕ) → slice_get columns a.0 ≡ Some c → ords ≡ row_at (rows_in num_values_of c.ords) a.1 → ords ≡ picked_row (term_columns columns) a
+row-held columns a c ords f is = is ∙ sym (picked-is columns a.0 a.1 c f)
+
 -- what is left from an item on
 drop-from : {X : Type 0} (xs : List X) (i : ℕ) (x : X) → slice_get xs i ≡ Some x → drop i xs ≡ x ∷ drop (i + 1) xs
 drop-from xs i x e =
@@ -44,7 +48,7 @@ drop-from xs i x e =
 pub row-start : (columns : List Texts) (rows : List (ℕ × ℕ)) (i : ℕ) (a : ℕ × ℕ) (c : Texts) (ords : List ℕ) (n : Noted) → slice_get rows i ≡ Some a → slice_get columns a.0 ≡ Some c → ords ≡ row_at (rows_in num_values_of c.ords) a.1 → AreNoted columns (IsPicked columns rows) (IsPicked columns (drop i rows)) n → TakesRow columns rows (drop (i + 1) rows) a.0 ords n
 row-start columns rows i a c ords n e f is h =
     let later = drop (i + 1) rows in
-    let same : picked_row (term_columns columns) a ≡ ords = picked-is columns a.0 a.1 c f ∙ sym is in
+    let same = sym (row-held columns a c ords f is) in
     record {
       noted = noted-less columns (IsPicked columns rows) (IsPicked columns (drop i rows)) (IsAhead columns a.0 ords later) n h
           (λ q w left. subst (λ os. IsAhead columns a.0 os later q) same (ahead-start columns a later q (subst (λ rs. IsPicked columns rs q) (drop-from rows i a e) left)));

@@ -2,6 +2,7 @@
 use Rattle.std.proofs.Common.{◌≡◌, ◌⊎◌, ℕ, ◌<◌, ◌^◌, sum, Bool, true, false, List, [], ◌++◌, map, length, unwrap_or, Some, Result, Ok, Err, append_assoc, refl, sym, ap, ◌∙◌, subst, inl, inr, arith}
 use Rattle.std.specs.Int.{w32, to_le_bytes}
 use Rattle.std.specs.List.{AllByRecursion}
+use Rattle.std.specs.Prelude.{OnOk}
 use Rattle.std.proofs.lemmas.Bool.{true≢false, eq-eqb}
 use Rattle.std.proofs.lemmas.List.{length-map, map-id}
 use Rattle.col_common.specs.Outside.{SeenSink}
@@ -12,7 +13,6 @@ use Rattle.col_common.proofs.SerializingLemmas.{serializes-then, serializes-no_m
 use Rattle.col_common.proofs.OnOkLemmas.{on_ok-always, on_ok-map}
 use Rattle.col_model.specs.Column.{number_rows}
 use Rattle.col_model.specs.ColumnType.{ColumnType, has_terms}
-use Rattle.col_model.specs.ColumnType as types
 use Rattle.col_model.specs.Index.{Counts, Shape, empty_shape, full_shape, optional_shape, multivalued_shape, counts_over}
 use Rattle.col_model.specs.Limits.{dictionary_length}
 use Rattle.col_model.specs.Positions.{picked_counts}
@@ -37,9 +37,16 @@ use Rattle.col_rows.proofs.TextLemmas.{stores-terms}
 use Rattle.col_text_merge.specs.Noting.{Noted, ords_by}
 use Rattle.col_text_merge.specs.Merged.{shapes_of, merged_content, MergesTexts, has_long_terms}
 use Rattle.col_text_merge.specs.Taking.{AreTold, IsTaken, IsNowhere, AreNoted}
-use Rattle.col_text_merge.specs.Writing.{SerializesBehindTerms}
+use Rattle.col_text_merge.specs.Writing.{SerializesOrds}
 use Rattle.col_text_merge.proofs.DictionaryLemmas.{written}
 use Rattle.col_text_merge.proofs.ContentLemmas.{long-is, column-is}
+
+-- Ok added bytes that stand for rows of n numbers of this type, with these counts, and how many
+-- bytes the dictionary in front takes; a refusal has a cause.
+pub record SerializesBehindTerms (old new : SeenSink) (result : Result (Unit {0}) ColumnarError) (t : ColumnType) (counts : Counts) (rows : List (List ℕ)) (dictionary_len : ℕ) : Type 0 where
+  pub bytes : List ℕ
+  pub again : OnOk result (number_rows bytes t 2 (length rows) ≡ Some (counts, rows))
+  pub written : Serializes old new result (bytes ++ to_le_bytes w32 dictionary_len)
 
 -- ---- a dictionary's terms
 
@@ -105,34 +112,39 @@ counts-own (multivalued_shape cs) m = rw (eq-eqb (length cs) (length cs) refl) r
 counts-whole : (n m : ℕ) (s : Shape) (counts : Counts) → row_count s m ≡ n → counts_over n s ≡ Some counts → counts_seen s m ≡ counts
 counts-whole n m s counts rows e = ap (λ o. unwrap_or o counts) (sym (counts-own s m) ∙ ap (λ k. counts_over k s) rows ∙ e)
 
-module _ (m v : Merge ℕ) (same : v ≡ m) (is : IsMerge m) (in_order : IsOrdered m) where
+-- ordinals were written, and then the dictionary's length
+pub ords-then : (s : Shape) (ords : List ℕ) (old mid new : SeenSink) (done : Unit {0}) (result : Result (Unit {0}) ColumnarError) (bytes last : List ℕ) (len : ℕ) → last ≡ to_le_bytes w32 len → StandForRows bytes s (map (λ x. x) ords) → Serializes old mid (Ok done) bytes → Serializes mid new result last → SerializesOrds old new result s ords len
+ords-then s ords old mid new done result bytes last len e stand first end = record {
+  bytes = bytes;
+  again = on_ok-always result (subst (StandForRows bytes s) (map-id ords) stand);
+  written = serializes-then old mid new done result bytes (to_le_bytes w32 len) first (subst (Serializes mid new result) e end);
+}
+
+module _ (m : Merge ℕ) (ords : List ℕ) (same : ords ≡ values_of m) (is : IsMerge m) (in_order : IsOrdered m) where
   -- as many ordinals as are counted
-  pub ords-few : sum (picked_counts m.columns.shapes (picks_of m.order)) < 2 ^ 32 → length (values_of v) < 2 ^ 32
-  ords-few few = omega (arith, few, ap (λ (w : Merge ℕ). length (values_of w)) same, length-merged m.columns (counts_of m.order) is (picks_of m.order) (picks-there m.order in_order))
+  pub ords-few : sum (picked_counts m.columns.shapes (picks_of m.order)) < 2 ^ 32 → length ords < 2 ^ 32
+  ords-few few = omega (arith, few, ap length same, length-merged m.columns (counts_of m.order) is (picks_of m.order) (picks-there m.order in_order))
 
   module _ (law : MergedValuesAreRows ℕ) (i : Index) (merged : IsMerged m.order m.columns.shapes i) where
     picked : HasPickedRows m (index_shape i)
     picked = law m (index_shape i) (merged_counts m.order m.columns.shapes) is in_order (merged, refl)
 
-    pub ords-counted : IsCounted (index_shape i) (length (values_of v))
-    ords-counted = subst (λ (w : Merge ℕ). IsCounted (index_shape i) (length (values_of w))) (sym same) picked.counted
+    pub ords-counted : IsCounted (index_shape i) (length ords)
+    ords-counted = subst (λ xs. IsCounted (index_shape i) (length xs)) (sym same) picked.counted
 
     -- they stand for the picked rows
-    ords-read : (bytes : List ℕ) (t : ColumnType) → has_terms t ≡ true → StandForRows bytes (index_shape i) (map (λ x. x) (values_of v)) → number_rows bytes t 2 (length (merged_rows m.columns (picks_of m.order))) ≡ Some (merged_counts m.order m.columns.shapes, merged_rows m.columns (picks_of m.order))
+    ords-read : (bytes : List ℕ) (t : ColumnType) → has_terms t ≡ true → StandForRows bytes (index_shape i) ords → number_rows bytes t 2 (length (merged_rows m.columns (picks_of m.order))) ≡ Some (merged_counts m.order m.columns.shapes, merged_rows m.columns (picks_of m.order))
     ords-read bytes t has stand =
         let xs = values_of m in
-        let own : map (λ x. x) (values_of v) ≡ xs = map-id (values_of v) ∙ ap (λ (w : Merge ℕ). values_of w) same in
         let long : length (merged_rows m.columns (picks_of m.order)) ≡ row_count (index_shape i) (length xs) = length-map (picks_of m.order) (picked_row m.columns) ∙ sym picked.num_rows in
         let counts = counts-whole (length (picks_of m.order)) (length xs) (index_shape i) (merged_counts m.order m.columns.shapes) picked.num_rows merged in
         ap (number_rows bytes t 2) long
-        ∙ subst (StandForRows bytes (index_shape i)) own stand t (stores-terms t xs has)
+        ∙ subst (StandForRows bytes (index_shape i)) same stand t (stores-terms t xs has)
         ∙ λ k. Some (counts k, picked.rows k)
 
-    -- they were written, and then the dictionary's length
-    pub ords-written : (old mid new : SeenSink) (done : Unit {0}) (result : Result (Unit {0}) ColumnarError) (bytes last : List ℕ) (t : ColumnType) (len : ℕ) → has_terms t ≡ true → last ≡ to_le_bytes w32 len → StandForRows bytes (index_shape i) (map (λ x. x) (values_of v)) → Serializes old mid (Ok done) bytes → Serializes mid new result last
-        → SerializesBehindTerms old new result t (merged_counts m.order m.columns.shapes) (merged_rows m.columns (picks_of m.order)) len
-    ords-written old mid new done result bytes last t len has e stand s end = record {
-      bytes = bytes;
-      again = on_ok-always result (ords-read bytes t has stand);
-      written = serializes-then old mid new done result bytes (to_le_bytes w32 len) s (subst (Serializes mid new result) e end);
+    pub ords-behind : (old new : SeenSink) (result : Result (Unit {0}) ColumnarError) (t : ColumnType) (len : ℕ) → has_terms t ≡ true → SerializesOrds old new result (index_shape i) ords len → SerializesBehindTerms old new result t (merged_counts m.order m.columns.shapes) (merged_rows m.columns (picks_of m.order)) len
+    ords-behind old new result t len has s = record {
+      bytes = s.bytes;
+      again = on_ok-map result (ords-read s.bytes t has) s.again;
+      written = s.written;
     }

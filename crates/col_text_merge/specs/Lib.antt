@@ -1,4 +1,5 @@
 pub mod Noting
 pub mod Merged
 pub mod Taking
+pub mod Ids
 pub mod Writing

@@ -47,11 +47,14 @@ pub record Sets {X : Type 0} (p : ℕ × ℕ) (x : X) (old new : List (List X)) 
 abbrev pub IsNoted : Noted → ℕ × ℕ → Type 0
 IsNoted n p = (id : ℕ) × (item_at n.ids p ≡ Some (Some id))
 
--- The term of a place was noted: the place has its id; ids of others stay, and no other term came.
+-- The term of a place was noted: the place has its id; ids of others stay, and of the place if it
+-- had one, and no other term came.
 pub record Notes (p : ℕ × ℕ) (t : List ℕ) (old new : Noted) : Type 0 where
   pub lengths : map length new.ids ≡ map length old.ids
   pub told : HasId new p t
   pub others : (q : ℕ × ℕ) → (q ≡ p) ⊎ (item_at new.ids q ≡ item_at old.ids q)
+  pub keeps : (q : ℕ × ℕ) (id : ℕ) → item_at old.ids q ≡ Some (Some id)
+      → item_at new.ids q ≡ Some (Some id)
   pub stay : (id : ℕ) → id < length old.terms → slice_get new.terms id ≡ slice_get old.terms id
   pub came : (id : ℕ) → id < length new.terms →
       (id < length old.terms) ⊎ (slice_get new.terms id ≡ Some t)

@@ -1,31 +1,33 @@
 //! Writes merged columns of terms.
-ghost use Rattle.std.specs.Prelude.{◌≡◌, ◌<◌, ◌^◌, true, false, length, sum};
+ghost use Rattle.std.specs.Prelude.{◌≡◌, ◌<◌, ◌^◌, true, false, length, sum, IfOk};
 ghost use Rattle.std.specs.List.{AllByRecursion};
 ghost use Rattle.col_model.specs.ColumnType.{ColumnType, has_terms};
 ghost use Rattle.col_model.specs.Positions.{picked_counts};
 ghost use Rattle.col_order.specs.Orders.{picks_of};
 ghost use Rattle.col_order.specs.RowOrders.{order_of};
-ghost use Rattle.col_indexer.specs.Merged.{IsMerged, merged_counts};
-ghost use Rattle.col_indexer.specs.Spelling.{IsIndex, is_past_limit};
+ghost use Rattle.col_indexer.specs.Merged.{IsMerged};
+ghost use Rattle.col_indexer.specs.Spelling.{IsIndex, index_shape, is_past_limit};
+ghost use Rattle.col_column.specs.Columns.{IsCounted};
+ghost use Rattle.col_terms.specs.Building.{ordinals};
 ghost use Rattle.col_indexer.specs.Written.{index_of};
-ghost use Rattle.col_value_merge.specs.Merges.{IsMerge, merge_of, merged_rows};
+ghost use Rattle.col_value_merge.specs.Merges.{merge_of, values_of};
 ghost use Rattle.col_value_merge.specs.TermColumns.{remapped_columns};
 ghost use Rattle.col_text_merge.specs.Merged.{FitSegments, MergesTexts, shapes_of, has_long_terms, merged_content};
 ghost use Rattle.col_text_merge.specs.Taking.{AreTold, IsTaken, IsNowhere, AreNoted};
-ghost use Rattle.col_text_merge.specs.Writing.{SerializesBehindTerms};
-ghost use Rattle.col_term_merge.specs.Numbering.{lists_of};
+ghost use Rattle.col_text_merge.specs.Noting.{ords_by};
+ghost use Rattle.col_text_merge.specs.Ids.{HasIds};
+ghost use Rattle.col_text_merge.specs.Writing.{SerializesOrds};
 
-use crate::noted_terms::NotedTerms;
+use crate::noted_terms::{NotedTerms, picked_ords};
 use crate::take_terms::take_terms;
+use col_column::serialize_column_mappable_to_u64;
 use col_common::{ColumnarError, Sink, serialize_bytes};
 use col_indexer::SerializableColumnIndex;
 use col_order::{MergeRowOrder, orders_are_picks};
-use col_terms::{dictionaries_are_read_back, terms_are_those_given};
+use col_terms::{TermIdMapping, dictionaries_are_read_back, terms_are_those_given};
 use col_text::BytesColumn;
-use col_value_merge::{
-    RemappedTermOrdinalsValues, merged_values_are_rows, serialize_collected_u64,
-};
-use std::alloc::Global;
+use col_value_merge::{InMemory, RemappedTermOrdinalsValues, merged_values_are_rows};
+use std::alloc::{AllocError, Global};
 
 /// Writes the column of the rows that an order picks from columns of terms, behind the index of
 /// these rows. It answers TooLarge exactly where 32 bits don't count the bytes of its terms.
@@ -49,12 +51,14 @@ pub fn merge_bytes_or_str_column<K: Sink>(
         result t (length (picks_of order)) (merged_content bytes_columns.now order) }
 {
     ordinals_are_told(bytes_columns);
-    let noted = take_terms(alloc, bytes_columns, merge_row_order)?;
+    let mut ids = Vec::new(alloc);
+    let noted = take_terms(alloc, bytes_columns, merge_row_order, &mut ids)?;
     write_merged(
         alloc,
         column_index,
         bytes_columns,
         &noted,
+        &ids,
         merge_row_order,
         sink,
     )
@@ -69,12 +73,13 @@ pub fn ordinals_are_told(bytes_columns: &[BytesColumn])
     }
 }
 
-// Writes the merged column of terms that were taken.
+// Writes the merged column of terms that were taken, with the ids of a shuffle's values.
 fn write_merged<K: Sink>(
     alloc: Global,
     column_index: SerializableColumnIndex<'_>,
     bytes_columns: &[BytesColumn],
     noted: &NotedTerms,
+    ids: &[u32],
     merge_row_order: &MergeRowOrder,
     sink: &mut K,
 ) -> Result<(), ColumnarError>
@@ -82,6 +87,7 @@ fn write_merged<K: Sink>(
     requires told { AllByRecursion AreTold bytes_columns.now }
     requires noted { AreNoted bytes_columns.now
         (IsTaken bytes_columns.now (order_of merge_row_order.now)) IsNowhere noted.now }
+    requires ids { HasIds bytes_columns.now (order_of merge_row_order.now) noted.now ids.now }
     requires few { sum (picked_counts (shapes_of bytes_columns.now)
         (picks_of (order_of merge_row_order.now))) < 2 ^ 32 }
     requires index { IsIndex (index_of column_index) }
@@ -96,50 +102,58 @@ fn write_merged<K: Sink>(
     dictionaries_are_read_back();
     terms_are_those_given();
     orders_are_picks(merge_row_order);
+    merged_values_are_rows::<u64>();
     noted.terms_differ();
     let mapping = noted.serialize(sink)?;
-    let ords = noted.ords_by_column(alloc, &mapping)?;
-    write_ords(
-        alloc,
-        column_index,
-        bytes_columns,
-        &ords,
-        merge_row_order,
-        noted.dictionary_len(),
-        sink,
-    )
+    let ords = merged_ords(alloc, bytes_columns, noted, &mapping, ids, merge_row_order)?;
+    write_ords(alloc, column_index, &ords, noted.dictionary_len(), sink)
 }
 
-// Writes the ordinals of picked rows, as mappings have them, and how many bytes the dictionary in
-// front takes.
+// The ordinals of the values of picked rows, as a mapping of ids has them.
+fn merged_ords(
+    alloc: Global,
+    bytes_columns: &[BytesColumn],
+    noted: &NotedTerms,
+    mapping: &TermIdMapping,
+    ids: &[u32],
+    merge_row_order: &MergeRowOrder,
+) -> Result<Vec<u64>, AllocError>
+    requires segments { FitSegments (order_of merge_row_order.now) bytes_columns.now }
+    requires told { AllByRecursion AreTold bytes_columns.now }
+    requires noted { AreNoted bytes_columns.now
+        (IsTaken bytes_columns.now (order_of merge_row_order.now)) IsNowhere noted.now }
+    requires mapping { mapping.now ≡ ordinals noted.now.terms }
+    requires ids { HasIds bytes_columns.now (order_of merge_row_order.now) noted.now ids.now }
+    ensures { IfOk result (λ v. v.items ≡ values_of (merge_of
+        (remapped_columns bytes_columns.now (ords_by (ordinals noted.now.terms) noted.now.ids))
+        (order_of merge_row_order.now))) }
+{
+    terms_are_those_given();
+    orders_are_picks(merge_row_order);
+    match merge_row_order {
+        MergeRowOrder::Stack(_) => {
+            let ords = noted.ords_by_column(alloc, mapping)?;
+            RemappedTermOrdinalsValues::new(bytes_columns, &ords, merge_row_order).in_memory(alloc)
+        }
+        MergeRowOrder::Shuffled(_) => picked_ords(alloc, mapping, ids),
+    }
+}
+
+// Writes ordinals, and how many bytes the dictionary in front takes.
 fn write_ords<K: Sink>(
     alloc: Global,
     column_index: SerializableColumnIndex<'_>,
-    bytes_columns: &[BytesColumn],
-    term_ord_mapping: &[Vec<u64>],
-    merge_row_order: &MergeRowOrder,
+    ords: &[u64],
     dictionary_len: u32,
     sink: &mut K,
 ) -> Result<(), ColumnarError>
-    requires segments { IsMerge (merge_of
-        (remapped_columns bytes_columns.now (lists_of term_ord_mapping.now))
-        (order_of merge_row_order.now)) }
-    requires few { sum (picked_counts (shapes_of bytes_columns.now)
-        (picks_of (order_of merge_row_order.now))) < 2 ^ 32 }
     requires index { IsIndex (index_of column_index) }
-    requires merged { IsMerged (order_of merge_row_order.now) (shapes_of bytes_columns.now)
-        (index_of column_index) }
     requires limit { is_past_limit (index_of column_index) ≡ false }
-    ensures { let order = order_of merge_row_order.now in
-        (t : ColumnType) → has_terms t ≡ true →
-        SerializesBehindTerms (K.seen sink.old) (K.seen sink.new) result t
-        (merged_counts order (shapes_of bytes_columns.now))
-        (merged_rows (remapped_columns bytes_columns.now (lists_of term_ord_mapping.now))
-        (picks_of order)) dictionary_len }
+    requires counted { IsCounted (index_shape (index_of column_index)) (length ords.now) }
+    requires few { length ords.now < 2 ^ 32 }
+    ensures { SerializesOrds (K.seen sink.old) (K.seen sink.new) result
+        (index_shape (index_of column_index.entry)) ords.now dictionary_len }
 {
-    orders_are_picks(merge_row_order);
-    merged_values_are_rows::<u64>();
-    let values = RemappedTermOrdinalsValues::new(bytes_columns, term_ord_mapping, merge_row_order);
-    serialize_collected_u64(alloc, column_index, &values, sink)?;
+    serialize_column_mappable_to_u64(alloc, column_index, &ords, sink)?;
     serialize_bytes(sink, &dictionary_len.to_le_bytes())
 }

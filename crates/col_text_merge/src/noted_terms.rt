@@ -1,5 +1,5 @@
 //! Terms of columns, each noted once.
-ghost use Rattle.std.specs.Prelude.{◌≡◌, ◌<◌, true, is_some, map, length, option_and_then, IfOk, IfErr, OnOk, Some, slice_get, unwrap_or};
+ghost use Rattle.std.specs.Prelude.{◌≡◌, ◌<◌, true, is_some, map, length, None, IfOk, IfErr, OnOk, Some, slice_get, slice_index, unwrap_or};
 ghost use Rattle.std.specs.List.{AllByRecursion};
 ghost use Rattle.col_term_merge.specs.Numbering.{item_at, lists_of, terms_of};
 ghost use Rattle.col_text_merge.specs.Noting.{ids_of, noted_by, no_ids_of, ord_by, ords_by, Sets, Notes, IsNoteRefusal, IsIdBelow};
@@ -53,24 +53,25 @@ impl NotedTerms {
         })
     }
 
-    /// Notes the term of an ordinal of a segment's column.
+    /// Notes the term of an ordinal of a segment's column, and tells its id.
     pub(crate) fn note(
         &mut self,
         column: &BytesColumn,
         segment: usize,
         ord: u64,
-    ) -> Result<(), ColumnarError>
+    ) -> Result<u32, ColumnarError>
         requires term { ord < length column.now.terms }
         requires place { is_some (item_at self.old.ids (segment, ord)) ≡ true }
         requires held { HasIdIf self.old (segment, ord)
             (unwrap_or (slice_get column.now.terms ord) []) }
         ensures ok { OnOk result (Notes (segment, ord)
             (unwrap_or (slice_get column.now.terms ord) []) self.old self.new) }
+        ensures id { IfOk result (λ id. item_at self.new.ids (segment, ord) ≡ Some (Some id)) }
         ensures err { IfErr result
             (IsNoteRefusal self.old.terms (unwrap_or (slice_get column.now.terms ord) [])) }
     {
-        if has_id(&self.ids, segment, ord) {
-            return Ok(());
+        if let Some(id) = id_at(&self.ids, segment, ord) {
+            return Ok(id);
         }
         column.ord_to_bytes(ord, &mut self.term)?;
         give_id(&mut self.terms, &mut self.ids, &self.term, segment, ord)
@@ -125,33 +126,34 @@ fn no_ids(alloc: Global, bytes_columns: &[BytesColumn]) -> Result<Vec<Vec<Option
     Ok(ids)
 }
 
-// Whether a place has an id.
-fn has_id(ids: &[Vec<Option<u32>>], segment: usize, ord: u64) -> bool
+// The id of a place, if it has one.
+fn id_at(ids: &[Vec<Option<u32>>], segment: usize, ord: u64) -> Option<u32>
     requires { is_some (item_at (ids_of ids.now) (segment, ord)) ≡ true }
-    ensures { result
-        ≡ is_some (option_and_then (λ id. id) (item_at (ids_of ids.now) (segment, ord))) }
+    ensures { item_at (ids_of ids.now) (segment, ord) ≡ Some result }
 {
     let column_ids = &ids[segment];
-    column_ids[ord as usize].is_some()
+    column_ids[ord as usize]
 }
 
-// Gives a place the id of its term, which gets the next one if it is new.
+// Gives a place without an id that of its term, which gets the next one if it is new, and tells
+// it.
 fn give_id(
     terms: &mut DictionaryBuilder,
     ids: &mut [Vec<Option<u32>>],
     term: &[u8],
     segment: usize,
     ord: u64,
-) -> Result<(), ColumnarError>
-    requires { is_some (item_at (ids_of ids.old) (segment, ord)) ≡ true }
+) -> Result<u32, ColumnarError>
+    requires { item_at (ids_of ids.old) (segment, ord) ≡ Some None }
     ensures ok { OnOk result (Notes (segment, ord) term.now
         (noted_by terms.old ids.old) (noted_by terms.new ids.new)) }
+    ensures id { IfOk result (λ id. item_at (ids_of ids.new) (segment, ord) ≡ Some (Some id)) }
     ensures err { IfErr result (IsNoteRefusal terms.old term.now) }
 {
     terms.terms_differ();
     let id = terms.get_or_allocate_id(term)?;
     set_id(ids, segment, ord, id.0);
-    Ok(())
+    Ok(id.0)
 }
 
 // Gives a place an id.
@@ -204,4 +206,20 @@ fn ord_of(mapping: &TermIdMapping, id: Option<u32>) -> u64
         Some(id) => u64::from(mapping.to_ord(UnorderedId(id)).0),
         None => 0,
     }
+}
+
+/// The ordinals of ids.
+pub(crate) fn picked_ords(
+    alloc: Global,
+    mapping: &TermIdMapping,
+    ids: &[u32],
+) -> Result<Vec<u64>, AllocError>
+    requires { AllByRecursion (λ id. id < length mapping.now) ids.now }
+    ensures { IfOk result (λ v. v.items ≡ map (slice_index mapping.now) ids.now) }
+{
+    let mut ords = Vec::with_capacity(alloc, ids.len())?;
+    for id in ids {
+        ords.push(ord_of(mapping, Some(*id)))?;
+    }
+    Ok(ords)
 }

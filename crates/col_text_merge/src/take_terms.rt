@@ -1,10 +1,11 @@
 //! Notes the terms that a merged column has.
-ghost use Rattle.std.specs.Prelude.{◌≡◌, ◌<◌, [], ◌+◌, length, drop, slice_get, Some, IfOk, IfErr, OnOk};
+ghost use Rattle.std.specs.Prelude.{◌≡◌, ◌<◌, [], ◌+◌, length, take, drop, slice_get, Some, IfOk, IfErr, OnOk};
 ghost use Rattle.std.specs.List.{AllByRecursion};
 ghost use Rattle.col_model.specs.Order.{stack, shuffle};
 ghost use Rattle.col_order.specs.RowOrders.{order_of};
 ghost use Rattle.col_text_merge.specs.Merged.{FitSegments};
 ghost use Rattle.col_text_merge.specs.Taking.{AreTold, IsPlace, IsPicked, IsTaken, IsFrom, IsNowhere, AreNoted, IsTakeRefusal};
+ghost use Rattle.col_text_merge.specs.Ids.{AreIds, HasIds, places_of};
 
 use crate::noted_terms::NotedTerms;
 use col_common::{ColumnarError, RowId};
@@ -12,20 +13,25 @@ use col_order::{MergeRowOrder, ShuffleMergeOrder};
 use col_text::BytesColumn;
 use std::alloc::Global;
 
-/// The terms of a stack's columns, or those that a shuffle's rows have.
+/// The terms of a stack's columns, or those that a shuffle's rows have, with the id of each value
+/// of these rows.
 pub(crate) fn take_terms(
     alloc: Global,
     bytes_columns: &[BytesColumn],
     merge_row_order: &MergeRowOrder,
+    ids: &mut Vec<u32>,
 ) -> Result<NotedTerms, ColumnarError>
     requires fit { FitSegments (order_of merge_row_order.now) bytes_columns.now }
     requires told { AllByRecursion AreTold bytes_columns.now }
+    requires none { ids.old.items ≡ [] }
     ensures ok { IfOk result (AreNoted bytes_columns.now
         (IsTaken bytes_columns.now (order_of merge_row_order.now)) IsNowhere) }
+    ensures ids { IfOk result (λ noted.
+        HasIds bytes_columns.now (order_of merge_row_order.now) noted ids.new.items) }
     ensures err { IfErr result (IsTakeRefusal bytes_columns.now (order_of merge_row_order.now)) }
 {
     let mut noted = NotedTerms::new(alloc, bytes_columns)?;
-    take_by_order(bytes_columns, merge_row_order, &mut noted)?;
+    take_by_order(bytes_columns, merge_row_order, &mut noted, ids)?;
     Ok(noted)
 }
 
@@ -34,17 +40,21 @@ fn take_by_order(
     bytes_columns: &[BytesColumn],
     merge_row_order: &MergeRowOrder,
     noted: &mut NotedTerms,
+    ids: &mut Vec<u32>,
 ) -> Result<(), ColumnarError>
     requires fit { FitSegments (order_of merge_row_order.now) bytes_columns.now }
     requires noted { let taken = IsTaken bytes_columns.now (order_of merge_row_order.now) in
         AreNoted bytes_columns.now taken taken noted.old }
+    requires none { ids.old.items ≡ [] }
     ensures ok { OnOk result (AreNoted bytes_columns.now
         (IsTaken bytes_columns.now (order_of merge_row_order.now)) IsNowhere noted.new) }
+    ensures ids { OnOk result
+        (HasIds bytes_columns.now (order_of merge_row_order.now) noted.new ids.new.items) }
     ensures err { IfErr result (IsTakeRefusal bytes_columns.now (order_of merge_row_order.now)) }
 {
     match merge_row_order {
         MergeRowOrder::Stack(_) => take_all(bytes_columns, noted),
-        MergeRowOrder::Shuffled(order) => take_picked(bytes_columns, order, noted),
+        MergeRowOrder::Shuffled(order) => take_picked(bytes_columns, order, noted, ids),
     }
 }
 
@@ -81,42 +91,51 @@ fn take_column(
     Ok(())
 }
 
-// Notes the terms that picked rows have.
+// Notes the terms that picked rows have, and their ids.
 fn take_picked(
     bytes_columns: &[BytesColumn],
     order: &ShuffleMergeOrder,
     noted: &mut NotedTerms,
+    ids: &mut Vec<u32>,
 ) -> Result<(), ColumnarError>
     requires fit { FitSegments (shuffle order.now.counts order.now.addresses) bytes_columns.now }
     requires noted { AreNoted bytes_columns.now
         (IsPicked bytes_columns.now order.now.addresses)
         (IsPicked bytes_columns.now order.now.addresses) noted.old }
+    requires none { ids.old.items ≡ [] }
     ensures ok { OnOk result (AreNoted bytes_columns.now
         (IsPicked bytes_columns.now order.now.addresses) IsNowhere noted.new) }
+    ensures ids { OnOk result (AreIds noted.new.ids
+        (places_of bytes_columns.now order.now.addresses) ids.new.items) }
     ensures err { IfErr result
         (IsTakeRefusal bytes_columns.now (shuffle order.now.counts order.now.addresses)) }
 {
     for row in 0..order.num_rows() {
-        take_row(bytes_columns, order, row, noted)?;
+        take_row(bytes_columns, order, row, noted, ids)?;
     }
     Ok(())
 }
 
-// Notes the terms that a picked row has.
+// Notes the terms that a picked row has, and their ids.
 fn take_row(
     bytes_columns: &[BytesColumn],
     order: &ShuffleMergeOrder,
     row: RowId,
     noted: &mut NotedTerms,
+    ids: &mut Vec<u32>,
 ) -> Result<(), ColumnarError>
     requires row { row < length order.now.addresses }
     requires fit { FitSegments (shuffle order.now.counts order.now.addresses) bytes_columns.now }
     requires noted { AreNoted bytes_columns.now
         (IsPicked bytes_columns.now order.now.addresses)
         (IsPicked bytes_columns.now (drop row order.now.addresses)) noted.old }
+    requires ids { AreIds noted.old.ids
+        (places_of bytes_columns.now (take row order.now.addresses)) ids.old.items }
     ensures ok { OnOk result (AreNoted bytes_columns.now
         (IsPicked bytes_columns.now order.now.addresses)
         (IsPicked bytes_columns.now (drop (row + 1) order.now.addresses)) noted.new) }
+    ensures ids { OnOk result (AreIds noted.new.ids
+        (places_of bytes_columns.now (take (row + 1) order.now.addresses)) ids.new.items) }
     ensures err { IfErr result
         (IsTakeRefusal bytes_columns.now (shuffle order.now.counts order.now.addresses)) }
 {
@@ -126,7 +145,7 @@ fn take_row(
     let column = &bytes_columns[segment];
     let mut ords = column.term_ords(row_addr.row_id);
     while let Some(ord) = ords.next() {
-        noted.note(column, segment, ord)?;
+        ids.push(noted.note(column, segment, ord)?)?;
     }
     Ok(())
 }

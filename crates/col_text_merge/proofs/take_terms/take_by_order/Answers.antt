@@ -1,6 +1,8 @@
 use Rattle.std.proofs.Common.{sym, subst}
 use Rattle.std.specs.Prelude.{OnOk}
 use Rattle.col_order.specs.RowOrders.{order_of}
+use Rattle.col_common.proofs.OnOkLemmas.{on_ok-always}
+use Rattle.col_text_merge.specs.Ids.{HasIds}
 use Rattle.col_text_merge.specs.Taking.{IsPlace, IsTaken, IsFrom, IsNowhere, AreNoted}
 use Rattle.col_text_merge.proofs.NoteLemmas.{noted-less}
 use Rattle.col_text_merge.proofs.TakeLemmas.{from-all}
@@ -27,3 +29,13 @@ pub returns-in-Shuffled-clause-ok : goal.returns-in-Shuffled-clause-ok
 returns-in-Shuffled-clause-ok c =
     let columns = c.args.bytes_columns.now in
     subst (λ o. OnOk c.take_picked.result (AreNoted columns (IsTaken columns (order_of o)) IsNowhere c.take_picked.new.noted)) (sym c.in-Shuffled.is) c.take_picked.ensures.ok
+
+pub returns-in-Stack-clause-ids : goal.returns-in-Stack-clause-ids
+returns-in-Stack-clause-ids c =
+    let columns = c.args.bytes_columns.now in
+    subst (λ o. OnOk c.take_all.result (HasIds columns (order_of o) c.take_all.new.noted c.args.ids.now.items)) (sym c.in-Stack.is) (on_ok-always c.take_all.result c.requires.none)
+
+pub returns-in-Shuffled-clause-ids : goal.returns-in-Shuffled-clause-ids
+returns-in-Shuffled-clause-ids c =
+    let columns = c.args.bytes_columns.now in
+    subst (λ o. OnOk c.take_picked.result (HasIds columns (order_of o) c.take_picked.new.noted c.take_picked.new.ids.items)) (sym c.in-Shuffled.is) c.take_picked.ensures.ids
