@@ -17,7 +17,7 @@ use col_index::ColumnIndex;
 use col_numbers::NumValues;
 use col_order::{MergeRowOrder, orders_are_picks};
 use col_types::StoredAsU64;
-use col_value_merge::{MergedColumnValues, serialize_collected_u64};
+use col_value_merge::{MergedColumnValues, serialize_merged_u64};
 use std::alloc::Global;
 
 /// Writes the column of the rows that an order picks from columns: an index and a list for each
@@ -45,7 +45,7 @@ where
         return Err(ColumnarError::TooLarge);
     };
     let values = MergedColumnValues::new(column_indexes, column_values, merge_row_order);
-    serialize_collected_u64(alloc, index, &values, sink)
+    serialize_merged_u64(alloc, index, &values, sink)
 }
 
 // Each value is one of its type.

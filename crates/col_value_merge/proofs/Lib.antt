@@ -1,6 +1,7 @@
 mod ColumnRowLemmas
 mod StackedValueLemmas
 mod RunLemmas
+mod PickedLemmas
 mod AppendLemmas
 pub mod RemappedLemmas
 pub mod ColumnListLemmas

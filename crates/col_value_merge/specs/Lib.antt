@@ -1,3 +1,4 @@
 pub mod Merges
 pub mod TermColumns
+pub mod Picked
 pub mod Laws

@@ -7,11 +7,12 @@ mod in_memory;
 mod laws;
 mod lists;
 mod merged_column_values;
+mod picked;
 mod remapped_term_ordinals;
 mod runs;
 mod segments;
 
-pub use in_memory::{InMemory, serialize_collected_u64, serialize_collected_u128};
+pub use in_memory::{InMemory, serialize_collected_u128, serialize_merged_u64};
 pub use laws::{merged_cells_are_picked, merged_values_are_rows};
 pub use merged_column_values::MergedColumnValues;
 pub use remapped_term_ordinals::RemappedTermOrdinalsValues;

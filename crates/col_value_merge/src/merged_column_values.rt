@@ -5,11 +5,13 @@ ghost use Rattle.col_order.specs.RowOrders.{order_of};
 
 use crate::in_memory::InMemory;
 use crate::lists::append_list;
-use crate::runs::{next_value, picked_values};
+use crate::picked::{PickedColumn, is_full, picked_column};
+use crate::runs::{next_value, num_vals_in_all, picked_values};
 use crate::segments::Segments;
 use col_common::{Iterable, RowId, Walk};
 use col_index::ColumnIndex;
-use col_order::MergeRowOrder;
+use col_indexer::SerializableColumnIndex;
+use col_order::{MergeRowOrder, orders_are_picks};
 use col_values::ColumnValues;
 use std::alloc::{AllocError, Global};
 use std::marker::{Model, PhantomData};
@@ -65,7 +67,10 @@ where
     T: PartialOrd + Copy,
     V: ColumnValues<T>,
 {
-    ghost use Rattle.col_value_merge.specs.Merges.{IsMerge, columns_by, merge_of};
+    ghost use Rattle.std.specs.Prelude.{◌<◌, ◌^◌, length, IfOk, IfSome};
+    ghost use Rattle.col_order.specs.Orders.{picks_of};
+    ghost use Rattle.col_value_merge.specs.Merges.{IsMerge, columns_by, merge_of, values_of};
+    ghost use Rattle.col_value_merge.specs.Picked.{ArePicked};
 
     /// The values of an index and a list for each segment of an order, which the index counts. It
     /// asks nothing of the lists.
@@ -88,6 +93,30 @@ where
                 types: PhantomData,
             },
             order: merge_row_order,
+        }
+    }
+
+    /// What a shuffle picks, in memory, where an index has lists of it; none of a stack, whose lists
+    /// stand together.
+    pub(crate) fn picked(
+        &self,
+        alloc: Global,
+        column_index: &SerializableColumnIndex<'_>,
+    ) -> Result<Option<PickedColumn<T>>, AllocError>
+        requires { length (values_of self.now) < 2 ^ 32 }
+        ensures { IfOk result (λ o. IfSome o (λ p. ArePicked self.now.columns
+            (picks_of self.now.order) p.rows.items p.starts.items p.values.items)) }
+    {
+        orders_are_picks(self.order);
+        if is_full(column_index) {
+            return Ok(None);
+        }
+        match self.order {
+            MergeRowOrder::Stack(_) => Ok(None),
+            MergeRowOrder::Shuffled(order) => {
+                let num_vals = num_vals_in_all(&self.columns, self.order);
+                Ok(Some(picked_column(alloc, &self.columns, order, num_vals)?))
+            }
         }
     }
 }

@@ -104,9 +104,9 @@ fn find_row<T: Copy, S: Segments<T>>(segments: &S, order: &ShuffleMergeOrder, at
     false
 }
 
-// The positions of the values of the row that an address names.
+/// The positions of the values of the row that an address names.
 #[inline(always)]
-fn value_row_ids<T: Copy, S: Segments<T>>(
+pub(crate) fn value_row_ids<T: Copy, S: Segments<T>>(
     segments: &S,
     order: &ShuffleMergeOrder,
     addr: RowAddr,
@@ -139,8 +139,8 @@ pub(crate) fn picked_values<T: Copy, S: Segments<T>>(
     Ok(values)
 }
 
-// How many values all segments have, as far as memory reaches.
-fn num_vals_in_all<T: Copy, S: Segments<T>>(segments: &S, order: &MergeRowOrder) -> usize
+/// How many values all segments have, as far as memory reaches.
+pub(crate) fn num_vals_in_all<T: Copy, S: Segments<T>>(segments: &S, order: &MergeRowOrder) -> usize
     requires { AreColumns (counts_of (order_of order.now)) (S.columns segments.now) }
 {
     let mut num_vals = 0usize;
@@ -202,9 +202,9 @@ fn append_rows<T: Copy, S: Segments<T>>(
     Ok(())
 }
 
-// Appends the values of a segment from a position on, up to another one.
+/// Appends the values of a segment from a position on, up to another one.
 #[inline(always)]
-fn append_run<T: Copy, S: Segments<T>>(
+pub(crate) fn append_run<T: Copy, S: Segments<T>>(
     segments: &S,
     segment: usize,
     start: RowId,
