@@ -323,10 +323,49 @@ impl Words {
     }
 }
 
-// The rows with a value, and where the values of each start.
-struct Starts { words: Words, data: Vec<u8>, width: usize, mask: u64 }
+// Packed rows, and how many stand before each part of 2 ^ shift rows: a rank looks through one part.
+struct Buckets { data: Vec<u8>, width: usize, mask: u64, shift: u32, before: Vec<u32> }
 
-impl Starts {
+impl Buckets {
+    fn of(num_rows: usize, rows: &[u32]) -> Buckets {
+        let width = 64 - (num_rows as u64).leading_zeros() as usize;
+        let shift = (2 * num_rows / rows.len().max(1)).max(1).ilog2();
+        let mut before = vec![0; (num_rows >> shift) + 2];
+        for row in rows { before[(row >> shift) as usize + 1] += 1 }
+        for at in 1..before.len() { before[at] += before[at - 1] }
+        let data = pack(width, rows.iter().map(|row| u64::from(*row)));
+        Buckets { data, width, mask: (1 << width) - 1, shift, before }
+    }
+}
+
+trait Ranks {
+    fn rank_if_exists(&self, row: u32) -> Option<u32>;
+}
+
+impl Ranks for Words {
+    #[inline(always)]
+    fn rank_if_exists(&self, row: u32) -> Option<u32> { Words::rank_if_exists(self, row) }
+}
+
+impl Ranks for Buckets {
+    #[inline(always)]
+    fn rank_if_exists(&self, row: u32) -> Option<u32> {
+        let part = (row >> self.shift) as usize;
+        let (first, end) = unsafe { (*self.before.get_unchecked(part), *self.before.get_unchecked(part + 1)) };
+        let (mut rank, mut found) = (first, false);
+        for at in first..end {
+            let other = unsafe { item(&self.data, self.width, self.mask, at as usize) as u32 };
+            rank += u32::from(other < row);
+            found |= other == row;
+        }
+        found.then_some(rank)
+    }
+}
+
+// The rows with a value, and where the values of each start.
+struct Starts<R> { ranks: R, data: Vec<u8>, width: usize, mask: u64 }
+
+impl<R: Ranks> Starts<R> {
     #[inline(always)]
     fn start(&self, rank: u32) -> u32 {
         unsafe { item(&self.data, self.width, self.mask, rank as usize) as u32 }
@@ -334,7 +373,7 @@ impl Starts {
 
     #[inline(always)]
     fn range(&self, row: u32) -> Range<u32> {
-        match self.words.rank_if_exists(row) {
+        match self.ranks.rank_if_exists(row) {
             Some(rank) => self.start(rank)..self.start(rank + 1),
             None => 0..0,
         }
@@ -342,12 +381,12 @@ impl Starts {
 }
 
 #[inline(never)]
-fn sum_of_ranks(words: &Words, rows: impl Iterator<Item = u32>) -> u64 {
-    rows.map(|row| words.rank_if_exists(row).map_or(0, |rank| u64::from(rank) + 1)).sum()
+fn sum_of_ranks(ranks: &impl Ranks, rows: impl Iterator<Item = u32>) -> u64 {
+    rows.map(|row| ranks.rank_if_exists(row).map_or(0, |rank| u64::from(rank) + 1)).sum()
 }
 
 #[inline(never)]
-fn sum_of_values(starts: &Starts, num_rows: u32) -> u64 {
+fn sum_of_values(starts: &Starts<impl Ranks>, num_rows: u32) -> u64 {
     (0..num_rows).map(|row| {
         let positions = starts.range(row);
         u64::from(positions.end - positions.start)
@@ -387,7 +426,7 @@ fn measure_list<const W: usize>(count: usize, bound: u64, places: &[u32]) {
     }
 }
 
-fn measure_index(count: usize, percent: u64, places: &[u32]) {
+fn measure_index<R: Ranks>(count: usize, percent: u64, places: &[u32], ranks_of: fn(usize, &[u32]) -> R) {
     let draws: Vec<u64> = draws(count, percent).collect();
     let (mut rows, mut starts) = (Vec::new(), vec![0]);
     for (row, draw) in draws.iter().enumerate() {
@@ -396,13 +435,13 @@ fn measure_index(count: usize, percent: u64, places: &[u32]) {
             starts.push(starts[starts.len() - 1] + 1 + draw % 3);
         }
     }
-    let words = Words::of(count, &rows);
-    let random = best(|| sum_of_ranks(black_box(&words), black_box(places).iter().copied()));
+    let ranks = ranks_of(count, &rows);
+    let random = best(|| sum_of_ranks(black_box(&ranks), black_box(places).iter().copied()));
     say(format!("rank_random_{percent}"), places.len(), random);
-    let in_order = best(|| sum_of_ranks(black_box(&words), 0..black_box(count) as u32));
+    let in_order = best(|| sum_of_ranks(black_box(&ranks), 0..black_box(count) as u32));
     say(format!("rank_in_order_{percent}"), count, in_order);
     let width = 64 - starts[starts.len() - 1].leading_zeros() as usize;
-    let starts = Starts { words, data: pack(width, starts.iter().copied()), width, mask: (1 << width) - 1 };
+    let starts = Starts { ranks, data: pack(width, starts.iter().copied()), width, mask: (1 << width) - 1 };
     let values = best(|| sum_of_values(black_box(&starts), black_box(count) as u32));
     say(format!("values_in_order_{percent}"), count, values);
 }
@@ -414,6 +453,7 @@ fn main() {
         measure_list::<10>(count, 1000, &places);
         measure_list::<20>(count, 1_000_000, &places);
         measure_list::<33>(count, 8_000_000_000, &places);
-        for percent in [80, 20, 2] { measure_index(count, percent, &places) }
+        for percent in [80, 20, 2] { measure_index(count, percent, &places, Words::of) }
+        measure_index(count, 1, &places, Buckets::of);
     }
 }

@@ -118,6 +118,7 @@ fn measure<L: List>(vals: &[u64], mask: u64) {
     say("load", best(|| load::<L>(black_box(bytes)).unwrap().1.max));
     let (list, Told { count, .. }) = load::<L>(bytes).unwrap();
     say("get_val", best(|| sum_by_get_val(black_box(&list), count)));
+    say("iter", best(|| sum_by_get_val(black_box(&list), count)));
     say("get_range", best(|| sum_by_get_range(black_box(&list), count)));
     let mut hits = Vec::new();
     for percent in [1, 10, 50] {

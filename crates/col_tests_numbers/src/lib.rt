@@ -3,5 +3,6 @@
 
 #[cfg(test)]
 mod bits;
+pub mod counted;
 #[cfg(test)]
 mod numbers;

@@ -2,6 +2,9 @@
 //! inside, and some hold an end.
 
 use super::lists::stepped;
+use crate::counted::look_up;
+use bytes::Bytes;
+use col_codecs::{BitpackedCodec, ColumnCodec};
 use col_numbers::{ALL_U64_CODEC_TYPES, U64Values, serialize_and_load_u64_values};
 use col_values::ColumnValues;
 use std::alloc::Global;
@@ -92,6 +95,26 @@ fn lookups_find_all_or_none_of_one_value(rt: HostRuntime) -> Result<(), Fail> {
         finds(&rt, alloc, &reader, (7, 7), (3, 2590), (3, 2590))?;
         finds(&rt, alloc, &reader, (0, 6), (0, 2600), (0, 0))?;
         finds(&rt, alloc, &reader, (8, 9), (0, 2600), (0, 0))?;
+    }
+    Ok(())
+}
+
+#[test]
+fn a_lookup_on_packed_numbers_takes_two_steps(rt: HostRuntime) -> Result<(), Fail> {
+    // The values 10 and 20: the divisor is 10, and the steps 0 and 1 take a bit each.
+    let bytes = Bytes::copy_from_slice(rt.alloc(), &[0x8a, 0x8a, 0x81, 0x82, 2])?;
+    let list = BitpackedCodec::load(rt.alloc(), bytes)?;
+    let mut hits = Vec::new(rt.alloc());
+    for (low, high, found) in [
+        (11, 19, [].as_slice()),
+        (10, 10, &[0]),
+        (11, 20, &[1]),
+        (0, 9, &[]),
+        (0, u64::MAX, &[0, 1]),
+        (20, 10, &[]),
+    ] {
+        look_up(&list, (low, high), &mut hits)?;
+        assert_eq!(rt; hits.as_slice(), found);
     }
     Ok(())
 }
