@@ -269,9 +269,11 @@ where
     T: Ord + Copy,
     V: ColumnValues<T>,
 {
-    /// The first value of each document, or a default.
+    /// The first value of each document, or a default: a list whose bounds include the default.
     pub fn first_or_default_col(self, default_value: T) -> FirstValueWithDefault<T, V>
-        ensures { result.values ≡ firsts_or default_value (rows_in V.values self) }
+        ensures values { result.values ≡ firsts_or default_value (rows_in V.values self) }
+        ensures low { IsAtMost T.partial_cmp result.low default_value }
+        ensures high { IsAtMost T.partial_cmp default_value result.high }
     {
         FirstValueWithDefault::new(self, default_value)
     }
