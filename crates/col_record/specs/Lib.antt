@@ -16,3 +16,4 @@ pub mod Columns
 pub mod Operations
 pub mod Cardinalities
 pub mod Sorting
+pub mod SoundEntries
