@@ -11,3 +11,4 @@ pub mod Columns
 pub mod Listed
 pub mod Places
 pub mod Usage
+pub mod SoundColumns

@@ -15,6 +15,7 @@ mod column_types;
 mod mem_usage;
 mod places;
 mod serialize;
+mod soundness;
 mod sort_order;
 
 use col_common::{ColumnarError, DateTime, DocId, Ipv6Addr};
