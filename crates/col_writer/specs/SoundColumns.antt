@@ -6,4 +6,5 @@ use Rattle.std.specs.declared.alloc.Global.{Global}
 
 -- each name is UTF-8, and what it is the name of has a property
 abbrev pub AreNamed : {X : Type 0} → (X → Type 0) → List (String Global × X) → Type 0
-AreNamed {X} P es = AllByRecursion (λ (p : String Global × X). IsTrue (is_utf8 (string_bytes p.0)) × P p.1) es
+AreNamed {X} P es =
+    AllByRecursion (λ (p : String Global × X). IsTrue (is_utf8 (string_bytes p.0)) × P p.1) es

@@ -15,8 +15,8 @@ mod column_types;
 mod mem_usage;
 mod places;
 mod serialize;
-mod soundness;
 mod sort_order;
+mod soundness;
 
 use col_common::{ColumnarError, DateTime, DocId, Ipv6Addr};
 use col_record::{NumericalColumnWriter, PlainColumnWriter, StrOrBytesColumnWriter};
