@@ -1,29 +1,25 @@
 -- The entries of columns are sound.
-use Rattle.std.proofs.Common.{◌≡◌, ◌<◌, ℕ, zero, suc, ◌+◌, ◌-◌, ◌^◌, ◌%◌, List, [], ◌∷◌, length, map, Bool, true, false, Option, Some, None, refl, sym, ◌∙◌, ap, subst, arith, eq-eqb}
-use Rattle.std.specs.Prelude.{ℤ, pos, negsuc, ◌&&◌, int_le, int_lt, filter_map, slice_index}
-use Rattle.std.specs.List.{list_all, zip, AllByRecursion}
+use Rattle.std.proofs.Common.{◌≡◌, ◌<◌, ℕ, suc, ◌-◌, ◌^◌, List, [], ◌∷◌, length, map, Bool, true, false, Option, Some, None, refl, sym, ap, subst, arith, eq-eqb}
+use Rattle.std.specs.Prelude.{ℤ, pos, negsuc, int_le, int_lt, filter_map, slice_index}
+use Rattle.std.specs.List.{list_all, AllByRecursion}
 use Rattle.std.proofs.lemmas.Bool.{and_parts, and_from}
-use Rattle.std.proofs.lemmas.Bool.Decides.{nat_tests}
 use Rattle.std.proofs.lemmas.Int.{ints}
 use Rattle.std.proofs.lemmas.Option.{same_Some}
 use Rattle.col_model.specs.ColumnType.{ColumnType, is_numerical, has_terms}
 use Rattle.col_model.specs.ColumnType as types
-use Rattle.col_model.specs.Category.{Category, category_of, category_place}
+use Rattle.col_model.specs.Category.{category_of, category_place}
 use Rattle.col_model.specs.Category as categories
 use Rattle.col_model.specs.Column.{signed_of}
 use Rattle.col_model.specs.Limits.{is_of_type}
 use Rattle.col_model.specs.NumericalType.{accepts_i64, accepts_u64}
-use Rattle.col_model.specs.Recording.{accept_type}
-use Rattle.col_model.specs.Soundness.{is_of_forced, is_sound_record, IsSoundEntry}
+use Rattle.col_model.specs.Soundness.{is_of_forced, is_sound_record}
 use Rattle.col_model.specs.Table.{Cell, number, text}
-use Rattle.col_model.specs.Written.{Record, Entry, recorded_number}
-use Rattle.col_types.specs.Kinds.{numerical_kind_of}
+use Rattle.col_model.specs.Written.{Entry, recorded_number}
 use Rattle.col_types.specs.Cells.{bool_cell, unsigned_cell}
-use Rattle.col_types.specs.declared.numerical_type.NumericalType.{NumericalType}
 use Rattle.col_types.specs.declared.numerical_type.NumericalType.TheVariants as kinds
-use Rattle.col_record.specs.Columns.{records_of, forced_type_of, text_entry, plain_entry}
+use Rattle.col_record.specs.Columns.{records_of, forced_type_of, plain_entry}
 use Rattle.col_record.specs.Compatible.{forced_of}
-use Rattle.col_record.specs.Numerical.{numerical_record, numerical_records, numerical_entry, IsSummary, AreNumbers}
+use Rattle.col_record.specs.Numerical.{numerical_records, numerical_entry, IsSummary, AreNumbers}
 use Rattle.col_record.specs.SoundEntries.{IsSoundIn, AreSoundTexts, Fit}
 use Rattle.col_record.specs.Texts.{Texts}
 use Rattle.col_record.specs.Values.{stored_number, unsigned_of, time_cell}

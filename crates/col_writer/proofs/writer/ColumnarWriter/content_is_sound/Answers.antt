@@ -3,7 +3,7 @@ use Rattle.col_model.specs.ColumnType as types
 use Rattle.col_types.specs.Cells.{bool_cell, unsigned_cell}
 use Rattle.std.proofs.Common.{refl}
 use Rattle.col_record.specs.Columns.{text_entry, plain_entry}
-use Rattle.col_record.specs.SoundEntries.{IsSoundIn, AreSoundTexts}
+use Rattle.col_record.specs.SoundEntries.{AreSoundTexts}
 use Rattle.col_record.specs.Values.{time_cell}
 use Rattle.col_writer.specs.Columns.{columns_of}
 use Rattle.col_writer.proofs.SoundLemmas.{own-sound, each-sound, content-sound}
