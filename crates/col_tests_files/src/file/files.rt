@@ -2,7 +2,7 @@
 use bytes::Bytes;
 use col_common::{ColumnarError, FileHandle, MemHandle, RowId};
 use col_dynamic::ColumnType;
-use col_file::{ColumnarReader, DynamicColumnHandle};
+use col_file::{ColumnarReader, DynamicColumnHandle, count_columns};
 use std::alloc::Global;
 use std::test::Fail;
 
@@ -171,6 +171,16 @@ fn columns_are_listed_by_name(rt: HostRuntime) -> Result<(), Fail> {
         "col1,col1\x01subcol1,col1\x01subcol2,col2,"
     );
     assert_eq!(rt; walked.as_str(), listed.as_str());
+    Ok(())
+}
+
+fn num_walked(alloc: Global) -> Result<u64, ColumnarError> {
+    Ok(count_columns(&opened(alloc, PATHS, &[])?))
+}
+
+#[test]
+fn a_walk_gives_each_column(rt: HostRuntime) -> Result<(), Fail> {
+    assert_eq!(rt; num_walked(rt.alloc())?, 4);
     Ok(())
 }
 
