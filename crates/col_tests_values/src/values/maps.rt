@@ -118,11 +118,9 @@ fn the_values_next_to_a_number_are_told(rt: HostRuntime) {
         (i64::value_from(below), i64::value_to(u64::MAX)),
         (Some(-1), Some(i64::MAX))
     );
-    let time = Some(DateTime::from_timestamp_nanos(-1));
-    assert_eq!(rt;
-        (DateTime::value_from(below), DateTime::value_to(below)),
-        (time, time)
-    );
+    let time = DateTime::from_timestamp_nanos(-1);
+    assert_eq!(rt; DateTime::value_from(below), Some(time));
+    assert_eq!(rt; DateTime::value_to(below), Some(time));
     let map = StrictlyMonotonicMappingToInternal::<u32>::new();
     assert_eq!(rt;
         (map.at_least(past), map.at_most(past)),
