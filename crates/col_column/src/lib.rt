@@ -15,7 +15,7 @@ pub use column::{Column, NumColumn};
 pub use doc_values::DocValues;
 pub use first_value_with_default::FirstValueWithDefault;
 pub use ip_values::{IpColumn, IpValues};
-pub use laws::lookups_are_those_of_cells;
+pub use laws::{count_doc_values, lookups_are_those_of_cells};
 pub use open::{
     open_column_u64, open_column_u128, open_column_u128_as_compact_u64, open_term_ords,
 };

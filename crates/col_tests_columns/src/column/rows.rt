@@ -1,7 +1,9 @@
 //! What columns answer of their documents.
 
 use crate::column::counting::Counting;
-use col_column::{Column, IpColumn, IpValues, NumColumn, lookups_are_those_of_cells};
+use col_column::{
+    Column, IpColumn, IpValues, NumColumn, count_doc_values, lookups_are_those_of_cells,
+};
 use col_common::{ColumnarError, DocId, Ipv6Addr};
 use col_index::{ColumnIndex, MultiValueIndex};
 use col_numbers::NumValues;
@@ -29,6 +31,10 @@ fn assert_values(rt: &impl Abort, column: &Column<u64, VecColumn<u64>>) {
         greatest = value.max(greatest);
     }
     assert_eq!(rt; greatest, 2);
+    assert_eq!(rt;
+        (count_doc_values(column, 0), count_doc_values(column, 1)),
+        (2, 0)
+    );
 }
 
 #[test]
@@ -103,6 +109,32 @@ fn assert_found(
 fn a_lookup_names_each_document_once(rt: HostRuntime) -> Result<(), Fail> {
     lookups_are_those_of_cells::<u64>();
     assert_found(&rt, rt.alloc(), &three_documents(rt.alloc())?)?;
+    Ok(())
+}
+
+// Seven documents, of which the second and the sixth have the greatest number twice.
+fn greatest_numbers(alloc: Global) -> Result<Column<u64, VecColumn<u64>>, ColumnarError> {
+    let index = MultiValueIndex::for_test(alloc, &[0, 0, 2, 2, 2, 2, 4, 4])?;
+    let values = VecColumn::from_vec(vec![in alloc; u64::MAX, u64::MAX, u64::MAX, u64::MAX]?);
+    Ok(Column::new(ColumnIndex::Multivalued(index), values))
+}
+
+fn assert_greatest(
+    rt: &impl Abort,
+    alloc: Global,
+    column: &Column<u64, VecColumn<u64>>,
+) -> Result<(), ColumnarError> {
+    let positions = column.index().docid_range_to_rowids(3..6);
+    assert_eq!(rt; (positions.start, positions.end), (2, 4));
+    let mut docs = Vec::new(alloc);
+    column.get_docids_for_value_range(0..=u64::MAX, 1..2, &mut docs)?;
+    assert_eq!(rt; docs.as_slice(), [1].as_slice());
+    Ok(())
+}
+
+#[test]
+fn documents_of_the_greatest_number_are_found(rt: HostRuntime) -> Result<(), Fail> {
+    assert_greatest(&rt, rt.alloc(), &greatest_numbers(rt.alloc())?)?;
     Ok(())
 }
 
