@@ -6,6 +6,7 @@ pub mod OpenCountLemmas
 mod OpenRowsLemmas
 pub mod OpenCellLemmas
 pub mod OpenSeenLemmas
+mod OpenValueLemmas
 mod SerializeNumberLemmas
 pub mod SerializeRowLemmas
 mod SerializeAddressLemmas

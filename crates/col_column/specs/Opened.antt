@@ -1,6 +1,8 @@
 -- The bytes of columns, as calls read them.
 use Rattle.std.specs.Prelude.{ℕ, ◌==◌, List, length, sum, is_some, Option}
-use Rattle.col_common.specs.Reading.{◌>>=◌, only_if}
+use Rattle.std.specs.Int.{w64}
+use Rattle.col_common.specs.Reading.{◌>>=◌, only_if, parts_by_first}
+use Rattle.col_compact.specs.Coded.{Coded, headed_list}
 use Rattle.col_model.specs.Index.{Counts, Shape, counts_over, shape}
 use Rattle.col_column.specs.Columns.{Seen, counts_seen, rows_by}
 
@@ -20,3 +22,7 @@ seen_by rows count values s =
 -- the shape that the bytes of an index stand for, with such values
 abbrev pub indexed_by : {V : Type 0} → List ℕ → ℕ → ℕ → ℕ → V → Option (Seen V)
 indexed_by bytes version rows count values = shape bytes version >>= seen_by rows count values
+
+-- the codes, with their ranges, that the bytes of a column of addresses spell behind its index
+abbrev pub codes_behind : List ℕ → Option Coded
+codes_behind bytes = parts_by_first w64 bytes >>= λ p. headed_list p.1

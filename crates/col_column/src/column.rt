@@ -269,9 +269,11 @@ where
     T: Ord + Copy,
     V: ColumnValues<T>,
 {
-    /// The first value of each document, or a default.
+    /// The first value of each document, or a default: a list whose bounds include the default.
     pub fn first_or_default_col(self, default_value: T) -> FirstValueWithDefault<T, V>
-        ensures { result.values ≡ firsts_or default_value (rows_in V.values self) }
+        ensures values { result.values ≡ firsts_or default_value (rows_in V.values self) }
+        ensures low { IsAtMost T.partial_cmp result.low default_value }
+        ensures high { IsAtMost T.partial_cmp default_value result.high }
     {
         FirstValueWithDefault::new(self, default_value)
     }
@@ -282,6 +284,8 @@ where
     T: MonotonicallyMappableToU64 + Default,
 {
     ghost use Rattle.col_numbers.specs.NumValues.{num_values_of};
+    ghost use Rattle.col_values.specs.Bounds.{AreExact};
+    ghost use Rattle.col_values.specs.Codes.{number_cmp};
 
     /// A column of so many documents, none of which has a value.
     pub fn build_empty_column(num_docs: RowId) -> NumColumn<T>
@@ -293,12 +297,15 @@ where
         )
     }
 
-    /// The same column over the numbers of its values.
+    /// The same column over the numbers of its values. Its bounds are the least and the greatest of
+    /// them, and 0 without values.
     pub fn to_u64_monotonic(
         self,
     ) -> Column<u64, MonotonicColumn<T, u64, NumValues<T>, StrictlyMonotonicMappingToInternal<T>>>
         ensures shape { result.shape ≡ self.shape }
         ensures values { result.values.values ≡ map T.code (num_values_of self.values) }
+        ensures exact { AreExact number_cmp (λ n. n ≡ 0)
+            result.values.values result.values.low result.values.high }
     {
         self.values.tell();
         let map = StrictlyMonotonicMappingToInternal::new();

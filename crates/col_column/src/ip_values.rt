@@ -111,11 +111,15 @@ impl Iterable<Ipv6Addr> for IpValues {
 }
 
 impl Column<Ipv6Addr, IpValues> {
-    ghost use Rattle.std.specs.Prelude.{◌≡◌};
+    ghost use Rattle.std.specs.Prelude.{◌≡◌, []};
+    ghost use Rattle.col_column.specs.IpValues.{ip_values_of, HasExactBounds};
 
-    /// A column of so many documents, none of which has an address.
+    /// A column of so many documents, none of which has an address. Both its bounds are the
+    /// unspecified address.
     pub fn build_empty_column(num_docs: RowId) -> IpColumn
-        ensures { result.shape ≡ empty_shape num_docs }
+        ensures shape { result.shape ≡ empty_shape num_docs }
+        ensures values { ip_values_of result.values ≡ [] }
+        ensures bounds { HasExactBounds result.values }
     {
         Column::new(
             ColumnIndex::Empty { num_docs },

@@ -1,5 +1,5 @@
 //! Reads the bytes of columns.
-ghost use Rattle.std.specs.Prelude.{◌≡◌, [], length, is_some};
+ghost use Rattle.std.specs.Prelude.{◌≡◌, [], length, is_some, Some, IfOk};
 ghost use Rattle.col_common.specs.Decoding.{Decodes};
 ghost use Rattle.col_compact.specs.Coded.{numbers_of};
 ghost use Rattle.col_index.specs.Indexes.{shape_of};
@@ -10,8 +10,8 @@ ghost use Rattle.col_model.specs.Positions.{start_in};
 ghost use Rattle.col_numbers.specs.NumValues.{num_values_of};
 ghost use Rattle.col_types.specs.Cells.{unsigned_cell};
 ghost use Rattle.col_column.specs.Columns.{content_seen};
-ghost use Rattle.col_column.specs.IpValues.{ip_values_of};
-ghost use Rattle.col_column.specs.Opened.{counts_exactly, counted_rows, indexed_by};
+ghost use Rattle.col_column.specs.IpValues.{ip_values_of, HasExactBounds};
+ghost use Rattle.col_column.specs.Opened.{counts_exactly, counted_rows, indexed_by, codes_behind};
 
 use crate::column::{Column, NumColumn};
 use crate::ip_values::{IpColumn, IpValues};
@@ -40,30 +40,33 @@ pub fn open_column_u64<T: StoredAsU64>(
     column_of_values(alloc, index, format_version, num_rows, values)
 }
 
-/// Reads a column of so many rows of addresses.
+/// Reads a column of so many rows of addresses. The bounds of the values are the least and the
+/// greatest of them, and the unspecified address without values.
 pub fn open_column_u128(
     alloc: Global,
     bytes: Bytes,
     format_version: Version,
     num_rows: RowId,
 ) -> Result<IpColumn, ColumnarError>
-    ensures { Decodes (λ c. content_seen [] unsigned_cell c.shape (ip_values_of c.values)) result
+    ensures ok { Decodes (λ c. content_seen [] unsigned_cell c.shape (ip_values_of c.values)) result
         (column bytes types.ip (version_number format_version) num_rows) }
+    ensures bounds { IfOk result (λ c. HasExactBounds c.values) }
 {
     let (index, values) = cut_by_first(bytes)?;
     let values = IpValues::Read(open_u128_mapped(alloc, values)?);
     column_of_values(alloc, index, format_version, num_rows, values)
 }
 
-/// Reads a column of so many rows of addresses as their codes.
+/// Reads a column of so many rows of addresses as the codes that stand in its bytes.
 pub fn open_column_u128_as_compact_u64(
     alloc: Global,
     bytes: Bytes,
     format_version: Version,
     num_rows: RowId,
 ) -> Result<Column<u64, CompactSpaceU64Accessor>, ColumnarError>
-    ensures { Decodes (λ c. counted_rows c.shape (numbers_of c.values)) result
+    ensures ok { Decodes (λ c. counted_rows c.shape (numbers_of c.values)) result
         (number_rows bytes types.ip (version_number format_version) num_rows) }
+    ensures codes { IfOk result (λ c. codes_behind bytes ≡ Some c.values) }
 {
     let (index, values) = cut_by_first(bytes)?;
     let values = open_u128_as_compact_u64(alloc, values)?;

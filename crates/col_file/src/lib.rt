@@ -7,6 +7,7 @@ mod column_iter;
 mod columnar_keys;
 mod dynamic_column_handle;
 mod entries;
+mod laws;
 mod open;
 mod path;
 mod reader;
@@ -14,4 +15,5 @@ mod reading;
 
 pub use column_iter::ColumnIter;
 pub use dynamic_column_handle::DynamicColumnHandle;
+pub use laws::count_columns;
 pub use reader::{ColumnarReader, files_are_read};

@@ -17,7 +17,8 @@ use std::alloc::Global;
 
 impl DynamicColumnHandle {
     /// Opens the column in a reader, whose file is read at most once. It answers InvalidData where
-    /// the handle is no entry of the reader, or where the bytes are no column of its type.
+    /// the handle is no entry of the reader, or where the bytes are no column of its type. A column
+    /// of a file is sound, by the law `parts_have_sound_columns`.
     pub fn open<F: FileHandle>(
         &self,
         alloc: Global,

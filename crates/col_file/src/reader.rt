@@ -48,7 +48,8 @@ impl<F: FileHandle> Model for ColumnarReader<F> {
 
 impl<F: FileHandle> ColumnarReader<F> {
     /// Opens a file, in at most two reads of it. It answers InvalidData exactly where the file
-    /// doesn't end as the format says; a refusal hands the file back.
+    /// doesn't end as the format says; a refusal hands the file back. A table that the file stands
+    /// for is sound, by the law `decoded_tables_are_sound`.
     pub fn open(alloc: Global, file: F) -> Result<ColumnarReader<F>, (F, ColumnarError)>
         ensures { Opens (seen_by F.content F.size F.faults F.reads F.mark)
             (seen_by F.content F.size F.faults F.reads F.mark file) result }

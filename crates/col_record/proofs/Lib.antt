@@ -14,3 +14,4 @@ mod FirstLemmas
 mod KeyedLemmas
 mod DocsLemmas
 pub mod TermBytesLemmas
+mod SoundLemmas

@@ -1,5 +1,5 @@
 -- The steps of a column, one after another.
-use Rattle.std.proofs.Common.{◌≡◌, ◌<◌, ◌≤◌, ℕ, zero, suc, ◌+◌, List, [], ◌∷◌, length, drop, get_or, Bool, true, false, cond, Option, Some, None, refl, sym, ◌∙◌, ap, arith, eq-eqb}
+use Rattle.std.proofs.Common.{◌≡◌, ◌<◌, ◌≤◌, ℕ, zero, suc, ◌+◌, ◌*◌, List, [], ◌∷◌, length, drop, get_or, Bool, true, false, cond, Option, Some, None, refl, sym, ◌∙◌, ap, arith, eq-eqb}
 use Rattle.std.specs.Prelude.{◌==◌, slice_get}
 use Rattle.std.specs.List.{zip}
 use Rattle.col_record.specs.Operations.{operations_after, operations_of, is_told}
@@ -57,3 +57,13 @@ pub next-value : {X : Type 0} (docs : List ℕ) (vs : List X) (k d : ℕ) (e : X
 next-value docs vs k d e told now is same at b =
     let f = front-of docs vs k d same at in
     sym is ∙ ap (operations_after told) f.1 ∙ value-step told d f.0 (drop (k + 1) (zip docs vs)) b ∙ ap (λ x. Value x ∷ operations_after told (drop (k + 1) (zip docs vs))) (sym (f.2 e))
+
+-- each value has at most two steps
+pub steps-few : {X : Type 0} (told : Option ℕ) (ps : List (ℕ × X)) → length (operations_after told ps) ≤ 2 * length ps
+unfolding operations_after
+steps-few told [] = omega arith
+steps-few {X} told (p ∷ ps) = by (is_told told p.0) (steps-few (Some p.0) ps)
+  where
+    by : (b : Bool) → length (operations_after (Some p.0) ps) ≤ 2 * length ps → length (cond b (Value p.1 ∷ operations_after (Some p.0) ps) (NewDoc p.0 ∷ (Value p.1 ∷ operations_after (Some p.0) ps))) ≤ 2 * length (p ∷ ps)
+    by true h = omega (arith, h)
+    by false h = omega (arith, h)

@@ -1,5 +1,6 @@
 pub use Rattle.col_model.specs.ColumnType
 pub use Rattle.col_model.specs.Recording
+pub use Rattle.col_model.specs.Soundness
 pub use Rattle.col_types.specs.Kinds
 pub use Rattle.col_types.specs.Numbers
 pub use Rattle.col_types.specs.Cells
@@ -16,3 +17,4 @@ pub mod Columns
 pub mod Operations
 pub mod Cardinalities
 pub mod Sorting
+pub mod SoundEntries

@@ -13,8 +13,10 @@ ghost use Rattle.col_record.specs.Cardinalities.{cardinality_by};
 ghost use Rattle.col_record.specs.Entries.{recorded_entry, typed_entry, tied_entry};
 ghost use Rattle.col_record.specs.Numerical.{AreCodes};
 ghost use Rattle.col_record.specs.Sorting.{sorted_docs};
+ghost use Rattle.col_record.specs.SoundEntries.{IsSoundIn};
 ghost use Rattle.col_record.specs.Values.{value_type, stored_number};
 
+use crate::ranges::codes_fit;
 use crate::sort_keys::NumberKeys;
 use crate::sort_order::sort_docs;
 use crate::{ColumnWriter, CompatibleNumericalTypes, TypeList};
@@ -148,6 +150,14 @@ impl NumericalColumnWriter {
         ensures unsorted { self.now.sorts ≡ false }
     {
         let _ = &self.column;
+    }
+
+    /// That its entry is sound: each number is one of its own type and of the forced one.
+    pub fn entry_is_sound(&self)
+        ensures { IsSoundIn categories.numerical self.now }
+    {
+        self.types.are_numerical();
+        codes_fit(self.column.values());
     }
 
     /// The documents 0 to `num_docs` - 1 by their first number, or by falling ones.

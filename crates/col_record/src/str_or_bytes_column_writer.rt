@@ -9,6 +9,7 @@ ghost use Rattle.col_record.specs.Answers.{Answers, Gives};
 ghost use Rattle.col_record.specs.Columns.{records_of};
 ghost use Rattle.col_record.specs.Posted.{posted_after};
 ghost use Rattle.col_record.specs.Sorting.{sorted_docs};
+ghost use Rattle.col_record.specs.SoundEntries.{AreSoundTexts};
 ghost use Rattle.col_record.specs.Texts.{no_texts, AreTexts};
 
 use crate::ColumnWriter;
@@ -116,6 +117,13 @@ impl StrOrBytesColumnWriter {
             (map (λ p. p.1) self.now.values))) (2 ^ 64 - 1) }
     {
         self.dictionary.terms_num_bytes()
+    }
+
+    /// That the entry of texts is sound, as one of str and as one of bytes.
+    pub fn entry_is_sound(&self)
+        ensures { AreSoundTexts self.now }
+    {
+        let _ = &self.column;
     }
 
     /// The documents 0 to `num_docs` - 1 by their first text, or by falling ones.

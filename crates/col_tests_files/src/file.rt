@@ -1,3 +1,4 @@
 //! Open files, by examples.
 mod files;
 mod opening;
+mod spoilt;

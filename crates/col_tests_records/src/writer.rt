@@ -129,3 +129,10 @@ fn names_records_and_distinct_texts_take_memory(rt: HostRuntime) -> Result<(), F
     assert_eq!(rt; writer.mem_usage(), 144);
     Ok(())
 }
+
+#[test]
+fn records_of_all_kinds_are_sound(rt: HostRuntime) -> Result<(), Fail> {
+    let writer = of_all_kinds(rt.alloc())?;
+    writer.content_is_sound();
+    Ok(())
+}

@@ -3,7 +3,10 @@
 use col_common::{ByteCount, DateTime, Ipv6Addr};
 use col_types::{
     Coerce, ColumnSpaceUsage, ColumnType, HasAssociatedColumnType, NumericalType, NumericalValue,
-    StoredAsU64, StoredAsU128,
+    StoredAsU64, StoredAsU128, accepted_numbers_fit, byte_counts_compare_as_their_numbers,
+    cells_lie_between_as_values_do, column_types_compare_as_their_codes,
+    equal_numerical_types_hash_alike, stored_addresses_are_cells_of_their_column,
+    stored_numbers_are_cells_of_their_column,
 };
 use std::process::Abort;
 use std::test::Fail;
@@ -27,12 +30,20 @@ fn types_have_names_and_forms(rt: HostRuntime) -> Result<(), Fail> {
             column_type
         );
     }
-    let numerical_type = serde_json::from_str::<NumericalType>(alloc, "\"U64\"")?;
-    assert_eq!(rt; numerical_type, NumericalType::U64);
-    assert_eq!(rt;
-        serde_json::to_string(alloc, &numerical_type)?.as_str(),
-        "\"U64\""
-    );
+    for (numerical_type, name, form) in [
+        (NumericalType::I64, "i64", "\"I64\""),
+        (NumericalType::U64, "u64", "\"U64\""),
+    ] {
+        assert_eq!(rt; numerical_type.to_string(alloc)?.as_str(), name);
+        assert_eq!(rt;
+            serde_json::to_string(alloc, &numerical_type)?.as_str(),
+            form
+        );
+        assert_eq!(rt;
+            serde_json::from_str::<NumericalType>(alloc, form)?,
+            numerical_type
+        );
+    }
     Ok(())
 }
 
@@ -150,4 +161,15 @@ fn usages_are_summed_part_by_part(rt: HostRuntime) -> Result<(), Fail> {
     assert_eq!(rt; terms.total_num_bytes().get_bytes(), 9);
     assert_eq!(rt; terms.clone()?.total_num_bytes().get_bytes(), 9);
     Ok(())
+}
+
+#[test]
+fn the_laws_of_types_can_be_called() {
+    column_types_compare_as_their_codes();
+    equal_numerical_types_hash_alike();
+    byte_counts_compare_as_their_numbers();
+    accepted_numbers_fit();
+    cells_lie_between_as_values_do::<DateTime>();
+    stored_numbers_are_cells_of_their_column::<bool>();
+    stored_addresses_are_cells_of_their_column::<Ipv6Addr>();
 }

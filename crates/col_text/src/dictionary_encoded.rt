@@ -1,5 +1,6 @@
 //! Columns of terms: a dictionary, and a column of the ordinals of terms in it.
 ghost use Rattle.std.specs.Prelude.{◌≡◌, ◌<◌, [], nat_lt, length, slice_get, unwrap_or, IfOk, IfErr, OnOk};
+ghost use Rattle.std.specs.List.Sorted.{IsStrictlyIncreasing};
 ghost use Rattle.std.specs.Str.{IsUtf8};
 ghost use Rattle.col_common.specs.Replacing.{Replaces};
 ghost use Rattle.col_model.specs.Index.{empty_shape};
@@ -133,9 +134,10 @@ impl BytesColumn {
         selected_docid_range: Range<DocId>,
         doc_ids: &mut Vec<DocId>,
     ) -> Result<(), ColumnarError>
-        ensures { Replaces result doc_ids.new.items
+        ensures ok { Replaces result doc_ids.new.items
             (docs_between (texts_content self.now) (text low.now) (text high.now)
             selected_docid_range.start selected_docid_range.end) }
+        ensures rises { IsStrictlyIncreasing doc_ids.new.items }
     {
         let ords = &self.term_ord_column;
         let first = self.first_from(low);
@@ -236,6 +238,8 @@ impl StrColumn {
 }
 
 impl From<StrColumn> for BytesColumn {
+    ghost from_gives = { λ str_column bytes_column. bytes_column ≡ str_column };
+
     fn from(str_column: StrColumn) -> BytesColumn
         ensures { result ≡ str_column }
     {

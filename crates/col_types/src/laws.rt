@@ -11,6 +11,7 @@ ghost use Rattle.col_types.specs.Stored.{IsStoredAs, DefaultIsZero};
 ghost use Rattle.col_types.specs.declared.numerical_type.NumericalType.TheVariants.{I64};
 
 use crate::{ColumnType, HasAssociatedColumnType, NumericalType, StoredAsU64, StoredAsU128};
+use col_common::ByteCount;
 use std::hash::Hash;
 
 /// Column types compare as their codes, and are equal as the definitions have it; equality and
@@ -31,6 +32,14 @@ pub fn equal_numerical_types_hash_alike()
     ensures hash { EqualHashAlike
         ⟦<NumericalType as PartialEq>⟧.eq ⟦<NumericalType as Hash>⟧.hash_input }
     ensures default { DefaultIs I64 ⟦<NumericalType as Default>⟧.is_default }
+{}
+
+/// Counts of bytes compare as their numbers, equality agrees, and the default is 0.
+pub fn byte_counts_compare_as_their_numbers()
+    ensures order { ComparesBy nat_cmp
+        ⟦<ByteCount as PartialOrd>⟧.partial_cmp ⟦<ByteCount as Ord>⟧.cmp }
+    ensures equality { EqualAsCompared ⟦<ByteCount as PartialEq>⟧.eq ⟦<ByteCount as Ord>⟧.cmp }
+    ensures default { DefaultIs 0 ⟦<ByteCount as Default>⟧.is_default }
 {}
 
 /// Numbers that may be of type i64 fit one.

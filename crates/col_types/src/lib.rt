@@ -15,9 +15,9 @@ pub use coerce::Coerce;
 pub use column_type::ColumnType;
 pub use has_associated_column_type::HasAssociatedColumnType;
 pub use laws::{
-    accepted_numbers_fit, cells_lie_between_as_values_do, column_types_compare_as_their_codes,
-    equal_numerical_types_hash_alike, stored_addresses_are_cells_of_their_column,
-    stored_numbers_are_cells_of_their_column,
+    accepted_numbers_fit, byte_counts_compare_as_their_numbers, cells_lie_between_as_values_do,
+    column_types_compare_as_their_codes, equal_numerical_types_hash_alike,
+    stored_addresses_are_cells_of_their_column, stored_numbers_are_cells_of_their_column,
 };
 pub use numerical_type::NumericalType;
 pub use numerical_value::NumericalValue;

@@ -1,10 +1,11 @@
 //! The types of numbers.
 ghost use Rattle.std.specs.Prelude.{◌≡◌, ◌≤◌, Some, IfOk, IfErr};
-ghost use Rattle.col_model.specs.ColumnType.{type_code, type_of_code};
+ghost use Rattle.col_model.specs.ColumnType.{type_code, type_of_code, type_name};
 ghost use Rattle.col_types.specs.Kinds.{numerical_kind_of};
 
 use col_common::InvalidData;
 use serde::{Deserialize, Serialize};
+use std::fmt;
 
 /// The type of some numbers.
 #[derive(Clone, Copy, Debug, Default, PartialEq, Eq, Hash, Serialize, Deserialize)]
@@ -35,5 +36,16 @@ impl NumericalType {
             1 => Ok(NumericalType::U64),
             _ => Err(InvalidData),
         }
+    }
+}
+
+impl fmt::Display for NumericalType {
+    ghost output = { λ t. Some (type_name (numerical_kind_of t)) };
+
+    fn fmt<W: fmt::Write>(&self, f: &mut fmt::Formatter<W>) -> fmt::Result {
+        f.write_str(match self {
+            NumericalType::I64 => "i64",
+            NumericalType::U64 => "u64",
+        })
     }
 }

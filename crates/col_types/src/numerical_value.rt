@@ -8,7 +8,7 @@ use crate::NumericalType;
 use std::str::FromStr;
 
 /// A number of one of the two types.
-#[derive(Clone, Copy, Debug, PartialEq)]
+#[derive(Clone, Copy, Debug, PartialEq, Eq)]
 pub enum NumericalValue {
     I64(i64),
     U64(u64),

@@ -8,3 +8,4 @@ mod ListedLemmas
 mod ListingLemmas
 mod SortedColumnLemmas
 mod UsageLemmas
+mod SoundLemmas

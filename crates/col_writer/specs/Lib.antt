@@ -1,6 +1,7 @@
 pub use Rattle.col_model.specs.ColumnType
 pub use Rattle.col_model.specs.Recording
 pub use Rattle.col_model.specs.SortOrder
+pub use Rattle.col_model.specs.Soundness
 pub use Rattle.col_types.specs.Kinds
 pub use Rattle.col_types.specs.Numbers
 pub use Rattle.col_types.specs.Cells
@@ -11,3 +12,4 @@ pub mod Columns
 pub mod Listed
 pub mod Places
 pub mod Usage
+pub mod SoundColumns

@@ -16,6 +16,7 @@ mod mem_usage;
 mod places;
 mod serialize;
 mod sort_order;
+mod soundness;
 
 use col_common::{ColumnarError, DateTime, DocId, Ipv6Addr};
 use col_record::{NumericalColumnWriter, PlainColumnWriter, StrOrBytesColumnWriter};

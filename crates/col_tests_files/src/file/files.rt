@@ -2,7 +2,7 @@
 use bytes::Bytes;
 use col_common::{ColumnarError, FileHandle, MemHandle, RowId};
 use col_dynamic::ColumnType;
-use col_file::{ColumnarReader, DynamicColumnHandle};
+use col_file::{ColumnarReader, DynamicColumnHandle, count_columns};
 use std::alloc::Global;
 use std::test::Fail;
 
@@ -71,20 +71,17 @@ fn another_end_is_refused(rt: HostRuntime) -> Result<(), Fail> {
     for bytes in REFUSED {
         assert_eq!(rt; counts(alloc, bytes), refused);
     }
-    for len in 0..TEN_AND_TWENTY.len() {
-        assert_eq!(rt;
-            counts(alloc, &TEN_AND_TWENTY[..len]),
-            refused,
-            "{len} bytes"
-        );
-    }
     Ok(())
 }
 
-// What is handed back where the read with this number fails: the length of the file, and the
-// refusal.
-fn handed_back(alloc: Global, failing: u64) -> Result<Option<(u64, ColumnarError)>, ColumnarError> {
-    let file = MemHandle::new(Bytes::from_static(TEN_AND_TWENTY), vec![in alloc; failing]?);
+// What is handed back with a refusal, where the reads with these numbers fail: the length of the
+// file, and the refusal.
+pub fn handed_back(
+    alloc: Global,
+    bytes: &'static [u8],
+    failing: &[u64],
+) -> Result<Option<(u64, ColumnarError)>, ColumnarError> {
+    let file = MemHandle::new(Bytes::from_static(bytes), failing.to_vec(alloc)?);
     match ColumnarReader::open(alloc, file) {
         Ok(reader) => {
             drop(reader.into_file());
@@ -98,9 +95,9 @@ fn handed_back(alloc: Global, failing: u64) -> Result<Option<(u64, ColumnarError
 fn a_file_is_read_twice_and_handed_back_with_a_fault(rt: HostRuntime) -> Result<(), Fail> {
     let alloc = rt.alloc();
     let fault = Some((41, ColumnarError::ReadFault));
-    assert_eq!(rt; handed_back(alloc, 0)?, fault);
-    assert_eq!(rt; handed_back(alloc, 1)?, fault);
-    assert_eq!(rt; handed_back(alloc, 2)?, None);
+    assert_eq!(rt; handed_back(alloc, TEN_AND_TWENTY, &[0])?, fault);
+    assert_eq!(rt; handed_back(alloc, TEN_AND_TWENTY, &[1])?, fault);
+    assert_eq!(rt; handed_back(alloc, TEN_AND_TWENTY, &[2])?, None);
     Ok(())
 }
 
@@ -171,6 +168,16 @@ fn columns_are_listed_by_name(rt: HostRuntime) -> Result<(), Fail> {
         "col1,col1\x01subcol1,col1\x01subcol2,col2,"
     );
     assert_eq!(rt; walked.as_str(), listed.as_str());
+    Ok(())
+}
+
+fn num_walked(alloc: Global) -> Result<u64, ColumnarError> {
+    Ok(count_columns(&opened(alloc, PATHS, &[])?))
+}
+
+#[test]
+fn a_walk_gives_each_column(rt: HostRuntime) -> Result<(), Fail> {
+    assert_eq!(rt; num_walked(rt.alloc())?, 4);
     Ok(())
 }
 

@@ -9,7 +9,9 @@ use std::alloc::Global;
 use std::test::Fail;
 
 // The handle of the first column.
-fn first_handle(reader: &ColumnarReader<MemHandle>) -> Result<DynamicColumnHandle, ColumnarError> {
+pub fn first_handle(
+    reader: &ColumnarReader<MemHandle>,
+) -> Result<DynamicColumnHandle, ColumnarError> {
     match reader.iter_columns().next() {
         Some((_, handle)) => Ok(handle),
         None => Err(ColumnarError::InvalidData),

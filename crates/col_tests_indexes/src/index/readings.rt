@@ -182,6 +182,33 @@ fn rows_with_a_value_are_walked(rt: HostRuntime) -> Result<(), Fail> {
 }
 
 #[test]
+fn the_next_row_with_a_value_is_told(rt: HostRuntime) -> Result<(), Fail> {
+    let index = OptionalIndex::for_test(rt.alloc(), 6, &[1, 4])?;
+    for (target, next) in [
+        (0, Some(1)),
+        (1, Some(1)),
+        (2, Some(4)),
+        (4, Some(4)),
+        (5, None),
+    ] {
+        assert_eq!(rt;
+            index.next_non_null_doc(target),
+            next,
+            "from row {target} on"
+        );
+    }
+    let index = MultiValueIndex::for_test(rt.alloc(), &[0, 0, 2, 2, 2, 5, 5])?;
+    for (target, next) in [(1, Some(1)), (2, Some(4)), (5, None)] {
+        assert_eq!(rt;
+            index.next_non_null_doc(target),
+            next,
+            "from row {target} on"
+        );
+    }
+    Ok(())
+}
+
+#[test]
 fn documents_are_kept_where_they_have_a_rank(rt: HostRuntime) -> Result<(), Fail> {
     let alloc = rt.alloc();
     let mut docs = Vec::new(alloc);

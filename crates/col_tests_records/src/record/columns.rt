@@ -2,7 +2,10 @@
 
 use col_common::ColumnarError;
 use col_index::Cardinality;
-use col_record::{ColumnOperation, ColumnWriter, CompatibleNumericalTypes, NumericalColumnWriter};
+use col_record::{
+    ColumnOperation, ColumnWriter, CompatibleNumericalTypes, NumericalColumnWriter,
+    count_operations,
+};
 use col_types::{NumericalType, NumericalValue};
 use std::alloc::Global;
 use std::process::Abort;
@@ -60,6 +63,7 @@ fn a_document_is_told_before_its_first_value(rt: HostRuntime) -> Result<(), Fail
     assert_eq!(rt; operations.next(), Some(ColumnOperation::from(true)));
     assert_eq!(rt; operations.next(), Some(ColumnOperation::Value(true)));
     assert_eq!(rt; operations.next(), None);
+    assert_eq!(rt; count_operations(&column), 3);
     Ok(())
 }
 

@@ -1,6 +1,6 @@
 //! Files of what was recorded, whose bytes were worked out by hand from the format's page.
 
-use col_common::{ColumnarError, DocId, RowId, VecSink};
+use col_common::{ColumnarError, DateTime, DocId, RowId, VecSink};
 use col_types::{ColumnType, NumericalValue};
 use col_writer::ColumnarWriter;
 use std::alloc::Global;
@@ -22,6 +22,36 @@ const NO_COLUMN: &[u8] = b"\x80\x01\0\0\0\0\0\0\0\x01\0\0\0\x02\0\0\0\x02\x71\x7
 // The numbers 100, 101 and 102 under "x" of i64: 2^63 more than 100, steps of 1 up to 2.
 const HUNDREDS: &[u8] = b"\0\0\x64\0\0\0\0\0\0\0\0\x81\x81\x82\x83\x24\x01\0\0\0\0\0\0\0\
     \x81\x83\x78\0\0\x98\x06\0\0\0\0\0\0\0\x03\0\0\0\x02\0\0\0\x02\x71\x77\x42";
+
+// The greatest start for three rows: 2^63 + 2147483644, and the same steps.
+const GREATEST_START: &[u8] =
+    b"\0\0\x7c\x7f\x7f\x7f\x07\0\0\0\0\x81\x81\x82\x83\x24\x01\0\0\0\0\0\0\0\
+    \x81\x83\x78\0\0\x98\x06\0\0\0\0\0\0\0\x03\0\0\0\x02\0\0\0\x02\x71\x77\x42";
+
+// One row of the number 9223372036854775807 under "b", of u64.
+const U64_B: &[u8] = b"\0\0\x7f\x7f\x7f\x7f\x7f\x7f\x7f\x7f\xff\x81\x80\x81\x01\0\0\0\0\0\0\0\
+    \x81\x83b\0\x01\x96\x06\0\0\0\0\0\0\0\x01\0\0\0\x02\0\0\0\x02\x71\x77\x42";
+
+// One row of the number 1 under "b", of i64: 2^63 + 1.
+const I64_B: &[u8] = b"\0\0\x01\0\0\0\0\0\0\0\0\x81\x81\x80\x81\x01\0\0\0\0\0\0\0\
+    \x81\x83b\0\0\x97\x06\0\0\0\0\0\0\0\x01\0\0\0\x02\0\0\0\x02\x71\x77\x42";
+
+// The bool true of row 1 under "f", and the datetime -5 of row 0 under "t", 2^63 - 5: each has an
+// optional index of two rows, one of which has a value.
+const TRUE_AND_5_BEFORE: &[u8] = b"\x01\x82\0\x81\x81\x80\x81\0\x81\x81\x80\x81\x07\0\0\0\0\0\0\0\
+    \x01\x82\0\x80\x81\x80\x81\0\x7b\x7f\x7f\x7f\x7f\x7f\x7f\x7f\xff\x81\x80\x81\x07\0\0\0\0\0\0\0\
+    \x82\x83f\0\x05\x94\x83t\0\x07\x9c\x0b\0\0\0\0\0\0\0\x02\0\0\0\x02\0\0\0\x02\x71\x77\x42";
+
+// The texts a and b; row 0, one of one, with the start offsets 0 and 3; the ordinals 0, 1 and 1.
+const SORTED: &[u8] = b"\x02\0\0\0\x01\0\0\0\x02\0\0\0ab\
+    \x02\x81\0\x80\x81\x80\x81\0\x80\x83\x81\x82\x02\x06\0\0\0\0\0\0\0\
+    \0\x80\x81\x81\x83\x06\x15\0\0\0\0\0\0\0\x0e\0\0\0\
+    \x81\x83t\0\x04\xb5\x06\0\0\0\0\0\0\0\x01\0\0\0\x02\0\0\0\x02\x71\x77\x42";
+
+// The str column "s" of three rows without a value: no terms, no rows, no ordinals.
+const THREE_WITHOUT: &[u8] = b"\0\0\0\0\x01\x83\0\x80\x81\x80\x80\0\x80\x81\x80\x80\
+    \x07\0\0\0\0\0\0\0\x04\0\0\0\
+    \x81\x83s\0\x04\x9c\x06\0\0\0\0\0\0\0\x03\0\0\0\x02\0\0\0\x02\x71\x77\x42";
 
 // No rows, and no values: datetime under no name; bytes and str under "a", whose dictionaries have
 // no terms; i64, bool and ip under "b". Each list has the statistics 0, 1, 0 and 0, and the
@@ -138,10 +168,66 @@ fn a_tie_start_makes_the_numbers(rt: HostRuntime) -> Result<(), Fail> {
     let mut writer = ColumnarWriter::new(alloc);
     writer.record_tie_breaker_column("x", 100)?;
     assert_file(&rt, &file(alloc, &writer, 3, None), HUNDREDS);
+    writer.record_tie_breaker_column("x", 2_147_483_644)?;
+    assert_file(&rt, &file(alloc, &writer, 3, None), GREATEST_START);
     writer.record_tie_breaker_column("x", 2_147_483_645)?;
     assert_eq!(rt;
         file(alloc, &writer, 3, None),
         Err(ColumnarError::TieBreakerStart)
     );
     Ok(())
+}
+
+// The file of one row, with a number of u64 under "b".
+fn one_number(alloc: Global, value: u64) -> Result<Vec<u8>, ColumnarError> {
+    let mut writer = ColumnarWriter::new(alloc);
+    writer.record_numerical(0, "b", NumericalValue::U64(value))?;
+    file(alloc, &writer, 1, None)
+}
+
+#[test]
+fn numbers_below_the_greatest_of_i64_become_i64(rt: HostRuntime) {
+    let alloc = rt.alloc();
+    assert_file(&rt, &one_number(alloc, 0x7fff_ffff_ffff_ffff), U64_B);
+    assert_file(&rt, &one_number(alloc, 1), I64_B);
+}
+
+// The file of two rows, of which each column has a value in one.
+fn a_bool_and_a_datetime(alloc: Global) -> Result<Vec<u8>, ColumnarError> {
+    let mut writer = ColumnarWriter::new(alloc);
+    writer.record_bool(1, "f", true)?;
+    writer.record_datetime(0, "t", DateTime::from_timestamp_nanos(-5))?;
+    file(alloc, &writer, 2, None)
+}
+
+#[test]
+fn a_document_without_a_value_makes_a_column_optional(rt: HostRuntime) {
+    assert_file(&rt, &a_bool_and_a_datetime(rt.alloc()), TRUE_AND_5_BEFORE);
+}
+
+// The file of one row, with three texts that are sorted.
+fn sorted_texts(alloc: Global) -> Result<Vec<u8>, ColumnarError> {
+    let mut writer = ColumnarWriter::new(alloc);
+    writer.record_column_type("t", ColumnType::Str, true)?;
+    for text in ["b", "a", "b"] {
+        writer.record_str(0, "t", text)?;
+    }
+    file(alloc, &writer, 1, None)
+}
+
+#[test]
+fn texts_of_a_row_are_sorted_where_this_is_asked(rt: HostRuntime) {
+    assert_file(&rt, &sorted_texts(rt.alloc()), SORTED);
+}
+
+// The file of three rows, with a column of texts that has no value.
+fn no_texts(alloc: Global) -> Result<Vec<u8>, ColumnarError> {
+    let mut writer = ColumnarWriter::new(alloc);
+    writer.record_column_type("s", ColumnType::Str, false)?;
+    file(alloc, &writer, 3, None)
+}
+
+#[test]
+fn a_column_without_values_has_a_dictionary_without_terms(rt: HostRuntime) {
+    assert_file(&rt, &no_texts(rt.alloc()), THREE_WITHOUT);
 }

@@ -102,6 +102,35 @@ fn a_map_that_is_not_onto_leads_back_from_its_images(rt: HostRuntime) {
 }
 
 #[test]
+fn the_values_next_to_a_number_are_told(rt: HostRuntime) {
+    assert_eq!(rt;
+        (bool::value_from(2), bool::value_to(2)),
+        (None, Some(true))
+    );
+    let past = 0x1_0000_0000;
+    assert_eq!(rt;
+        (u32::value_from(past), u32::value_to(past)),
+        (None, Some(u32::MAX))
+    );
+    assert_eq!(rt; (u64::value_from(7), u64::value_to(7)), (Some(7), Some(7)));
+    let below = 0x7fff_ffff_ffff_ffff;
+    assert_eq!(rt;
+        (i64::value_from(below), i64::value_to(u64::MAX)),
+        (Some(-1), Some(i64::MAX))
+    );
+    let time = DateTime::from_timestamp_nanos(-1);
+    assert_eq!(rt; DateTime::value_from(below), Some(time));
+    assert_eq!(rt; DateTime::value_to(below), Some(time));
+    let map = StrictlyMonotonicMappingToInternal::<u32>::new();
+    assert_eq!(rt;
+        (map.at_least(past), map.at_most(past)),
+        (None, Some(u32::MAX))
+    );
+    let map = StrictlyMonotonicMappingInverter::from(map);
+    assert_eq!(rt; (map.at_least(3), map.at_most(4)), (Some(3), Some(4)));
+}
+
+#[test]
 fn the_laws_can_be_called() {
     numbers_of_64_bits_increase::<i64>();
     numbers_of_64_bits_are_read_back::<bool>();

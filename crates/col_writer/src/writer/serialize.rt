@@ -22,7 +22,8 @@ use std::alloc::AllocError;
 impl ColumnarWriter {
     /// Writes a file of as many rows as there are documents, with a column for each name and
     /// category; names with a zero byte are left out. A document stands at the row that the list
-    /// has for it, or at its own where there is no list.
+    /// has for it, or at its own where there is no list. The table is sound, by
+    /// `content_is_sound` and the law `written_tables_are_sound`.
     pub fn serialize<K: Sink>(
         &self,
         num_docs: RowId,

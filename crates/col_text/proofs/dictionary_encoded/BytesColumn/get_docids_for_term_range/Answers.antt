@@ -9,15 +9,15 @@ use Rattle.col_text.specs.Texts.{Texts, AreOrdinals}
 use Rattle.col_text.proofs.TermLookupLemmas.{terms-found, no-terms-found}
 use Rattle.col_text.proofs.dictionary_encoded.BytesColumn.get_docids_for_term_range.Goals as goal
 
-pub returns-then-end-first : goal.returns-then-end-first
-returns-then-end-first c =
+pub returns-then-end-first-clause-ok : goal.returns-then-end-first-clause-ok
+returns-then-end-first-clause-ok c =
     let are = subst (λ (t : Texts). AreOrdinals t.terms t.ords) c.self.view_is c.self.invariant in
     let docs = c.args.selected_docid_range in
     c.clear.ensures.items
     ∙ sym (no-terms-found c.args.self.now are c.args.low.now c.args.high.now c.first_from-first.result c.end_of-end.result c.first_from-first.ensures c.end_of-end.ensures docs.start docs.«end» c.if-end-first.true)
 
-pub returns : goal.returns
-returns c =
+pub returns-clause-ok : goal.returns-clause-ok
+returns-clause-ok c =
     let are = subst (λ (t : Texts). AreOrdinals t.terms t.ords) c.self.view_is c.self.invariant in
     let docs = c.args.selected_docid_range in
     let call = c.get_docids_for_value_range in

@@ -1,0 +1,97 @@
+//! That what was recorded is sound.
+ghost use Rattle.std.specs.Prelude.{IsTrue, string_bytes};
+ghost use Rattle.std.specs.Str.{is_utf8};
+ghost use Rattle.col_model.specs.Category as categories;
+ghost use Rattle.col_model.specs.ColumnType as types;
+ghost use Rattle.col_model.specs.Soundness.{IsSoundContent};
+ghost use Rattle.col_types.specs.Cells.{bool_cell, unsigned_cell};
+ghost use Rattle.col_record.specs.Columns.{plain_entry};
+ghost use Rattle.col_record.specs.SoundEntries.{IsSoundIn, AreSoundTexts};
+ghost use Rattle.col_record.specs.Values.{time_cell};
+ghost use Rattle.col_writer.specs.SoundColumns.{AreNamed};
+
+use super::ColumnarWriter;
+use col_common::Ipv6Addr;
+use col_record::{NumericalColumnWriter, PlainColumnWriter, StrOrBytesColumnWriter};
+use indexmap::IndexMap;
+
+impl ColumnarWriter {
+    /// That the content is sound, whatever was recorded: what `written_tables_are_sound` asks of
+    /// it. It looks at each name and each address.
+    pub fn content_is_sound(&self)
+        ensures { IsSoundContent self.now }
+    {
+        columns_are_sound(&self.numerical);
+        columns_are_sound(&self.bytes);
+        columns_are_sound(&self.strs);
+        columns_are_sound(&self.bools);
+        columns_are_sound(&self.ip_addrs);
+        columns_are_sound(&self.datetimes);
+    }
+}
+
+// A column whose entry is sound.
+trait SoundColumn {
+    // What is said of it.
+    ghost is_sound: { Self → Type 0 };
+
+    fn tell(&self)
+        ensures { is_sound self.now };
+}
+
+impl SoundColumn for NumericalColumnWriter {
+    ghost is_sound = { λ e. IsSoundIn categories.numerical e };
+
+    fn tell(&self) {
+        self.entry_is_sound();
+    }
+}
+
+impl SoundColumn for StrOrBytesColumnWriter {
+    ghost is_sound = { λ w. AreSoundTexts w };
+
+    fn tell(&self) {
+        self.entry_is_sound();
+    }
+}
+
+impl SoundColumn for PlainColumnWriter<bool> {
+    ghost is_sound = { λ w. IsSoundIn categories.bool (plain_entry types.bool bool_cell w) };
+
+    fn tell(&self) {
+        self.entry_is_sound();
+    }
+}
+
+impl SoundColumn for PlainColumnWriter<Ipv6Addr> {
+    ghost is_sound = { λ w. IsSoundIn categories.ip (plain_entry types.ip unsigned_cell w) };
+
+    fn tell(&self) {
+        self.entry_is_sound();
+    }
+}
+
+impl SoundColumn for PlainColumnWriter<u64> {
+    ghost is_sound = { λ w. IsSoundIn categories.datetime
+        (plain_entry types.datetime time_cell w) };
+
+    fn tell(&self) {
+        self.entry_is_sound();
+    }
+}
+
+// The names are UTF-8, and the columns sound.
+fn columns_are_sound<C: SoundColumn>(columns: &IndexMap<String, C>)
+    ensures { AreNamed C.is_sound columns.now.entries }
+{
+    for (name, column) in columns {
+        name_is_utf8(name);
+        column.tell();
+    }
+}
+
+fn name_is_utf8(name: &String)
+    ensures { IsTrue (is_utf8 (string_bytes name.now)) }
+{
+    let _text = name.as_str();
+}
