@@ -1,5 +1,5 @@
 //! What the end of a file says, and its columns by their names.
-ghost use Rattle.std.specs.Prelude.{◌≡◌, ◌<◌, ◌≤◌, ◌^◌, Some, true, length, map, option_and_then, option_map, slice_get, slice_range, string_bytes, bytes_eq, nat_eq, IfOk, IfErr};
+ghost use Rattle.std.specs.Prelude.{◌≡◌, ◌<◌, ◌≤◌, ◌^◌, Some, true, length, map, option_and_then, option_map, slice_get, slice_range, string_bytes, bytes_eq, nat_eq, IfOk};
 ghost use Rattle.std.specs.List.{list_any, starts_with};
 ghost use Rattle.col_index.specs.Versions.{version_number};
 ghost use Rattle.col_keys.specs.KeyTables.{all_keyed, keys_seen};
@@ -13,11 +13,11 @@ ghost use Rattle.col_file.specs.Runs.{IsRun};
 use crate::column_entry::ColumnEntry;
 use crate::dynamic_column_handle::DynamicColumnHandle;
 use crate::entries::entries_of;
-use col_common::{ColumnarError, RowId};
+use col_common::RowId;
 use col_dynamic::ColumnType;
 use col_index::Version;
 use col_keys::KeyedLength;
-use std::alloc::Global;
+use std::alloc::{AllocError, Global};
 use std::marker::Model;
 use std::ops::Range;
 
@@ -53,15 +53,14 @@ impl ColumnarKeys {
         num_docs: RowId,
         version: Version,
         columns: Vec<KeyedLength>,
-    ) -> Result<ColumnarKeys, ColumnarError>
+    ) -> Result<ColumnarKeys, AllocError>
         requires fits { total_length (all_keyed columns.items) < 2 ^ 64 }
         requires keys { are_keys (keys_seen columns.items) ≡ true }
-        ensures ok { IfOk result (λ k. k ≡ record {
+        ensures { IfOk result (λ k. k ≡ record {
           row_count = num_docs;
           version = version_number version;
           entries = entries_from 0 (all_keyed columns.items);
         }) }
-        ensures err { IfErr result (λ e. e ≡ ColumnarError.OutOfMemory) }
     {
         let columns = entries_of(alloc, columns)?;
         Ok(ColumnarKeys {
@@ -171,12 +170,11 @@ impl ColumnarKeys {
         alloc: Global,
         start: usize,
         end: usize,
-    ) -> Result<Vec<DynamicColumnHandle>, ColumnarError>
+    ) -> Result<Vec<DynamicColumnHandle>, AllocError>
         requires ordered { start ≤ «end» }
         requires within { «end» ≤ length self.now.entries }
-        ensures ok { IfOk result (λ found. found.items
+        ensures { IfOk result (λ found. found.items
             ≡ map handle_of (slice_range self.now.entries start «end»)) }
-        ensures err { IfErr result (λ e. e ≡ ColumnarError.OutOfMemory) }
     {
         let mut found = Vec::with_capacity(alloc, end - start)?;
         for at in start..end {
@@ -189,10 +187,9 @@ impl ColumnarKeys {
     pub(crate) fn list(
         &self,
         alloc: Global,
-    ) -> Result<Vec<(String, DynamicColumnHandle)>, ColumnarError>
-        ensures ok { IfOk result (λ found. map (λ p. (string_bytes p.0, p.1)) found.items
+    ) -> Result<Vec<(String, DynamicColumnHandle)>, AllocError>
+        ensures { IfOk result (λ found. map (λ p. (string_bytes p.0, p.1)) found.items
             ≡ map listed self.now.entries) }
-        ensures err { IfErr result (λ e. e ≡ ColumnarError.OutOfMemory) }
     {
         let mut found = Vec::with_capacity(alloc, self.num_columns())?;
         for at in 0..self.num_columns() {

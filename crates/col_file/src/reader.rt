@@ -107,7 +107,7 @@ impl<F: FileHandle> ColumnarReader<F> {
             ≡ map listed self.now.keys.entries) }
         ensures err { IfErr result (λ e. e ≡ ColumnarError.OutOfMemory) }
     {
-        self.keys.list(alloc)
+        Ok(self.keys.list(alloc)?)
     }
 
     /// The place, among all columns, of the column of a name and a type. It is found by halves.
@@ -129,7 +129,7 @@ impl<F: FileHandle> ColumnarReader<F> {
         ensures err { IfErr result (λ e. e ≡ ColumnarError.OutOfMemory) }
     {
         let places = self.keys.named(column_name);
-        self.keys.handles(alloc, places.start, places.end)
+        Ok(self.keys.handles(alloc, places.start, places.end)?)
     }
 
     /// The columns whose names have the path and a separator in front, by name, then by the type's
@@ -145,7 +145,7 @@ impl<F: FileHandle> ColumnarReader<F> {
     {
         let front = front_of_path(alloc, root_path)?;
         let places = self.keys.beginning(front.as_slice());
-        self.keys.handles(alloc, places.start, places.end)
+        Ok(self.keys.handles(alloc, places.start, places.end)?)
     }
 
     // The version of the file's bytes.

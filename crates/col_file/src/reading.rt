@@ -79,5 +79,5 @@ fn keys_of(
     if !take_all(&columns, body_len) {
         return Err(ColumnarError::InvalidData);
     }
-    ColumnarKeys::new(alloc, footer.num_docs, footer.version, columns)
+    Ok(ColumnarKeys::new(alloc, footer.num_docs, footer.version, columns)?)
 }

@@ -21,7 +21,7 @@ use Rattle.col_dynamic.specs.Dynamic.{dynamic_shape, value_count}
 use Rattle.col_dynamic.specs.declared.dynamic_column.DynamicColumn.{DynamicColumn}
 use Rattle.col_file.specs.Readers.{SeenReader}
 use Rattle.col_merge.specs.Joined.{joined_by, StandsAs, HasJoinCause, JoinsBytes, JoinsColumns}
-use Rattle.col_slot.specs.JoinedSlots.{part_seen, AreOpened, HasSlotCause, IsRefusedAs, IsSlotRefusal}
+use Rattle.col_slot.specs.JoinedSlots.{part_seen, AreOpened, HasSlotCause, IsSlotRefusal}
 use Rattle.col_slot.specs.Segments.{HaveRows}
 use Rattle.col_merge.specs.Opened.{IsOpenedAs, AllOpenedAs, is_bad, RefusesColumn, RefusesColumns}
 use Rattle.col_merge.specs.Parts.{told_part, told_parts}
@@ -166,11 +166,3 @@ slot-cause old new e h = by h.causes
     by (inr (inr (inl c))) = inr (cannot_coerce, ap refusal_of c)
     by (inr (inr (inr (inl c)))) = inr (numerical_conflict, ap refusal_of c)
     by (inr (inr (inr (inr c)))) = inr (too_large, ap refusal_of c)
-
--- the same, and the refusal is the one that is expected
-pub slot-refused : {A : Type 0} (old new : List ℕ) (e : ColumnarError) (expected : Result (Option Column) Refusal) → HasSlotCause {A = A} (in_memory old) (in_memory new) (Err e) → IsRefusedAs e expected → (e ≡ OutOfMemory) ⊎ ((refusal : Refusal) × StandsAs e refusal × (expected ≡ Err refusal))
-slot-refused old new e expected h (inl m) = inl m
-slot-refused old new e expected h (inr (inl w)) = absurd (omega (arith, h.write_fault (ap Err w)))
-slot-refused old new e expected h (inr (inr (inl c))) = inr (cannot_coerce, ap refusal_of c.0, c.1)
-slot-refused old new e expected h (inr (inr (inr (inl c)))) = inr (numerical_conflict, ap refusal_of c.0, c.1)
-slot-refused old new e expected h (inr (inr (inr (inr c)))) = inr (too_large, ap refusal_of c.0, c.1)

@@ -146,11 +146,6 @@ ids-with old new ps d id t h a =
 
 -- ---- the answers of a text
 
--- the ids with one more
-pub record Held (old : List (List ℕ)) (ps : List (ℕ × ℕ)) (now : List (ℕ × List ℕ)) : Type 0 where
-  pub is : texts_by_id old ps ≡ now
-  pub ids : AreIds old ps
-
 -- a refusal of the ids
 pub text-refused : (terms : List (List ℕ)) (ps qs : List (ℕ × ℕ)) (now : List (ℕ × List ℕ)) (d : ℕ) (t : List ℕ) (r : Result (Unit {0}) ColumnarError) (x y : ColumnarError) → texts_by_id terms ps ≡ now → r ≡ Err x → x ≡ y → Answers ps qs (Err y) (posted_after ps d 0) → Answers now (texts_by_id terms qs) r (posted_after now d t)
 text-refused terms ps qs now d t r x y is err same h =

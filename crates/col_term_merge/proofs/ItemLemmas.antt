@@ -87,9 +87,6 @@ item-map f [] i j = refl
 item-map f (x ∷ m) zero j = slice_get-map f x j
 item-map f (x ∷ m) (suc i) j = item-map f m i j
 
-some-is : {X : Type 0} (o : Option X) (x : X) → o ≡ Some x → is_some o ≡ true
-some-is o x e = ap is_some e
-
 -- lists of the same lengths with the same items are one
 same-list : {X : Type 0} (xs ys : List X) → length xs ≡ length ys → ((j : ℕ) (v : X) → slice_get ys j ≡ Some v → slice_get xs j ≡ Some v) → xs ≡ ys
 same-list [] [] e f = refl

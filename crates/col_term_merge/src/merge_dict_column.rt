@@ -9,7 +9,7 @@ ghost use Rattle.col_term_merge.specs.Numbering.{terms_of, term_count, terms_fro
 use crate::{MatchingSegments, TermMerger, TermsWithSegmentOrd};
 use col_common::ColumnarError;
 use col_text::BytesColumn;
-use std::alloc::Global;
+use std::alloc::{AllocError, Global};
 
 /// For each column the place of each of its terms among all terms, in order.
 pub fn compute_merged_term_ord_mapping(
@@ -43,13 +43,9 @@ fn total_terms(bytes_columns: &[BytesColumn]) -> Option<u64>
 }
 
 // A list for each column, with a number for each of its terms.
-fn empty_mapping(
-    alloc: Global,
-    bytes_columns: &[BytesColumn],
-) -> Result<Vec<Vec<u64>>, ColumnarError>
-    ensures ok { IfOk result
+fn empty_mapping(alloc: Global, bytes_columns: &[BytesColumn]) -> Result<Vec<Vec<u64>>, AllocError>
+    ensures { IfOk result
         (λ m. map length (lists_of m.items) ≡ map length (terms_of bytes_columns.now)) }
-    ensures err { IfErr result (λ e. e ≡ refusals.OutOfMemory) }
 {
     let mut mapping = Vec::with_capacity(alloc, bytes_columns.len())?;
     for column in bytes_columns {
@@ -63,12 +59,11 @@ fn number_terms(
     alloc: Global,
     bytes_columns: &[BytesColumn],
     mapping: &mut [Vec<u64>],
-) -> Result<(), ColumnarError>
+) -> Result<(), AllocError>
     requires few { length bytes_columns.now < 2 ^ 32 }
     requires counted { term_count bytes_columns.now < 2 ^ 64 }
     requires lengths { map length (lists_of mapping.old) ≡ map length (terms_of bytes_columns.now) }
-    ensures ok { OnOk result (lists_of mapping.new ≡ merged_places (terms_of bytes_columns.now)) }
-    ensures err { IfErr result (λ e. e ≡ refusals.OutOfMemory) }
+    ensures { OnOk result (lists_of mapping.new ≡ merged_places (terms_of bytes_columns.now)) }
 {
     let mut merger = merger_of(alloc, bytes_columns)?;
     let mut ord = 0;
@@ -80,11 +75,10 @@ fn number_terms(
 }
 
 // The merge of all terms.
-fn merger_of(alloc: Global, bytes_columns: &[BytesColumn]) -> Result<TermMerger<'_>, ColumnarError>
+fn merger_of(alloc: Global, bytes_columns: &[BytesColumn]) -> Result<TermMerger<'_>, AllocError>
     requires { length bytes_columns.now < 2 ^ 32 }
-    ensures ok { IfOk result
+    ensures { IfOk result
         (λ merger. merger ≡ merging_of (terms_from 0 (terms_of bytes_columns.now))) }
-    ensures err { IfErr result (λ e. e ≡ refusals.OutOfMemory) }
 {
     TermMerger::new(alloc, term_streams(alloc, bytes_columns)?)
 }
@@ -93,11 +87,10 @@ fn merger_of(alloc: Global, bytes_columns: &[BytesColumn]) -> Result<TermMerger<
 fn term_streams(
     alloc: Global,
     bytes_columns: &[BytesColumn],
-) -> Result<Vec<TermsWithSegmentOrd<'_>>, ColumnarError>
+) -> Result<Vec<TermsWithSegmentOrd<'_>>, AllocError>
     ensures terms { IfOk result
         (λ streams. terms_left streams.items ≡ terms_from 0 (terms_of bytes_columns.now)) }
     ensures len { IfOk result (λ streams. length streams.items ≡ length bytes_columns.now) }
-    ensures err { IfErr result (λ e. e ≡ refusals.OutOfMemory) }
 {
     let mut streams = Vec::with_capacity(alloc, bytes_columns.len())?;
     for (segment_ord, column) in bytes_columns.iter().enumerate() {

@@ -1,16 +1,14 @@
 //! Merges walks over the terms of segments.
-ghost use Rattle.std.specs.Prelude.{◌≡◌, ◌<◌, ◌≤◌, ◌+◌, ◌++◌, ◌∷◌, [], true, length, map, IfOk, IfErr, IsPermutation};
+ghost use Rattle.std.specs.Prelude.{◌≡◌, ◌<◌, ◌≤◌, ◌+◌, ◌++◌, ◌∷◌, [], true, length, map, IfOk, IsPermutation};
 ghost use Rattle.std.specs.List.{AllByRecursion};
 ghost use Rattle.std.specs.BinaryHeap.{heap_items, heap_len, heap_capacity, IsHeap};
 ghost use Rattle.std.specs.Vec.{vec_len, vec_capacity};
-ghost use Rattle.col_common.specs.declared.error.ColumnarError.TheVariants as refusals;
 ghost use Rattle.col_model.specs.Ascending.{is_never_falling};
 ghost use Rattle.col_term_merge.specs.Merging.{in_order, terms_left, terms_ahead, LeftAscends};
 ghost use Rattle.col_term_merge.specs.Moves.{stream_cmp, AreReady, AreTaken, AreLater, IsLeast, IsFirstAt, LeftRises, first_key};
 
 use crate::{MatchingSegments, TermsWithSegmentOrd};
-use col_common::ColumnarError;
-use std::alloc::Global;
+use std::alloc::{AllocError, Global};
 use std::collections::BinaryHeap;
 use std::marker::Model;
 
@@ -47,11 +45,10 @@ impl<'a> TermMerger<'a> {
     pub fn new(
         alloc: Global,
         term_streams_with_segment: Vec<TermsWithSegmentOrd<'a>>,
-    ) -> Result<TermMerger<'a>, ColumnarError>
+    ) -> Result<TermMerger<'a>, AllocError>
         requires { length term_streams_with_segment.items < 2 ^ 32 }
-        ensures ok { IfOk result
+        ensures { IfOk result
             (λ merger. merger ≡ merging_of (terms_left term_streams_with_segment.entry.items)) }
-        ensures err { IfErr result (λ e. e ≡ refusals.OutOfMemory) }
     {
         terms_ascend(&term_streams_with_segment);
         let heap = BinaryHeap::with_capacity(alloc, term_streams_with_segment.len())?;

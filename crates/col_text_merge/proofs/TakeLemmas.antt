@@ -8,7 +8,7 @@ use Rattle.std.proofs.lemmas.Option.{slice_get-map, slice_get-get_or, slice_get_
 use Rattle.col_model.proofs.ListLaws.{all_push}
 use Rattle.col_text.specs.Texts.{Texts}
 use Rattle.col_term_merge.specs.Numbering.{terms_of, item_at}
-use Rattle.col_text_merge.specs.Taking.{Place, IsPlace, IsFrom, IsNowhere}
+use Rattle.col_text_merge.specs.Taking.{Place, IsPlace, IsFrom}
 use Rattle.col_text_merge.proofs.NoteLemmas.{some-item}
 
 -- ---- the terms of a column
@@ -67,15 +67,6 @@ from-next columns segment n c e end q there f = elim f [ inl later ↦ go later 
         let own : item_at (terms_of columns) (q.0, q.1) ≡ slice_get c.terms q.1 = item-of columns q.0 q.1 c (ap (slice_get columns) here.0 ∙ e) in
         let none : item_at (terms_of columns) q ≡ None = own ∙ none-past c.terms q.1 (omega (arith, end, here.1)) in
         true≢false (sym there ∙ ap is_some none)
-
--- and behind the last column there is none
-pub from-none : (columns : List Texts) (n : ℕ) → length columns ≤ n → (q : Place) → IsPlace columns q → IsFrom n 0 q → IsNowhere q
-from-none columns n h q there f = elim f [ inl later ↦ past columns q.0 (omega (arith, h, later)) there | inr here ↦ past columns q.0 (omega (arith, h, here.0)) there ]
-  where
-    past : (cs : List Texts) (s : ℕ) → length cs ≤ s → is_some (item_at (terms_of cs) (s, q.1)) ≡ true → ⊥
-    past [] s l e = true≢false (sym e)
-    past (c ∷ cs) zero l e = absurd (omega (arith, l))
-    past (c ∷ cs) (suc s) l e = past cs s (omega (arith, l)) e
 
 -- ---- a slice of columns
 

@@ -40,9 +40,8 @@ impl NotedTerms {
     pub(crate) fn new(
         alloc: Global,
         bytes_columns: &[BytesColumn],
-    ) -> Result<NotedTerms, ColumnarError>
-        ensures ok { IfOk result (λ noted. noted ≡ nothing_noted (terms_of bytes_columns.now)) }
-        ensures err { IfErr result (λ e. e ≡ refusals.OutOfMemory) }
+    ) -> Result<NotedTerms, AllocError>
+        ensures { IfOk result (λ noted. noted ≡ nothing_noted (terms_of bytes_columns.now)) }
     {
         let terms = DictionaryBuilder::new(alloc);
         let ids = no_ids(alloc, bytes_columns)?;

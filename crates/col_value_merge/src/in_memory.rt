@@ -95,9 +95,9 @@ where
     serialize_column_mappable_to_u64(alloc, index, &picked.values.as_slice(), sink)
 }
 
-/// Writes a column of an index and the values that it counts, as numbers of 128 bits. The values are
-/// walked once. It answers TooLarge where there are more values, or more codes
-/// are needed, than 32 bits count; then the index may have been written.
+/// Writes a column of an index and the values that it counts, as numbers of 128 bits. The values
+/// are walked once. It answers TooLarge where there are more values, or more codes are needed, than
+/// 32 bits count; then the index may have been written.
 pub fn serialize_collected_u128<T, I, K>(
     alloc: Global,
     column_index: SerializableColumnIndex<'_>,

@@ -96,8 +96,8 @@ where
         }
     }
 
-    /// What a shuffle picks, in memory, where an index has lists of it; none of a stack, whose lists
-    /// stand together.
+    /// What a shuffle picks, in memory, where an index has lists of it; none of a stack, whose
+    /// lists stand together.
     pub(crate) fn picked(
         &self,
         alloc: Global,

@@ -9,7 +9,7 @@ pub loop-merger-init : goal.loop-merger-init
 loop-merger-init c =
     let tss = terms_of c.args.bytes_columns.now in
     let m = lists_of c.args.mapping.now in
-    subst (λ (merger : Merging). AreNumbered tss (λ key. true) merger.left 0 m) (sym c.in_ok-merger.ensures.ok) (numbered-start tss (λ key. true) m c.requires.lengths)
+    subst (λ (merger : Merging). AreNumbered tss (λ key. true) merger.left 0 m) (sym c.in_ok-merger.ensures) (numbered-start tss (λ key. true) m c.requires.lengths)
 
 pub number_key-requires-clause-within : goal.number_key-requires-clause-within
 number_key-requires-clause-within c =
@@ -33,8 +33,8 @@ loop-merger-preserved c =
     let on = sym c.advance.ensures.found ∙ c.loop-merger-test.true in
     key-numbered (terms_of c.args.bytes_columns.now) c.loop-merger.merger.left c.loop-merger.ord (lists_of c.loop-merger.mapping) c.loop-merger.invariant c.advance.new.self c.advance.ensures.term on (lists_of c.number_key.new.mapping) c.number_key.ensures
 
-pub returns-clause-ok : goal.returns-clause-ok
-returns-clause-ok c =
+pub returns : goal.returns
+returns c =
     let tss = terms_of c.args.bytes_columns.now in
     let off = sym (ap is_on_key c.advance.ensures.term) ∙ sym c.advance.ensures.found ∙ c.loop-merger-test.false in
     let none = step-none c.loop-merger.merger.left off in

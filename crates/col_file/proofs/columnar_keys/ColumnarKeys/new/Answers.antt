@@ -6,5 +6,5 @@ use Rattle.col_file.proofs.columnar_keys.ColumnarKeys.new.Goals as goal
 
 pub invariant_of-result : goal.invariant_of-result
 invariant_of-result c =
-    ap (λ es. are_keys (map (λ e. e.key) es)) c.in_ok-columns.ensures.ok
+    ap (λ es. are_keys (map (λ e. e.key) es)) c.in_ok-columns.ensures
     ∙ ap are_keys (keys_of_entries 0 (all_keyed c.args.columns.items)) ∙ c.requires.keys
