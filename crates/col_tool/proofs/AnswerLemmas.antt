@@ -1,5 +1,6 @@
 -- What a script that was read, and what was made of it, say of the answer.
-use Rattle.std.proofs.Common.{◌≡◌, ℕ, Option, Some, None, Ok, Err, IfSome, List, [], ◌∷◌, Result, IfErr, map, true, Contains, refl, zero, suc, arith}
+use Rattle.std.proofs.Common.{◌≡◌, ◌==◌, ◌∙◌, ℕ, Option, Some, None, Ok, Err, IfSome, List, [], ◌∷◌, Result, IfErr, map, true, false, Contains, refl, sym, zero, suc, arith}
+use Rattle.std.specs.Prelude.{◌||◌}
 use Rattle.col_common.specs.Outside.{Told, SeenSink}
 use Rattle.col_model.specs.File.{for_each}
 use Rattle.col_model.specs.GenScript.{gen_script}
@@ -42,12 +43,12 @@ pub unread : {H : Type 0} (faults : H → ℕ) (inputs inputs' : List H) (result
 unread faults inputs inputs' (Ok made) none h = tt
 unread faults inputs inputs' (Err e) none h = λ four. let p = rw none at (h four) in absurd (omega (arith, p.1))
 
--- nor was one by a delivery
-pub delivered-unread : (status : ℕ) → Contains (0 ∷ 3 ∷ 5 ∷ []) status → status ≡ 4 → ⊥
-delivered-unread status (zero, within, e) four = absurd (omega (arith, e, four))
-delivered-unread status (suc zero, within, e) four = absurd (omega (arith, e, four))
-delivered-unread status (suc (suc zero), within, e) four = absurd (omega (arith, e, four))
-delivered-unread status (suc (suc (suc k)), within, e) four = absurd (omega arith)
+-- a delivery has no other status than these
+pub delivered-other : (n status : ℕ) → ((n == 0) || ((n == 3) || (n == 5))) ≡ false → Contains (0 ∷ 3 ∷ 5 ∷ []) status → status ≡ n → ⊥
+delivered-other n status other (zero, within, e) same = let h = rw (sym (e ∙ same)) at other in cc
+delivered-other n status other (suc zero, within, e) same = let h = rw (sym (e ∙ same)) at other in cc
+delivered-other n status other (suc (suc zero), within, e) same = let h = rw (sym (e ∙ same)) at other in cc
+delivered-other n status other (suc (suc (suc k)), within, e) same = absurd (omega (arith, within))
 
 -- what a refusal leaves of what is expected, whatever inputs and source tell
 pub refused-is : (output report : SeenSink) (e : Refusal) (o : Outcome) → Contains refusals (refusal_status e) → IsAnswer o (Err e) → Leaves output output report report (refusal_status e) o

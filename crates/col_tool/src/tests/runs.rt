@@ -26,7 +26,7 @@ const TWO_VALUES: &str =
 const TWO_VALUES_FILE: &str =
     "00008a8a818202010000000000000081836100018f0600000000000000020000000200000002717742";
 
-const ROWS: [Row; 4] = [
+const ROWS: [Row; 6] = [
     Row {
         script: "",
         file: "800100000000000000000000000200000002717742",
@@ -47,23 +47,64 @@ const ROWS: [Row; 4] = [
             [\"u64\",0,\"a\",10]\n[\"u64\",1,\"a\",20]\n\
             [\"find\",\"a\",\"u64\",0,5,0,2]\n[\"find\",\"a\",\"u64\",11,19,0,2]\n\
             [\"find\",\"a\",\"u64\",11,18446744073709551615,0,2]\n\
-            [\"find\",\"a\",\"u64\",20,10,0,2]\n[\"find\",\"b\",\"u64\",0,5,0,2]\n",
+            [\"find\",\"a\",\"u64\",20,10,0,2]\n[\"find\",\"a\",\"i64\",0,5,0,2]\n\
+            [\"find\",\"b\",\"u64\",0,5,0,2]\n",
         file: TWO_VALUES_FILE,
         report: "[\"rows\",2]\n[\"column\",\"a\",\"u64\",\"full\",2]\n\
             [\"row\",0,[10]]\n[\"row\",1,[20]]\n\
             [\"find\",\"a\",\"u64\",[]]\n[\"find\",\"a\",\"u64\",[]]\n\
             [\"find\",\"a\",\"u64\",[1]]\n[\"find\",\"a\",\"u64\",[]]\n\
-            [\"find\",\"b\",\"u64\",null]\n",
+            [\"find\",\"a\",\"i64\",null]\n[\"find\",\"b\",\"u64\",null]\n",
+    },
+    // The column of a name with a zero byte is left out.
+    Row {
+        script: "[\"segment\",1]\n[\"i64\",0,\"a\\u0000b\",1]",
+        file: "800100000000000000010000000200000002717742",
+        report: "[\"rows\",1]\n",
+    },
+    // A required column without a value has an index of no row, and no term.
+    Row {
+        script: "[\"segment\",3]\n[\"require\",\"s\",\"str\"]",
+        file: "000000000183008081808000808180800700000000000000\
+            0400000081837300049c0600000000000000030000000200000002717742",
+        report: "[\"rows\",3]\n[\"column\",\"s\",\"str\",\"opt\",0]\n",
     },
 ];
 
+// Scripts, and the report that each comes to.
+const REPORTS: [(&str, &str); 3] = [
+    (
+        "[\"segment\",2]\n[\"bool\",1,\"f\",true]\n[\"datetime\",0,\"t\",-5]",
+        "[\"rows\",2]\n[\"column\",\"f\",\"bool\",\"opt\",1]\n[\"row\",1,[true]]\n\
+            [\"column\",\"t\",\"datetime\",\"opt\",1]\n[\"row\",0,[-5]]\n",
+    ),
+    (
+        "[\"segment\",1]\n[\"sorted\",\"t\",\"str\"]\n\
+            [\"str\",0,\"t\",\"b\"]\n[\"str\",0,\"t\",\"a\"]\n[\"str\",0,\"t\",\"b\"]",
+        "[\"rows\",1]\n[\"column\",\"t\",\"str\",\"mult\",3]\n[\"row\",0,[\"a\",\"b\",\"b\"]]\n",
+    ),
+    (
+        "[\"segment\",2]\n[\"i64\",0,\"m\",1]\n[\"i64\",0,\"m\",2]\n\
+            [\"i64\",1,\"m\",3]\n[\"i64\",1,\"m\",4]\n[\"i64\",1,\"m\",5]\n\
+            [\"order\",[[0,1],[0,0]]]",
+        "[\"rows\",2]\n[\"column\",\"m\",\"i64\",\"mult\",5]\n\
+            [\"row\",0,[3,4,5]]\n[\"row\",1,[1,2]]\n",
+    ),
+];
+
 // Scripts that are refused, and with which status.
-const REFUSED: [(&str, u8); 9] = [
-    ("[\"i64\",0,\"a\",1.5]", 20),
+const REFUSED: [(&str, u8); 10] = [
+    ("[\"segment\",1]\n[\"i64\",0,\"a\",1.5]", 20),
     ("[\"segment\",1]\n[\"u64\",0,\"a\",1.5]", 20),
     ("[\"u64\",0,\"a\",1]\n[\"segment\",1]", 20),
     ("[\"order\",[]]\n[\"order\",[]]", 20),
     ("[\"order\",[[0,0]]]", 7),
+    (
+        "[\"segment\",2]\n[\"i64\",0,\"m\",1]\n[\"i64\",0,\"m\",2]\n\
+            [\"i64\",1,\"m\",3]\n[\"i64\",1,\"m\",4]\n[\"i64\",1,\"m\",5]\n\
+            [\"order\",[[0,1],[0,2]]]",
+        7,
+    ),
     (
         "[\"require\",\"a\",\"u64\"]\n[\"require\",\"a\",\"i64\"]",
         9,
@@ -154,6 +195,13 @@ fn scripts_come_to_their_file_and_report_or_to_nothing(rt: HostRuntime) -> Resul
     for row in &ROWS {
         let ended = run_over(rt.alloc(), row.script, [&[], &[], &[]])?;
         assert!(rt; is_as_wanted(row, &ended), "{}", row.script);
+    }
+    for (script, report) in REPORTS {
+        let ended = run_over(rt.alloc(), script, [&[], &[], &[]])?;
+        assert!(rt;
+            ended.status == 0 && ended.report.as_slice() == report.as_bytes(),
+            "{script}"
+        );
     }
     for (script, status) in REFUSED {
         let ended = run_over(rt.alloc(), script, [&[], &[], &[]])?;

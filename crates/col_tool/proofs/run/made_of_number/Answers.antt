@@ -8,3 +8,6 @@ returns-clause-made c = without-inputs (λ (h : Scheduled). Some h.bytes) _ _ c.
 
 pub returns-clause-no_read_fault : goal.returns-clause-no_read_fault
 returns-clause-no_read_fault c = unread _ _ _ c.made_of_bytes.result c.new-inputs.ensures.items c.made_of_bytes.ensures.read_fault
+
+pub returns-clause-no_invalid_data : goal.returns-clause-no_invalid_data
+returns-clause-no_invalid_data c = c.made_of_bytes.ensures.inputs c.new-inputs.ensures.items

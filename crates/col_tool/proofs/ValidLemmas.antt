@@ -1,0 +1,206 @@
+-- Where there is no input, no invalid data is met.
+use Rattle.std.proofs.Common.{◌≡◌, ℕ, ◌-◌, ◌^◌, ◌==◌, ◌&&◌, ◌||◌, not, nat_le, Bool, true, false, is_some, is_none, Option, Some, None, Result, Ok, Err, IfSome, List, [], ◌∷◌, ◌++◌, map, filter, find, filter_map, length, option_and_then, inl, inr, ◌⊎◌, refl, sym, ap, ap₂, ◌∙◌, arith}
+use Rattle.std.specs.Prelude.{⊤, if◌then◌else◌}
+use Rattle.std.specs.FinMap.{put}
+use Rattle.std.specs.List.{list_all, list_any}
+use Rattle.std.proofs.lemmas.Bool.{true≢false}
+use Rattle.col_common.specs.Outside.{Told}
+use Rattle.col_common.specs.Refused.{code_of}
+use Rattle.col_common.specs.declared.error.ColumnarError.{ColumnarError}
+use Rattle.col_common.specs.declared.error.ColumnarError.TheVariants.{ReadFault}
+use Rattle.col_model.specs.ColumnType.{ColumnType}
+use Rattle.col_model.specs.ColumnType as types
+use Rattle.col_model.specs.Category.{Slot, slot_of, slot_cmp, same_slot}
+use Rattle.col_model.specs.Table.{Column, Table}
+use Rattle.col_model.specs.File.{PartColumn, whole_column, part_of_column, part_of_table, for_each}
+use Rattle.col_model.specs.Limits.{is_too_large, is_of_type}
+use Rattle.col_model.specs.Order.{Order, picks}
+use Rattle.col_model.specs.Merge.{Required, part_slot, kept_columns, all_cells, shared_type, required_type, joined_type, joined_content, has_bad_column, joined_column, all_slots, contradicts, required_refusal, row_counts, merged}
+use Rattle.col_model.specs.Outcome.{order_over, segment_table, script_table}
+use Rattle.col_model.specs.Recording.{Call, recorded, typed, tied, entry_of, forces_other, is_late, denies, content_after, content_after_all}
+use Rattle.col_model.specs.Refusal.{Refusal, status_of, ◌>>=◌, refuse_if, or_refuse, each_ok, invalid_data, bad_order, bad_name, required_conflict, cannot_coerce, numerical_conflict, too_large, forced_type, doc_order, doc_out_of_range, tie_breaker_start}
+use Rattle.col_model.specs.Script.{Script, Segment}
+use Rattle.col_model.specs.Written.{Entry, Recorded, entry_content, entry_type, is_past_docs, is_past_ties, is_permutation, has_zero, written, written_column}
+use Rattle.col_model.proofs.ConflictLaws.{same_Err, ok_not_err}
+use Rattle.col_record.specs.Answers.{MayRefuse}
+use Rattle.col_made.specs.Making.{MakesIfRead}
+use Rattle.col_tool.proofs.RefusedLemmas.{code-answer}
+
+-- the step doesn't refuse data as invalid
+abbrev IsValid : {A : Type 0} → Result A Refusal → Type 0
+IsValid (Ok x) = ⊤
+IsValid (Err e) = e ≡ invalid_data → ⊥
+
+-- ---- steps
+
+valid-then : {A B : Type 0} (r : Result A Refusal) (f : A → Result B Refusal) → IsValid r → ((x : A) → IsValid (f x)) → IsValid (r >>= f)
+valid-then (Ok x) f first second = second x
+valid-then (Err e) f first second = first
+
+valid-test : {A : Type 0} (test : Bool) (e : Refusal) (r : Result A Refusal) → (e ≡ invalid_data → ⊥) → IsValid r → IsValid (refuse_if test e >>= λ _. r)
+valid-test true e r other rest = other
+valid-test false e r other rest = rest
+
+valid-or : {A : Type 0} (o : Option A) (e : Refusal) → (e ≡ invalid_data → ⊥) → IsValid (or_refuse o e)
+valid-or (Some x) e other = tt
+valid-or None e other = other
+
+valid-each : {A B : Type 0} (f : A → Result B Refusal) (xs : List A) → ((x : A) → IsValid (f x)) → IsValid (each_ok f xs)
+valid-each f [] own = tt
+valid-each f (x ∷ xs) own = valid-then (f x) (λ y. each_ok f xs >>= λ ys. Ok (y ∷ ys)) (own x) (λ y. valid-then (each_ok f xs) (λ ys. Ok (y ∷ ys)) (valid-each f xs own) (λ ys. tt))
+
+valid-either : {A : Type 0} (test : Bool) (r s : Result A Refusal) → IsValid r → IsValid s → IsValid (if test then r else s)
+valid-either true r s first second = first
+valid-either false r s first second = second
+
+-- a test that fails
+valid-unmet : {A : Type 0} (test : Bool) (e : Refusal) (r : Result A Refusal) → test ≡ false → IsValid r → IsValid (refuse_if test e >>= λ _. r)
+valid-unmet true e r unmet rest = absurd (true≢false unmet)
+valid-unmet false e r unmet rest = rest
+
+-- ---- segments
+
+valid-call : (w : Recorded) (call : Call) → IsValid (content_after w call)
+unfolding content_after
+valid-call w (recorded d name t cell) =
+    let e = entry_of w (slot_of name t) in
+    let own : Entry = record { records = e.records ++ record { doc = d; recorded_type = t; cell = cell } ∷ []; forced = e.forced; sorts = e.sorts; tie_start = e.tie_start } in
+    let made : Result Recorded Refusal = Ok (put slot_cmp (slot_of name t) own w) in
+    let few : Result Recorded Refusal = refuse_if (nat_le (2 ^ 32 - 1) (length e.records)) too_large >>= λ _. made in
+    let in_order : Result Recorded Refusal = refuse_if (is_late e.records d) doc_order >>= λ _. few in
+    valid-test (forces_other e.forced t) forced_type in_order (λ h. cc)
+    (valid-test (is_late e.records d) doc_order few (λ h. cc)
+    (valid-test (nat_le (2 ^ 32 - 1) (length e.records)) too_large made (λ h. cc) tt))
+valid-call w (typed name t sorts) =
+    let e = entry_of w (slot_of name t) in
+    let own : Entry = record { records = e.records; forced = Some t; sorts = sorts; tie_start = e.tie_start } in
+    valid-test (denies e t) forced_type (Ok (put slot_cmp (slot_of name t) own w)) (λ h. cc) tt
+valid-call w (tied name start) =
+    let e = entry_of w (slot_of name types.i64) in
+    let own : Entry = record { records = e.records; forced = Some types.i64; sorts = e.sorts; tie_start = Some start } in
+    valid-test (denies e types.i64) forced_type (Ok (put slot_cmp (slot_of name types.i64) own w)) (λ h. cc) tt
+
+valid-calls : (w : Recorded) (calls : List Call) → IsValid (content_after_all w calls)
+valid-calls w [] = tt
+valid-calls w (call ∷ calls) = valid-then (content_after w call) (λ next. content_after_all next calls) (valid-call w call) (λ next. valid-calls next calls)
+
+valid-column : (n : ℕ) (perm : Option (List ℕ)) (p : Slot × Entry) → IsValid (written_column n perm p)
+valid-column n perm (slot, e) =
+    let content = entry_content e n perm in
+    let made : ColumnType → Result Column Refusal = λ t. Ok (record { name = slot.name; column_type = t; content = content }) in
+    let small : ColumnType → Result Column Refusal = λ t. refuse_if (is_too_large t content) too_large >>= λ _. made t in
+    let tied : ColumnType → Result Column Refusal = λ t. refuse_if (is_past_ties n e.tie_start) tie_breaker_start >>= λ _. small t in
+    valid-then (or_refuse (entry_type slot.category e) numerical_conflict) tied (valid-or (entry_type slot.category e) numerical_conflict (λ h. cc))
+    (λ t. valid-test (is_past_ties n e.tie_start) tie_breaker_start (small t) (λ h. cc)
+    (valid-test (is_too_large t content) too_large (made t) (λ h. cc) tt))
+
+valid-written : (w : Recorded) (n : ℕ) (perm : Option (List ℕ)) → IsValid (written w n perm)
+unfolding written
+valid-written w n perm =
+    let named = filter (λ (p : Slot × Entry). not (has_zero p.0.name)) w in
+    let columns : Result (List Column) Refusal = each_ok (written_column n perm) named in
+    let table : List Column → Result Table Refusal = λ columns. Ok (record { row_count = n; columns = columns }) in
+    let ordered : Result Table Refusal = refuse_if (not (is_permutation n perm)) bad_order >>= λ _. columns >>= table in
+    valid-test (list_any (is_past_docs n) w) doc_out_of_range ordered (λ h. cc)
+    (valid-test (not (is_permutation n perm)) bad_order (columns >>= table) (λ h. cc)
+    (valid-then columns table (valid-each (written_column n perm) named (valid-column n perm)) (λ columns. tt)))
+
+valid-segment : (s : Segment) → IsValid (segment_table s)
+valid-segment s = valid-then (content_after_all [] s.calls) (λ w. written w s.count None) (valid-calls [] s.calls) (λ w. valid-written w s.count None)
+
+-- ---- the merge of tables
+
+-- a column of a table is whole
+whole-found : (slot : Slot) (cs : List Column) → (is_some (find (λ c. same_slot (part_slot c) slot) (map part_of_column cs)) && is_none (option_and_then whole_column (find (λ c. same_slot (part_slot c) slot) (map part_of_column cs)))) ≡ false
+whole-found slot [] = refl
+whole-found slot (c ∷ cs) = by (same_slot (part_slot (part_of_column c)) slot) (find (λ c. same_slot (part_slot c) slot) (map part_of_column cs)) (whole-found slot cs)
+  where
+    by : (b : Bool) (o : Option PartColumn) → (is_some o && is_none (option_and_then whole_column o)) ≡ false → (is_some (if b then Some (part_of_column c) else o) && is_none (option_and_then whole_column (if b then Some (part_of_column c) else o))) ≡ false
+    by true o rest = refl
+    by false o rest = rest
+
+none-bad : (slot : Slot) (tables : List Table) → has_bad_column slot (map part_of_table tables) ≡ false
+none-bad slot [] = refl
+none-bad slot (t ∷ tables) = ap₂ (λ a b. a || b) (whole-found slot t.columns) (none-bad slot tables)
+
+valid-type : (wanted : Option ColumnType) (kept : List Column) → IsValid (joined_type wanted kept)
+valid-type (Some t) kept = valid-test (not (list_all (λ c. list_all (is_of_type t) (all_cells c)) kept)) cannot_coerce (Ok t) (λ h. cc) tt
+valid-type None kept = valid-or (shared_type kept) numerical_conflict (λ h. cc)
+
+valid-joined : (order : Order) (picked : List (ℕ × ℕ)) (tables : List Table) (required : List Required) (slot : Slot) → IsValid (joined_column order picked (map part_of_table tables) required slot)
+unfolding joined_column
+valid-joined order picked tables required slot =
+    let parts = map part_of_table tables in
+    let kept = kept_columns slot picked parts in
+    let wanted = required_type required slot in
+    let content = joined_content order slot picked parts kept in
+    let made : ColumnType → Result (Option Column) Refusal = λ t. Ok (Some (record { name = slot.name; column_type = t; content = content })) in
+    let small : ColumnType → Result (Option Column) Refusal = λ t. refuse_if (is_too_large t content) too_large >>= λ _. made t in
+    let present : Result (Option Column) Refusal = joined_type wanted kept >>= small in
+    let absent = is_none wanted && (length kept == 0) in
+    valid-unmet (has_bad_column slot parts) invalid_data (if absent then Ok None else present) (none-bad slot tables)
+    (valid-either absent (Ok None) present tt
+    (valid-then (joined_type wanted kept) small (valid-type wanted kept)
+    (λ t. valid-test (is_too_large t content) too_large (made t) (λ h. cc) tt)))
+
+valid-required : (earlier required : List Required) → IsValid (required_refusal earlier required)
+valid-required earlier [] = tt
+valid-required earlier (r ∷ rs) =
+    let rest : Result ⊤ Refusal = required_refusal (earlier ++ r ∷ []) rs in
+    let alone : Result ⊤ Refusal = refuse_if (list_any (contradicts r) earlier) required_conflict >>= λ _. rest in
+    valid-test (has_zero r.name) bad_name alone (λ h. cc)
+    (valid-test (list_any (contradicts r) earlier) required_conflict rest (λ h. cc) (valid-required (earlier ++ r ∷ []) rs))
+
+valid-merged : (tables : List Table) (required : List Required) (order : Order) → IsValid (merged (map part_of_table tables) required order)
+unfolding merged
+valid-merged tables required order =
+    let parts = map part_of_table tables in
+    let table : List (ℕ × ℕ) → List (Option Column) → Result Table Refusal = λ picked columns. Ok (record { row_count = length picked; columns = filter_map (λ c. c) columns }) in
+    let columns : List (ℕ × ℕ) → Result (List (Option Column)) Refusal = λ picked. each_ok (joined_column order picked parts required) (all_slots parts required) in
+    let named : List (ℕ × ℕ) → Result Table Refusal = λ picked. required_refusal [] required >>= λ _. columns picked >>= table picked in
+    let few : List (ℕ × ℕ) → Result Table Refusal = λ picked. refuse_if (nat_le (2 ^ 32) (length picked)) too_large >>= λ _. named picked in
+    let found = picks order (row_counts parts) in
+    valid-then (or_refuse found bad_order) few (valid-or found bad_order (λ h. cc))
+    (λ picked. valid-test (nat_le (2 ^ 32) (length picked)) too_large (named picked) (λ h. cc)
+    (valid-then (required_refusal [] required) (λ _. columns picked >>= table picked) (valid-required [] required)
+    (λ _. valid-then (columns picked) (table picked) (valid-each (joined_column order picked parts required) (all_slots parts required) (valid-joined order picked tables required))
+    (λ columns. tt))))
+
+-- ---- a script
+
+valid-script : (s : Script) → IsValid (script_table [] s)
+valid-script s =
+    let rest : List Table → Result Table Refusal = λ tables. merged (map part_of_table tables) s.required (order_over s.order (row_counts (map part_of_table tables))) in
+    valid-then (each_ok segment_table s.segments) rest (valid-each segment_table s.segments valid-segment)
+    (λ tables. valid-merged tables s.required (order_over s.order (row_counts (map part_of_table tables))))
+
+-- another refusal has another status
+other-status : (r : Refusal) → status_of r ≡ 6 → r ≡ invalid_data
+other-status invalid_data six = refl
+other-status bad_order six = absurd (omega (arith, six))
+other-status bad_name six = absurd (omega (arith, six))
+other-status required_conflict six = absurd (omega (arith, six))
+other-status cannot_coerce six = absurd (omega (arith, six))
+other-status numerical_conflict six = absurd (omega (arith, six))
+other-status too_large six = absurd (omega (arith, six))
+other-status forced_type six = absurd (omega (arith, six))
+other-status doc_order six = absurd (omega (arith, six))
+other-status doc_out_of_range six = absurd (omega (arith, six))
+other-status tie_breaker_start six = absurd (omega (arith, six))
+
+-- a refusal that is expected of a valid step hasn't the status of invalid data
+valid-refused : {A : Type 0} (expected : Result A Refusal) (r : Refusal) → IsValid expected → expected ≡ Err r → status_of r ≡ 6 → ⊥
+valid-refused (Ok x) r valid is six = absurd (ok_not_err x r is)
+valid-refused (Err e) r valid is six = valid (same_Err e r is ∙ other-status r six)
+
+-- Where there is no input, what is made of a script isn't refused as invalid data.
+pub without-invalid : {H B : Type 0} (content : H → Told) (inputs : List H) (IsOf : Table → B → Type 0) (s : Script) (e : ColumnarError) → inputs ≡ [] → IfSome (for_each content inputs) (λ files. MakesIfRead IsOf (Err e) (script_table files s)) → code_of e ≡ 6 → ⊥
+without-invalid {B = B} content inputs IsOf s e none makes = by (rw none at makes)
+  where
+    refused : (e ≡ ReadFault) ⊎ MayRefuse (script_table [] s) e → code_of e ≡ 6 → ⊥
+    refused (inl fault) six = let h = rw fault at six in omega (arith, h)
+    refused (inr (inl memory)) six = let h = rw memory at six in omega (arith, h)
+    refused (inr (inr (r, is, answer))) six = valid-refused (script_table [] s) r (valid-script s) is (sym (code-answer r) ∙ ap code_of (sym answer) ∙ six)
+
+    by : MakesIfRead {B = B} IsOf (Err e) (script_table [] s) → code_of e ≡ 6 → ⊥
+    by makes = refused makes.refused
