@@ -1,12 +1,20 @@
 //! Columns that are opened by their handles.
 use crate::file::files::{TEN_AND_TWENTY, THREE_WITHOUT, opened};
 use col_common::{ColumnarError, MemHandle};
-use col_dynamic::{Column, ColumnSpaceUsage, NumColumn};
+use col_dynamic::{Column, ColumnSpaceUsage, ColumnType, NumColumn};
 use col_file::{ColumnarReader, DynamicColumnHandle};
 use col_open::LenientColumn;
 use col_values::ColumnValues;
 use std::alloc::Global;
 use std::test::Fail;
+
+// One row under "b": the number 9223372036854775807 of u64.
+const ONE_OF_U64: &[u8] = b"\0\0\x7f\x7f\x7f\x7f\x7f\x7f\x7f\x7f\xff\x81\x80\x81\x01\0\0\0\0\0\0\0\
+\x81\x83b\0\x01\x96\x06\0\0\0\0\0\0\0\x01\0\0\0\x02\0\0\0\x02qwB";
+
+// The same with the number 1 of i64: 2^63 + 1.
+const ONE_OF_I64: &[u8] = b"\0\0\x01\0\0\0\0\0\0\0\0\x81\x81\x80\x81\x01\0\0\0\0\0\0\0\
+\x81\x83b\0\0\x97\x06\0\0\0\0\0\0\0\x01\0\0\0\x02\0\0\0\x02qwB";
 
 // The handle of the first column.
 pub fn first_handle(
@@ -114,6 +122,36 @@ fn a_handle_opens_its_column_as_numbers(rt: HostRuntime) -> Result<(), Fail> {
     let alloc = rt.alloc();
     let handle = handle_in(alloc, TEN_AND_TWENTY)?;
     assert_eq!(rt; lenient_last_in(alloc, TEN_AND_TWENTY, &handle)?, Some(20));
+    Ok(())
+}
+
+// The first value of the first row.
+fn first_of<V: ColumnValues<u64>>(column: &Column<u64, V>) -> Option<u64> {
+    if column.num_docs() == 0 {
+        return None;
+    }
+    column.first(0)
+}
+
+// The type of the first column, and the number of its first value.
+fn first_in(
+    alloc: Global,
+    bytes: &'static [u8],
+) -> Result<(ColumnType, Option<u64>), ColumnarError> {
+    let handle = handle_in(alloc, bytes)?;
+    let number = first_of(&lenient_in(alloc, bytes, &handle)?);
+    Ok((handle.column_type(), number))
+}
+
+#[test]
+fn numbers_are_read_by_the_type_of_their_column(rt: HostRuntime) -> Result<(), Fail> {
+    let alloc = rt.alloc();
+    let (column_type, number) = first_in(alloc, ONE_OF_U64)?;
+    assert_eq!(rt; column_type, ColumnType::U64);
+    assert_eq!(rt; number, Some(0x7fff_ffff_ffff_ffff));
+    let (column_type, number) = first_in(alloc, ONE_OF_I64)?;
+    assert_eq!(rt; column_type, ColumnType::I64);
+    assert_eq!(rt; number, Some(0x8000_0000_0000_0001));
     Ok(())
 }
 
