@@ -14,13 +14,13 @@ use Rattle.col_open.proofs.open_lenient.open_ip_addr.Goals as goal
 pub returns-in_err-codes : goal.returns-in_err-codes
 returns-in_err-codes c =
     let p = err_from_is_err_and c.from_residual.result c.from_residual.ensures.1 in
-    rw (p.1, p.2) (codes-refused c.args.bytes (version_number c.args.format_version) c.args.num_rows c.in_err-codes.field-0.0 c.in_err-codes.ensures)
+    rw (p.1, p.2) (codes-refused c.args.bytes (version_number c.args.format_version) c.args.num_rows c.in_err-codes.field-0.0 c.in_err-codes.ensures.ok)
 
 pub returns : goal.returns
 returns c =
     let s = c.in_ok-codes.codes.shape in
     let d = c.in_ok-codes.codes.values in
-    let opened = codes-opened c.args.bytes (version_number c.args.format_version) c.args.num_rows s d c.in_ok-codes.ensures in
+    let opened = codes-opened c.args.bytes (version_number c.args.format_version) c.args.num_rows s d c.in_ok-codes.ensures.ok in
     subst (λ (made : Seen LenientValues). DecodesTo (IsInPlaceOf types.ip) (Ok made) (column c.args.bytes types.ip (version_number c.args.format_version) c.args.num_rows))
     (λ i. record {
       shape = sym (c.new.ensures.index ∙ c.into_parts-index.ensures.index) i;
