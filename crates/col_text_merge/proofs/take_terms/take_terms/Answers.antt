@@ -9,4 +9,4 @@ pub take_by_order-requires-clause-noted : goal.take_by_order-requires-clause-not
 take_by_order-requires-clause-noted c =
     let columns = c.args.bytes_columns.now in
     let taken = IsTaken columns (order_of c.args.merge_row_order.now) in
-    subst (AreNoted columns taken taken) (sym c.in_ok-noted.ensures.ok) (noted-start columns taken (λ q w. taken-there columns (order_of c.args.merge_row_order.now) c.requires.told q w))
+    subst (AreNoted columns taken taken) (sym c.in_ok-noted.ensures) (noted-start columns taken (λ q w. taken-there columns (order_of c.args.merge_row_order.now) c.requires.told q w))
