@@ -6,10 +6,9 @@ use Rattle.std.proofs.lemmas.Bool.Decides.{nat_tests}
 use Rattle.std.proofs.lemmas.List.{take_more_set, take-set}
 use Rattle.std.proofs.lemmas.List.FromFn.{map-range_with_len_more}
 use Rattle.std.proofs.lemmas.List.Elements.{filter-append}
-use Rattle.std.proofs.lemmas.List.Kept.{IsStrictlyIncreasing-filter}
-use Rattle.std.specs.List.Sorted.{IsStrictlyIncreasing}
 use mir.Val.{bool_byte}
-use Rattle.col_common.proofs.OrderingLemmas.{range_rises}
+use Rattle.col_common.specs.Ascending.{is_rising}
+use Rattle.col_common.proofs.OrderingLemmas.{filtered_rises}
 use Rattle.col_bits.specs.Packed.{item, items, ids_between}
 
 -- one item more is written
@@ -71,9 +70,9 @@ ids_more bytes w low high a n m id kept v front out b at next test value within 
     ∙ ap (λ xs. front ++ xs) (sym (ids_joined bytes w low high a n 1 id m at next)))))
 
 -- ids rise
-pub ids_rise : (bytes : List ℕ) (w low high a n : ℕ) → IsStrictlyIncreasing (ids_between bytes w low high a n)
+pub ids_rise : (bytes : List ℕ) (w low high a n : ℕ) → is_rising (ids_between bytes w low high a n) ≡ true
 unfolding ids_between
-ids_rise bytes w low high a n = IsStrictlyIncreasing-filter (λ id. is_in_range low high (item bytes w id)) (range_with_len a n) (range_rises a n)
+ids_rise bytes w low high a n = filtered_rises (λ id. is_in_range low high (item bytes w id)) a n
 
 -- one item more
 pub items-push : (bytes : List ℕ) (w n : ℕ) → items bytes w 0 (n + 1) ≡ items bytes w 0 n ++ item bytes w n ∷ []

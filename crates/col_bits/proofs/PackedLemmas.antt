@@ -5,6 +5,7 @@ use Rattle.std.proofs.lemmas.Nat.{div_below, mul-add-lt, pow_pos, pow-add}
 use Rattle.std.specs.List.{AllByRecursion}
 use Rattle.std.specs.Int.{div_ceil}
 use Rattle.std.proofs.lemmas.Bool.{lt-ltb, eq-eqb}
+use Rattle.col_common.specs.Ascending.{AreBelow}
 use Rattle.col_bits.specs.Packed.{number_of, digits, packed, packed_bytes}
 
 -- a low digit below a high number
@@ -15,14 +16,14 @@ pub length-digits : (base k n : ℕ) → length (digits base k n) ≡ k
 length-digits base zero n = refl
 length-digits base (suc k) n = ap suc (length-digits base k (n / base))
 
-pub number_of-below : (base : ℕ) (ds : List ℕ) → 0 < base → AllByRecursion (λ d. d < base) ds → number_of base ds < base ^ length ds
+pub number_of-below : (base : ℕ) (ds : List ℕ) → 0 < base → AreBelow base ds → number_of base ds < base ^ length ds
 number_of-below base [] p all = rw (pow-zero base) (lit< tt)
 number_of-below base (d ∷ ds) p all =
     let later = number_of-below base ds p all.1 in
     let first = all.0 in
     rw (pow-suc base (length ds)) (mul-add-lt-digit d (number_of base ds) base (base ^ length ds) first later)
 
-pub digits-number_of : (base : ℕ) (ds : List ℕ) → 0 < base → AllByRecursion (λ d. d < base) ds → digits base (length ds) (number_of base ds) ≡ ds
+pub digits-number_of : (base : ℕ) (ds : List ℕ) → 0 < base → AreBelow base ds → digits base (length ds) (number_of base ds) ≡ ds
 digits-number_of base [] p all = refl
 digits-number_of base (d ∷ ds) p all =
     let low : (d + base * number_of base ds) % base ≡ d = add-mul-mod_self_left d base (number_of base ds) ∙ mod-eq_of_lt all.0 in
@@ -39,7 +40,7 @@ digits-at base zero n i p h = absurd (omega arith)
 digits-at base (suc k) n zero p h = rw (pow-zero base, div-one)
 digits-at base (suc k) n (suc i) p h = digits-at base k (n / base) i p (omega arith) ∙ ap (λ m. m % base) (div-div-eq-div-mul n base (base ^ i) ∙ ap (λ d. n / d) (mul_comm base (base ^ i) ∙ sym (pow-suc base i)))
 
-pub all_digits : (base k n : ℕ) → 0 < base → AllByRecursion (λ d. d < base) (digits base k n)
+pub all_digits : (base k n : ℕ) → 0 < base → AreBelow base (digits base k n)
 all_digits base zero n p = tt
 all_digits base (suc k) n p = (mod-lt n p, all_digits base k (n / base) p)
 
@@ -52,7 +53,7 @@ fits_bytes : (m : ℕ) → 2 ^ m ≤ 256 ^ div_ceil m 8
 fits_bytes m = rw (pow-pow 8 (div_ceil m 8)) (pow-le-pow_right {n = 2} (lit< tt) {i = m} {j = div_ceil m 8 * 8} (omega arith))
 
 -- the items are read back from their bytes
-pub packed-packed_bytes : (w : ℕ) (xs : List ℕ) → AllByRecursion (λ x. x < 2 ^ w) xs → packed (packed_bytes w xs) w (length xs) ≡ Some xs
+pub packed-packed_bytes : (w : ℕ) (xs : List ℕ) → AreBelow (2 ^ w) xs → packed (packed_bytes w xs) w (length xs) ≡ Some xs
 unfolding packed
 packed-packed_bytes w xs all =
     let n = number_of (2 ^ w) xs in
@@ -74,6 +75,6 @@ pub number_of-push : (base : ℕ) (xs : List ℕ) (x : ℕ) → number_of base (
 number_of-push base xs x = number_of-append base xs (x ∷ []) ∙ ap (λ m. number_of base xs + m * base ^ length xs) (omega arith)
 
 -- bytes are the packed list where they are as many, and as one number the same
-pub packed_bytes-closed : (w : ℕ) (xs out : List ℕ) → AllByRecursion (λ b. b < 256) out → length out ≡ div_ceil (length xs * w) 8 → number_of 256 out ≡ number_of (2 ^ w) xs → out ≡ packed_bytes w xs
+pub packed_bytes-closed : (w : ℕ) (xs out : List ℕ) → AreBelow 256 out → length out ≡ div_ceil (length xs * w) 8 → number_of 256 out ≡ number_of (2 ^ w) xs → out ≡ packed_bytes w xs
 packed_bytes-closed w xs out all long same =
     sym (digits-number_of 256 out (lit< tt) all) ∙ (ap (λ k. digits 256 k (number_of 256 out)) long ∙ ap (digits 256 (div_ceil (length xs * w) 8)) same)

@@ -5,6 +5,7 @@ use Rattle.std.proofs.lemmas.Nat.{pow_pos, pow-add, le-div}
 use Rattle.std.proofs.lemmas.Bool.{cases_lt, lt-ltb, le-ltb, eq-eqb, ne_eqb, and_from}
 use native.Mathlib.Nat.{div-lt_iff_lt-mul, div-eq_of_lt}
 use Rattle.std.specs.List.{AllByRecursion}
+use Rattle.col_common.specs.Ascending.{AreBelow}
 use Rattle.col_bits.specs.Packed.{number_of, is_packed}
 use Rattle.col_bits.proofs.PackedLemmas.{pow-pow, number_of-below}
 use Rattle.col_bits.proofs.WindowLemmas.{number_of-drop}
@@ -13,7 +14,7 @@ use Rattle.col_bits.proofs.WindowLemmas.{number_of-drop}
 abbrev AreBytes : List ℕ → Type 0
 AreBytes bytes = (i : ℕ) → slice_index bytes i < 256
 
-by_recursion : (bytes : List ℕ) → AreBytes bytes → AllByRecursion (λ b. b < 256) bytes
+by_recursion : (bytes : List ℕ) → AreBytes bytes → AreBelow 256 bytes
 by_recursion [] b = tt
 by_recursion (c ∷ bytes) b = (b 0, by_recursion bytes (λ i. b (suc i)))
 

@@ -4,11 +4,12 @@ use Rattle.std.specs.List.{AllByRecursion}
 use Rattle.std.proofs.lemmas.Option.{cond_some}
 use Rattle.std.proofs.lemmas.Nat.{pow_pos, mod-mul-add, mod_below}
 use native.Mathlib.Nat.{pow-zero, add-mul-div_left, div-eq_of_lt, div-div-eq-div-mul, zero-div, zero-mod, mod-one}
+use Rattle.col_common.specs.Ascending.{AreBelow}
 use Rattle.col_bits.specs.Packed.{number_of, digits, packed}
 use Rattle.col_bits.proofs.PackedLemmas.{digits-at, pow-pow, mul-add-lt-digit}
 
 -- the number of the digits from place a on
-pub number_of-drop : (base : ℕ) (ds : List ℕ) (a : ℕ) → 0 < base → AllByRecursion (λ d. d < base) ds → number_of base (drop a ds) ≡ number_of base ds / base ^ a
+pub number_of-drop : (base : ℕ) (ds : List ℕ) (a : ℕ) → 0 < base → AreBelow base ds → number_of base (drop a ds) ≡ number_of base ds / base ^ a
 number_of-drop base ds zero p all = rw (pow-zero base, div-one) refl
 number_of-drop base [] (suc a) p all = sym (zero-div (base ^ suc a))
 number_of-drop base (d ∷ ds) (suc a) p all =
@@ -30,7 +31,7 @@ pow-pos base zero p = rw (pow-zero base) (lit< tt)
 pow-pos base (suc k) p = rw (pow-suc base k) (mul-pos (pow-pos base k p) p)
 
 -- the number of the first k digits
-pub number_of-take : (base : ℕ) (ds : List ℕ) (k : ℕ) → 0 < base → AllByRecursion (λ d. d < base) ds → number_of base (take k ds) ≡ number_of base ds % base ^ k
+pub number_of-take : (base : ℕ) (ds : List ℕ) (k : ℕ) → 0 < base → AreBelow base ds → number_of base (take k ds) ≡ number_of base ds % base ^ k
 number_of-take base ds zero p all = rw (pow-zero base) (sym (mod-one (number_of base ds)))
 number_of-take base [] (suc k) p all = sym (zero-mod (base ^ suc k))
 number_of-take base (d ∷ ds) (suc k) p all = rw (number_of-take base ds k p all.1, pow-suc base k) (sym (low_digit d (number_of base ds) base (base ^ k) all.0 (pow-pos base k p)))

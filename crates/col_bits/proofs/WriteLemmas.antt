@@ -5,6 +5,7 @@ use native.Mathlib.Nat.{pow-le-pow_right}
 use Rattle.std.specs.Int.{to_le_bytes, w64, div_ceil}
 use Rattle.std.specs.List.{AllByRecursion, All}
 use Rattle.std.proofs.lemmas.List.Elements.{All-from_recursion}
+use Rattle.col_common.specs.Ascending.{AreBelow}
 use Rattle.col_bits.specs.Packed.{number_of}
 use Rattle.col_bits.proofs.PackedLemmas.{number_of-append, pow-pow}
 use Rattle.col_bits.proofs.WindowLemmas.{number_of-take}
@@ -91,10 +92,10 @@ rest_fits f v w small below over =
     shr_below v (f + w - 64) (64 - f) (subst q e small)
 
 -- a word's bytes are bytes
-word_bytes : (n : ℕ) → AllByRecursion (λ d. d < 256) (to_le_bytes w64 n)
+word_bytes : (n : ℕ) → AreBelow 256 (to_le_bytes w64 n)
 word_bytes n = (omega arith, (omega arith, (omega arith, (omega arith, (omega arith, (omega arith, (omega arith, (omega arith, tt))))))))
 
-pub all_word_bytes : (n : ℕ) → All (λ d. d < 256) (to_le_bytes w64 n)
+pub all_word_bytes : (n : ℕ) → AreBelow 256 (to_le_bytes w64 n)
 all_word_bytes n = All-from_recursion (λ d. d < 256) (to_le_bytes w64 n) (word_bytes n)
 
 -- the bytes of the bits that are held

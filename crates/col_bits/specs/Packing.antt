@@ -1,6 +1,7 @@
 -- What a packer holds, above the bytes that it has written.
 use Rattle.std.specs.Prelude.{◌≡◌, ℕ, ◌+◌, ◌*◌, ◌^◌, ◌<◌, List, ◌++◌, length}
 use Rattle.std.specs.List.{All}
+use Rattle.col_common.specs.Ascending.{AreBelow}
 use Rattle.col_bits.specs.Packed.{number_of}
 
 -- bits that are not yet written: their number, and how many they are
@@ -23,5 +24,5 @@ count_of held bytes = 8 * length bytes + held.count
 -- what stood there stays, and bytes are added
 pub record AddsBytes (old new : List ℕ) : Type 0 where
   pub added : List ℕ
-  pub bytes : All (λ b. b < 256) added
+  pub bytes : AreBelow 256 added
   pub front : new ≡ old ++ added

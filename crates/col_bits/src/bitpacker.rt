@@ -3,8 +3,8 @@ ghost use Rattle.std.specs.Prelude.{◌≡◌, ℕ, ◌+◌, ◌-◌, ◌*◌, �
 ghost use Rattle.std.specs.Prelude.{List, length, slice_index};
 ghost use Rattle.std.specs.Prelude.{◌↔◌, ◌++◌, [], IsTrue, OnOk, OnErr, take};
 ghost use Rattle.std.specs.Int.{div_ceil, is_in_range};
-ghost use Rattle.std.specs.List.Sorted.{IsStrictlyIncreasing};
 ghost use Rattle.std.specs.Range.{range_inclusive_start, range_inclusive_end};
+ghost use Rattle.col_common.specs.Ascending.{is_rising};
 ghost use Rattle.col_bits.specs.Packed.{number_of, width, is_width, item, items, ids_between, packed};
 ghost use Rattle.col_bits.specs.Places.{IsForBlocks};
 ghost use Rattle.col_bits.specs.Packing.{Held, nothing_held, bits_of, count_of, AddsBytes};
@@ -192,7 +192,7 @@ impl BitUnpacker {
         ensures ok { OnOk result (positions.new.items ≡ ids_between «data».now self.now
             (range_inclusive_start value_range) (range_inclusive_end value_range)
             ids.start (ids.end - ids.start)) }
-        ensures rises { OnOk result (IsStrictlyIncreasing positions.new.items) }
+        ensures rises { OnOk result (is_rising positions.new.items ≡ true) }
         // Where memory is wanting, none are there.
         ensures none { OnErr result (positions.new.items ≡ []) }
     {

@@ -5,6 +5,7 @@ use Rattle.std.proofs.lemmas.Option.{slice_get-get_or}
 use Rattle.std.proofs.lemmas.List.FromFn.{length-map-range_with_len, get_or-map-range_with_len}
 use Rattle.std.proofs.lemmas.List.Elements.{All-get_or, All-from_recursion}
 use native.Mathlib.Nat.{mod-one}
+use Rattle.col_common.specs.Ascending.{AreBelow}
 use Rattle.col_common.specs.Reading.{◌>>=◌, only_if}
 use Rattle.col_bits.specs.Packed.{number_of, item, items, width, is_packed}
 use Rattle.col_model.specs.Stats.{Stats, stats_of, steps_of, same_stats, greatest_of}
@@ -143,7 +144,7 @@ part-read s bytes read list w start m e reader same h =
     ∙ ap (λ xs. take m (drop start xs)) e
 
 -- the values of steps at positions fit, and are those of the list
-pub at-read : (s : Stats) (bytes read list : List ℕ) (w : ℕ) (at : List ℕ) → bitpacked_items s bytes ≡ list → IsReader s w bytes → read ≡ bytes → AllByRecursion (λ i. i < length list) at → AllByRecursion (λ i. s.least + s.divisor * item read w i < 2 ^ 64) at × (map (λ i. Some (s.least + s.divisor * item read w i)) at ≡ map (slice_get list) at)
+pub at-read : (s : Stats) (bytes read list : List ℕ) (w : ℕ) (at : List ℕ) → bitpacked_items s bytes ≡ list → IsReader s w bytes → read ≡ bytes → AreBelow (length list) at → AllByRecursion (λ i. s.least + s.divisor * item read w i < 2 ^ 64) at × (map (λ i. Some (s.least + s.divisor * item read w i)) at ≡ map (slice_get list) at)
 at-read s bytes read list w [] e reader same all = (tt, refl)
 at-read s bytes read list w (i ∷ at) e reader same all =
     let here = reads-at s bytes read list w i (item read w i) e reader same refl all.0 in

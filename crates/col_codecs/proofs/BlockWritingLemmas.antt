@@ -5,6 +5,7 @@ use Rattle.std.specs.List.{AllByRecursion}
 use Rattle.std.proofs.lemmas.List.{take_all, drop_all, drop-drop, take-map, drop-map, map-append, length-drop, length-map, length-take-le}
 use Rattle.std.proofs.lemmas.Grind.{flat_map-append}
 use Rattle.std.proofs.lemmas.Bool.{cases_lt}
+use Rattle.col_common.specs.Ascending.{AreBelow}
 use Rattle.col_model.specs.Stats.{Stats, least_of, stats_of}
 use Rattle.col_model.proofs.ListLaws.{all_taken, all_dropped}
 use Rattle.col_model.specs.U64List.{LinearParams, joined_lists}
@@ -58,7 +59,7 @@ pub record IsTrained (steps offsets : List ℕ) (l : LinearParams) : Type 0 wher
 pub trained-width : (steps offsets : List ℕ) (l : LinearParams) → IsTrained steps offsets l → l.offset_width ≤ 64
 trained-width steps offsets l h = rw h.slope (block_line-width steps)
 
-pub trained-small : (steps offsets : List ℕ) (l : LinearParams) → IsTrained steps offsets l → AllByRecursion (λ v. v < 2 ^ l.offset_width) offsets
+pub trained-small : (steps offsets : List ℕ) (l : LinearParams) → IsTrained steps offsets l → AreBelow (2 ^ l.offset_width) offsets
 trained-small steps offsets l h = rw (h.slope, h.offsets_are) (block_offsets-fit steps)
 
 -- ---- the values

@@ -5,6 +5,7 @@ use Rattle.std.proofs.lemmas.Bool.{cases_lt}
 use Rattle.std.proofs.lemmas.List.{take_more, take_more_set, take_all, get_or_append_left}
 use Rattle.std.proofs.lemmas.List.Elements.{All-get_or, All-from_recursion}
 use Rattle.std.proofs.lemmas.List.FromFn.{get_or-map-range_with_len, length-map-range_with_len}
+use Rattle.col_common.specs.Ascending.{AreBelow}
 use Rattle.col_model.specs.Stats.{least_of, greatest_of}
 use Rattle.col_model.proofs.StatsLaws.{least_of-all, fold-max}
 use Rattle.col_model.proofs.ListLaws.{range-more}
@@ -56,7 +57,7 @@ bounds_enclose b xs k are h =
     (omega (arith, low, are.least), omega (arith, high, are.greatest))
 
 -- numbers of 32 bits, as they are read
-pub all_small : (f : ℕ → ℕ) (from n : ℕ) → ((i : ℕ) → f i < 2 ^ 32) → AllByRecursion (λ v. v < 2 ^ 32) (map f (range_with_len from n))
+pub all_small : (f : ℕ → ℕ) (from n : ℕ) → ((i : ℕ) → f i < 2 ^ 32) → AreBelow (2 ^ 32) (map f (range_with_len from n))
 all_small f from zero small = tt
 all_small f from (suc n) small = (small from, all_small f (from + 1) n small)
 
@@ -69,7 +70,7 @@ above-more xs n most next before more here k h =
     ]
 
 -- numbers that are small each
-pub each_small : (xs : List ℕ) → ((k : ℕ) → k < length xs → get_or xs k 0 < 2 ^ 32) → AllByRecursion (λ v. v < 2 ^ 32) xs
+pub each_small : (xs : List ℕ) → ((k : ℕ) → k < length xs → get_or xs k 0 < 2 ^ 32) → AreBelow (2 ^ 32) xs
 each_small [] each = tt
 each_small (x ∷ xs) each = (each 0 (omega arith), each_small xs (λ k h. each (suc k) (omega (arith, h))))
 

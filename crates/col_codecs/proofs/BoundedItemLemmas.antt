@@ -5,10 +5,9 @@ use Rattle.std.specs.Int.{is_in_range}
 use Rattle.std.proofs.lemmas.List.{map-append}
 use Rattle.std.proofs.lemmas.List.Elements.{filter-append}
 use Rattle.std.proofs.lemmas.List.FromFn.{get_or-map-range_with_len}
-use Rattle.std.specs.List.Sorted.{IsStrictlyIncreasing}
-use Rattle.std.proofs.lemmas.List.Kept.{IsStrictlyIncreasing-filter}
 use mir.Val.{bool_byte}
-use Rattle.col_common.proofs.OrderingLemmas.{range_rises}
+use Rattle.col_common.specs.Ascending.{is_rising}
+use Rattle.col_common.proofs.OrderingLemmas.{filtered_rises}
 use Rattle.col_bits.proofs.ItemLemmas.{range_parts, kept_more}
 use Rattle.col_values.proofs.HitLemmas.{rows_same}
 use Rattle.col_codecs.specs.declared.block_bounds.Bounds.{Bounds}
@@ -62,9 +61,9 @@ ids_by-read f vals low high a n read =
     ap (is_in_range low high) at)
 
 -- ids rise
-pub ids_by-rise : (f : ℕ → ℕ) (low high a n : ℕ) → IsStrictlyIncreasing (ids_by f low high a n)
+pub ids_by-rise : (f : ℕ → ℕ) (low high a n : ℕ) → is_rising (ids_by f low high a n) ≡ true
 unfolding ids_by
-ids_by-rise f low high a n = IsStrictlyIncreasing-filter (λ id. is_in_range low high (f id)) (range_with_len a n) (range_rises a n)
+ids_by-rise f low high a n = filtered_rises (λ id. is_in_range low high (f id)) a n
 
 -- ---- blocks
 

@@ -3,6 +3,7 @@ use Rattle.std.proofs.Common.{◌≡◌, ℕ, ◌+◌, ◌*◌, ◌^◌, ◌<◌
 use Rattle.std.specs.List.{AllByRecursion}
 use Rattle.std.proofs.lemmas.Bool.{lt-ltb, le-ltb, or_cases, leb-true, eqb-true}
 use Rattle.std.proofs.Math.Nat.{mul-le-mul_left}
+use Rattle.col_common.specs.Ascending.{AreBelow}
 use Rattle.col_common.specs.VInt.{vint_bytes}
 use Rattle.col_bits.specs.Packed.{is_width}
 use Rattle.col_model.specs.Stats.{Stats, stats_of, steps_of, stats_bytes}
@@ -30,8 +31,8 @@ width-most w e = elim (or_cases (nat_le w 56) (w == 64) e) [
 pub linear_width : (l : LineAndWidth) (xs : List ℕ) → l ≡ linear_line xs → l.offset_width ≤ 64
 linear_width l xs e = let at : l.offset_width ≡ (linear_line xs).offset_width = ap (λ k. k.offset_width) e in omega (arith, at, width-most (linear_line xs).offset_width (linear_line-writable xs).offset_width)
 
-pub linear_fit : (l : LineAndWidth) (xs : List ℕ) → l ≡ linear_line xs → AllByRecursion (λ v. v < 2 ^ l.offset_width) (offsets_from l xs)
-linear_fit l xs e = subst (λ (k : LineAndWidth). AllByRecursion (λ v. v < 2 ^ k.offset_width) (offsets_from k xs)) (sym e) (linear_offsets-fit xs)
+pub linear_fit : (l : LineAndWidth) (xs : List ℕ) → l ≡ linear_line xs → AreBelow (2 ^ l.offset_width) (offsets_from l xs)
+linear_fit l xs e = subst (λ (k : LineAndWidth). AreBelow (2 ^ k.offset_width) (offsets_from k xs)) (sym e) (linear_offsets-fit xs)
 
 -- the bits of fewer than 2 ^ 32 items
 pub bits-fit : (n w : ℕ) → n < 2 ^ 32 → w ≤ 64 → n * w ≤ 2 ^ 38

@@ -3,13 +3,13 @@ use Rattle.std.proofs.Common.{◌≡◌, ℕ, ◌+◌, ◌-◌, ◌*◌, ◌/◌
 use Rattle.std.specs.Prelude.{nat_le}
 use Rattle.std.specs.Int.{is_in_range, div_ceil}
 use Rattle.std.specs.List.{AllByRecursion, range_with_len}
-use Rattle.std.specs.List.Sorted.{IsStrictlyIncreasing}
 use Rattle.std.proofs.Math.Nat.{le-div_iff_mul-le, mul-le-mul_right}
 use Rattle.std.proofs.lemmas.Grind.{div_ceil_times}
 use Rattle.std.proofs.lemmas.Bool.{cases_lt}
 use Rattle.std.proofs.lemmas.Option.{slice_get-get_or}
 use Rattle.std.proofs.lemmas.List.FromFn.{length-map-range_with_len, get_or-map-range_with_len}
 use Rattle.std.proofs.lemmas.Bool.Decides.{nat_tests}
+use Rattle.col_common.specs.Ascending.{is_rising}
 use Rattle.col_common.specs.declared.error.ColumnarError.{ColumnarError}
 use Rattle.col_common.specs.Replacing.{Replaces}
 use Rattle.col_bits.specs.Packed.{item}
@@ -82,9 +82,9 @@ found_values f list n low high from to end view upto =
     ap (passes (is_between number_cmp low high)) at ∙ in_between low high (f k))
 
 -- a call that replaces by a list that rises leaves one
-pub replaces-rise : (r : Result (Unit {0}) ColumnarError) (new expected : List ℕ) → Replaces r new expected → IsStrictlyIncreasing expected → IsStrictlyIncreasing new
-replaces-rise (Ok done) new expected e rise = subst IsStrictlyIncreasing (sym e) rise
-replaces-rise (Err e) new expected gone rise = λ k h. absurd (omega (arith, h, ap length gone.1))
+pub replaces-rise : (r : Result (Unit {0}) ColumnarError) (new expected : List ℕ) → Replaces r new expected → is_rising expected ≡ true → is_rising new ≡ true
+replaces-rise (Ok done) new expected e rise = ap is_rising e ∙ rise
+replaces-rise (Err e) new expected gone rise = ap is_rising gone.1
 
 -- ---- a divisor of 1
 

@@ -7,6 +7,7 @@ use Rattle.std.specs.Int.{div_ceil}
 use Rattle.std.proofs.lemmas.Nat.{pow_pos, div_below}
 use Rattle.std.proofs.lemmas.List.{take_more, take_more_set, drop_more, take_all}
 use Rattle.std.proofs.lemmas.List.Elements.{All-get_or, All-from_recursion}
+use Rattle.col_common.specs.Ascending.{AreBelow}
 use Rattle.col_bits.specs.Packed.{number_of, digits, packed_bytes}
 use Rattle.col_bits.proofs.PackedLemmas.{number_of-append, number_of-below, pow-pow}
 use Rattle.col_codecs.proofs.ListLemmas.{head-same, tail-same}
@@ -115,7 +116,7 @@ digits-append base (suc k) m low high p h =
     ∙ ap (λ ds. low % base ∷ ds) (digits-append base k m (low / base) high p (div_below low base (base ^ k) p (rw (pow-suc base k) at h)))
 
 -- Where the bits of the first items fill whole bytes, the bytes of all are those of the first, and then those of the others.
-pub packed_bytes-append : (w : ℕ) (xs ys : List ℕ) → AllByRecursion (λ x. x < 2 ^ w) xs → length xs % 8 ≡ 0 → packed_bytes w (xs ++ ys) ≡ packed_bytes w xs ++ packed_bytes w ys
+pub packed_bytes-append : (w : ℕ) (xs ys : List ℕ) → AreBelow (2 ^ w) xs → length xs % 8 ≡ 0 → packed_bytes w (xs ++ ys) ≡ packed_bytes w xs ++ packed_bytes w ys
 packed_bytes-append w xs ys all e =
     let q = length xs / 8 in
     let k = q * w in

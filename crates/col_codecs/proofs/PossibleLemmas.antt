@@ -4,6 +4,7 @@ use Rattle.std.specs.List.{AllByRecursion}
 use native.Mathlib.Nat.{mul-pos}
 use Rattle.std.proofs.lemmas.Bool.{and_parts, and_from, or_cases, or_left, or_right, leb-true, le-leb, eqb-true, eq-eqb, lt-ltb, cases_eq}
 use Rattle.std.proofs.lemmas.Option.{option_and_then_some, cond_some}
+use Rattle.col_common.specs.Ascending.{AreBelow}
 use Rattle.col_common.specs.Reading.{◌>>=◌, only_if}
 use Rattle.col_common.specs.VInt.{vint}
 use Rattle.col_model.specs.Stats.{Stats, stats_of, stats_at, stats_bytes, steps_of, are_possible, greatest_of}
@@ -71,7 +72,7 @@ IsPossible-stats_at bytes s rest e =
     subst IsPossible (ap (λ p. p.0) found.1) (IsPossible-tested least.0 divisor.0 steps.0 count.0 found.0)))))
 
 -- a number that the greatest item bounds bounds each
-pub small_by_greatest : (n : ℕ) (xs : List ℕ) → greatest_of xs < n → AllByRecursion (λ x. x < n) xs
+pub small_by_greatest : (n : ℕ) (xs : List ℕ) → greatest_of xs < n → AreBelow n xs
 small_by_greatest n xs h = all_by (λ x p. omega (arith, p, h)) xs (fold-max 0 xs).1
 
 greatest-nothing : (xs : List ℕ) → length xs ≡ 0 → greatest_of xs ≡ 0

@@ -5,6 +5,7 @@ use Rattle.std.proofs.lemmas.List.{map-append, take_all, take_more, drop_more, d
 use Rattle.std.proofs.Math.Seq.{take-add}
 use Rattle.std.proofs.lemmas.List.FromFn.{length-enumerate_from}
 use Rattle.std.specs.Int.{div_ceil}
+use Rattle.col_common.specs.Ascending.{AreBelow}
 use Rattle.col_common.specs.Outside.{SeenSink}
 use Rattle.col_common.specs.Serializing.{Serializes}
 use Rattle.col_common.specs.declared.error.ColumnarError.{ColumnarError}
@@ -84,13 +85,13 @@ pub record IsWritten (f : ℕ × ℕ → ℕ) (w : ℕ) (items : List ℕ) (star
 module _ (f : ℕ × ℕ → ℕ) (w : ℕ) where
   -- each item takes at most these
   abbrev AllFit : ℕ → List ℕ → Type 0
-  AllFit k xs = AllByRecursion (λ v. v < 2 ^ w) (by_position f k xs)
+  AllFit k xs = AreBelow (2 ^ w) (by_position f k xs)
 
   fit_front : (k : ℕ) (xs ys : List ℕ) → AllFit k (xs ++ ys) → AllFit k xs
-  fit_front k xs ys all = all_front (λ v. v < 2 ^ w) (by_position f k xs) _ (subst (AllByRecursion (λ v. v < 2 ^ w)) (by_position-append f k xs ys) all)
+  fit_front k xs ys all = all_front (λ v. v < 2 ^ w) (by_position f k xs) _ (subst (AreBelow (2 ^ w)) (by_position-append f k xs ys) all)
 
   fit_back : (k : ℕ) (xs ys : List ℕ) → AllFit k (xs ++ ys) → AllFit (k + length xs) ys
-  fit_back k xs ys all = all_back (λ v. v < 2 ^ w) (by_position f k xs) _ (subst (AllByRecursion (λ v. v < 2 ^ w)) (by_position-append f k xs ys) all)
+  fit_back k xs ys all = all_back (λ v. v < 2 ^ w) (by_position f k xs) _ (subst (AreBelow (2 ^ w)) (by_position-append f k xs ys) all)
 
   pub written-none : (items left : List ℕ) (old : SeenSink) → left ≡ items → IsWritten f w items 0 left old old
   written-none items left old e = record {

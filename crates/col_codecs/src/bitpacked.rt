@@ -2,8 +2,8 @@
 ghost use Rattle.std.specs.Prelude.{◌≡◌, ℕ, ◌<◌, ◌≤◌, ◌+◌, ◌*◌, ◌^◌, map, IfOk, IfErr};
 ghost use Rattle.std.specs.Int.{is_in_range};
 ghost use Rattle.std.specs.List.{AllByRecursion};
-ghost use Rattle.std.specs.List.Sorted.{IsStrictlyIncreasing};
 ghost use Rattle.std.specs.Range.{range_inclusive_start, range_inclusive_end};
+ghost use Rattle.col_common.specs.Ascending.{is_rising};
 ghost use Rattle.col_common.specs.Replacing.{Replaces};
 ghost use Rattle.col_common.specs.Decoding.{Decodes};
 ghost use Rattle.col_common.specs.Serializing.{Serializes};
@@ -96,7 +96,7 @@ impl BitpackedReader {
         ensures ok { Replaces result hits.new.items
             (hits_between number_cmp self.now (range_inclusive_start value_range)
             (range_inclusive_end value_range) row_ids.start row_ids.end) }
-        ensures rises { IsStrictlyIncreasing hits.new.items }
+        ensures rises { is_rising hits.new.items ≡ true }
         ensures steps { steps.new ≤ steps.old + 2 }
     {
         let (low, high) = value_range.into_inner();

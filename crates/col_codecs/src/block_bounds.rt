@@ -2,6 +2,7 @@
 ghost use Rattle.std.specs.Prelude.{◌≡◌, ◌<◌, ◌≤◌, ◌+◌, ◌-◌, ◌^◌, ◌++◌, ℕ, true, false, length, take, OnOk};
 ghost use Rattle.std.specs.Int.{is_in_range};
 ghost use Rattle.std.specs.List.{AllByRecursion, range_with_len};
+ghost use Rattle.col_common.specs.Ascending.{AreBelow};
 ghost use Rattle.col_codecs.specs.BlockBounds.{AreBounds, LiesIn};
 
 use std::alloc::AllocError;
@@ -33,7 +34,7 @@ pub fn bounds_of(vals: &[u64]) -> Bounds
 
 // Whether each number has 32 bits.
 fn are_small(vals: &[u64]) -> bool
-    ensures { result ≡ true → AllByRecursion (λ v. v < 2 ^ 32) vals.now }
+    ensures { result ≡ true → AreBelow (2 ^ 32) vals.now }
 {
     let mut greatest = 0;
     for value in vals {
@@ -60,7 +61,7 @@ fn wide_bounds_of(vals: &[u64]) -> Bounds
 /// The bounds of numbers of 32 bits, in lanes of as many.
 pub fn small_bounds_of(vals: &[u64]) -> Bounds
     requires some { 0 < length vals.now }
-    requires small { AllByRecursion (λ v. v < 2 ^ 32) vals.now }
+    requires small { AreBelow (2 ^ 32) vals.now }
     ensures { AreBounds result vals.now }
 {
     let first = vals[0] as u32;

@@ -1,5 +1,6 @@
 //! Blocks of values on their way into packed lists.
 ghost use Rattle.std.specs.Prelude.{◌≡◌, ◌<◌, ◌≤◌, ◌^◌, ◌++◌, length, take, drop, min, OnOk};
+ghost use Rattle.col_common.specs.Ascending.{AreBelow};
 ghost use Rattle.col_model.specs.Codecs.{steps_above};
 ghost use Rattle.col_codecs.specs.ColumnStats.{stats_seen, IsAbove};
 ghost use Rattle.std.specs.List.{AllByRecursion};
@@ -39,7 +40,7 @@ pub fn take_steps(stats: &ColumnStats, vals: &mut [u64])
 /// Appends the packed list of a block's values.
 pub fn pack_block(vals: &[u64], num_bits: u8, output: &mut Vec<u8>) -> Result<(), AllocError>
     requires width { num_bits ≤ 64 }
-    requires small { AllByRecursion (λ v. v < 2 ^ num_bits) vals.now }
+    requires small { AreBelow (2 ^ num_bits) vals.now }
     ensures { OnOk result (output.new.items ≡ output.old.items ++ packed_bytes num_bits vals.now) }
 {
     let mut packer = BitPacker::new();

@@ -1,16 +1,14 @@
 -- The rows of the positions that a lookup in the values finds.
 use Rattle.std.proofs.Common.{◌≡◌, ◌⊎◌, ◌∙◌, ℕ, zero, suc, ◌+◌, ◌-◌, ◌<◌, ◌≤◌, ◌&&◌, ◌||◌, nat_lt, nat_le, min, max, Bool, true, false, cond, List, [], ◌∷◌, length, filter, take, drop, sum, get_or, replicate, slice_get, Option, Some, None, refl, sym, ap, add-one, subst, inl, inr, arith}
 use Rattle.std.specs.List.{list_all, list_any, range_with_len}
-use Rattle.std.specs.List.Sorted.{IsStrictlyIncreasing}
 use Rattle.std.proofs.lemmas.Bool.{lt-ltb, le-leb, cases_lt}
 use Rattle.std.proofs.lemmas.Bool.Decides.{nat_tests}
 use Rattle.std.proofs.lemmas.List.{length-replicate}
 use Rattle.std.proofs.lemmas.Option.{slice_get_cases}
 use Rattle.std.proofs.lemmas.List.Elements.{filter_agree}
-use Rattle.std.proofs.lemmas.List.Kept.{IsStrictlyIncreasing-filter}
 use Rattle.std.proofs.Math.Bool.{or-false}
-use Rattle.col_common.proofs.OrderingLemmas.{range_rises}
-use Rattle.col_model.specs.Ascending.{is_rising, are_below}
+use Rattle.col_common.proofs.OrderingLemmas.{filtered_rises}
+use Rattle.col_common.specs.Ascending.{is_rising, are_below}
 use Rattle.col_model.specs.Dictionary.{cut}
 use Rattle.col_model.specs.Index.{Shape, empty_shape, full_shape, optional_shape, multivalued_shape}
 use Rattle.col_model.specs.Positions.{start_of, start_in, is_in_row, rows_at, rows_in}
@@ -216,17 +214,6 @@ lookup test (multivalued_shape cs) xs from to all = counted_lookup test xs cs al
 
 -- ---- what the index asks of positions
 
--- numbers that strictly increase pass the test
-increasing_rises : (xs : List ℕ) → IsStrictlyIncreasing xs → is_rising xs ≡ true
-increasing_rises [] h = refl
-increasing_rises (x ∷ []) h = refl
-increasing_rises (x ∷ y ∷ zs) h =
-    let first : x < y = h 0 (omega arith) in
-    rw (lt-ltb x y first) (increasing_rises (y ∷ zs) (λ k within. next k (h (k + 1) (omega arith))))
-  where
-    next : (k : ℕ) → get_or (x ∷ y ∷ zs) (k + 1) 0 < get_or (x ∷ y ∷ zs) (k + 1 + 1) 0 → get_or (y ∷ zs) k 0 < get_or (y ∷ zs) (k + 1) 0
-    next k l = subst (λ m. get_or (x ∷ y ∷ zs) m 0 < get_or (y ∷ zs) (k + 1) 0) (add-one k) (subst (λ m. get_or (x ∷ y ∷ zs) (k + 1) 0 < get_or (x ∷ y ∷ zs) m 0) (add-one (k + 1)) l)
-
 all-kept : (test g : ℕ → Bool) (a n : ℕ) → ((p : ℕ) → a ≤ p → p < a + n → test p ≡ true) → list_all test (filter g (range_with_len a n)) ≡ true
 all-kept test g a zero passes = refl
 all-kept test g a (suc n) passes = by (g a) (passes a (omega arith) (omega arith)) (all-kept test g (a + 1) n (λ p from below. passes p (omega arith) (omega arith)))
@@ -238,7 +225,7 @@ all-kept test g a (suc n) passes = by (g a) (passes a (omega arith) (omega arith
 module _ {T : Type 0} (test : T → Bool) (xs : List T) (start end : ℕ) where
   pub found_rise : is_rising (found test xs start end) ≡ true
   unfolding hits
-  found_rise = increasing_rises _ (IsStrictlyIncreasing-filter (hit test xs) (range_with_len start (span (length xs) start end)) (range_rises start (span (length xs) start end)))
+  found_rise = filtered_rises (hit test xs) start (span (length xs) start end)
 
   pub found_from : list_all (λ p. nat_le start p) (found test xs start end) ≡ true
   unfolding hits
@@ -259,6 +246,6 @@ module _ {T : Type 0} (test : T → Bool) (xs : List T) (start end : ℕ) where
   found_inside (multivalued_shape cs) all = found_below (sum cs) all
 
 -- the documents that are found strictly rise
-pub docs_rise : {T : Type 0} (test : T → Bool) (rows : List (List T)) (from to : ℕ) → IsStrictlyIncreasing (docs_passing test rows from to)
+pub docs_rise : {T : Type 0} (test : T → Bool) (rows : List (List T)) (from to : ℕ) → is_rising (docs_passing test rows from to) ≡ true
 unfolding docs_passing
-docs_rise test rows from to = IsStrictlyIncreasing-filter _ (range_with_len 0 (length rows)) (range_rises 0 (length rows))
+docs_rise test rows from to = filtered_rises _ 0 (length rows)

@@ -4,6 +4,7 @@ use Rattle.std.specs.Option.{IfSome}
 use Rattle.std.specs.Int.{w64, to_le_bytes}
 use Rattle.std.specs.List.{AllByRecursion, list_all}
 use Rattle.std.proofs.lemmas.Option.{same_Some, none-some}
+use Rattle.col_common.specs.Ascending.{AreBelow}
 use Rattle.col_common.specs.Outside.{SeenSink}
 use Rattle.col_common.specs.Serializing.{Serializes}
 use Rattle.col_common.specs.declared.error.ColumnarError.{ColumnarError}
@@ -61,10 +62,10 @@ numbers-written old new result codecs xs n e few h =
     subst (Serializes old new result) (sym (numbers_bytes-chosen codecs xs p.0 p.1)) (at few)
 
 -- a list that was appended has numbers of 64 bits
-pub appended-fit : (old new : SeenSink) (xs : List ℕ) → AppendsList old new xs → AllByRecursion (λ x. x < 2 ^ 64) xs
+pub appended-fit : (old new : SeenSink) (xs : List ℕ) → AppendsList old new xs → AreBelow (2 ^ 64) xs
 appended-fit old new xs a = (values64-within a.0 xs a.1).below
 
-pub numbers-read : (codecs xs : List ℕ) → slice_get codecs 0 ≡ Some 0 → AllByRecursion (λ x. x < 2 ^ 64) xs → length xs < 2 ^ 32 → values64 (numbers_bytes codecs xs) ≡ Some xs
+pub numbers-read : (codecs xs : List ℕ) → slice_get codecs 0 ≡ Some 0 → AreBelow (2 ^ 64) xs → length xs < 2 ^ 32 → values64 (numbers_bytes codecs xs) ≡ Some xs
 numbers-read codecs xs e fit few =
     let p = bitpacked-chosen codecs xs e in
     ap values64 (numbers_bytes-chosen codecs xs p.0 p.1) ∙ values64-chosen codecs xs p.0 fit few p.1

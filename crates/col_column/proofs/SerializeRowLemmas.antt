@@ -4,6 +4,7 @@ use Rattle.std.specs.Prelude.{OnOk}
 use Rattle.std.specs.List.{AllByRecursion, list_all}
 use Rattle.std.proofs.lemmas.Bool.{eq-eqb}
 use Rattle.std.proofs.lemmas.List.Folds.{sum_by-replicate}
+use Rattle.col_common.specs.Ascending.{AreBelow}
 use Rattle.col_common.specs.declared.error.ColumnarError.{ColumnarError}
 use Rattle.col_model.specs.Column.{number_rows, stored_numbers, is_stored}
 use Rattle.col_model.specs.ColumnType.{ColumnType}
@@ -39,12 +40,12 @@ unfolding rows_by
 rows-read index values xs t s short is counted read all = number_rows-column_bytes index values t 2 (row_count s (length xs)) (counts_seen s (length xs)) xs short (counts-read index s (length xs) is) read (sum-counts_by s (length xs) counted) all
 
 -- the same of numbers of 64 bits
-pub number_rows-read : (i : Index) (codecs xs : List ℕ) → length (index_bytes i) < 2 ^ 64 → shape (index_bytes i) 2 ≡ Some (index_shape i) → IsCounted (index_shape i) (length xs) → length xs < 2 ^ 32 → slice_get codecs 0 ≡ Some 0 → AllByRecursion (λ x. x < 2 ^ 64) xs → StandForRows (number_column_bytes codecs i xs) (index_shape i) xs
+pub number_rows-read : (i : Index) (codecs xs : List ℕ) → length (index_bytes i) < 2 ^ 64 → shape (index_bytes i) 2 ≡ Some (index_shape i) → IsCounted (index_shape i) (length xs) → length xs < 2 ^ 32 → slice_get codecs 0 ≡ Some 0 → AreBelow (2 ^ 64) xs → StandForRows (number_column_bytes codecs i xs) (index_shape i) xs
 unfolding number_column_bytes
 number_rows-read i codecs xs short is counted few first fit t stores = rows-read (index_bytes i) (numbers_bytes codecs xs) xs t (index_shape i) short is counted (stores.list (numbers_bytes codecs xs) ∙ numbers-read codecs xs first fit few) stores.images
 
 -- the same after Ok, where what is known is known of n values
-pub number_rows-again : (result : Result (Unit {0}) ColumnarError) (i : Index) (codecs xs : List ℕ) (n len : ℕ) → len ≡ length (index_bytes i) → len < 2 ^ 64 → shape (index_bytes i) 2 ≡ Some (index_shape i) → IsCounted (index_shape i) n → length xs ≡ n → n < 2 ^ 32 → slice_get codecs 0 ≡ Some 0 → OnOk result (AllByRecursion (λ x. x < 2 ^ 64) xs)
+pub number_rows-again : (result : Result (Unit {0}) ColumnarError) (i : Index) (codecs xs : List ℕ) (n len : ℕ) → len ≡ length (index_bytes i) → len < 2 ^ 64 → shape (index_bytes i) 2 ≡ Some (index_shape i) → IsCounted (index_shape i) n → length xs ≡ n → n < 2 ^ 32 → slice_get codecs 0 ≡ Some 0 → OnOk result (AreBelow (2 ^ 64) xs)
     → OnOk result (StandForRows (number_column_bytes codecs i xs) (index_shape i) xs)
 number_rows-again (Ok done) i codecs xs n len e short is counted long few first fit =
     let below : length (index_bytes i) < 2 ^ 64 = omega arith in

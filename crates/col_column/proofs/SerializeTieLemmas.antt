@@ -4,6 +4,7 @@ use Rattle.std.specs.List.{AllByRecursion, list_all}
 use Rattle.std.proofs.lemmas.Bool.Decides.{nat_tests}
 use Rattle.std.proofs.lemmas.Int.{ints}
 use Rattle.std.proofs.lemmas.List.{length-map}
+use Rattle.col_common.specs.Ascending.{AreBelow}
 use Rattle.col_common.specs.Walks.{int_range, int_range_len, above_zero}
 use Rattle.col_model.specs.Column.{column, number_rows, number_cell, is_stored}
 use Rattle.col_model.specs.ColumnType as types
@@ -58,7 +59,7 @@ pub record IsWithin (start : ℤ) (n : ℕ) : Type 0 where
 pub ties-within : (start : ℤ) (n : ℕ) → is_past_ties n (Some start) ≡ false → IsWithin start n
 ties-within start n e = record { low = grind (arith, ints, nat_tests); high = grind (arith, ints, nat_tests) }
 
-codes-fit : (start : ℤ) (n : ℕ) → Fits start n → AllByRecursion (λ x. x < 2 ^ 64) (map i64_code (int_range start n))
+codes-fit : (start : ℤ) (n : ℕ) → Fits start n → AreBelow (2 ^ 64) (map i64_code (int_range start n))
 codes-fit start zero h = tt
 codes-fit start (suc n) h = (i64_laws.fits start (first-fits start n h), codes-fit (start +ℤ pos 1) n (later-fit start n h))
 

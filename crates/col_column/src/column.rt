@@ -1,15 +1,15 @@
 //! Columns: an index with values.
 ghost use Rattle.std.specs.Prelude.{◌≡◌, ◌<◌, ◌≤◌, length, map, slice_range};
 ghost use Rattle.std.specs.List.{All};
-ghost use Rattle.std.specs.List.Sorted.{IsStrictlyIncreasing};
 ghost use Rattle.std.specs.Range.{range_inclusive_start, range_inclusive_end};
+ghost use Rattle.col_common.specs.Ascending.{AreBelow, is_rising};
 ghost use Rattle.col_common.specs.Replacing.{Replaces};
 ghost use Rattle.col_index.specs.Appending.{AppendsBoth};
 ghost use Rattle.col_index.specs.Indexes.{shape_of};
 ghost use Rattle.col_index.specs.Offsets.{cardinality_in, positions_of_rows, docs_of, positions_of};
 ghost use Rattle.col_index.specs.Versions.{cardinality_of};
 ghost use Rattle.col_model.specs.Index.{empty_shape};
-ghost use Rattle.col_values.specs.Values.{IsAtMost, AreBelow, is_between};
+ghost use Rattle.col_values.specs.Values.{IsAtMost, is_between};
 ghost use Rattle.col_column.specs.Columns.{IsCounted, AreOf, rows_by, rows_in, docs_in, row_at, first_at, firsts_or};
 ghost use Rattle.col_column.specs.Lookups.{docs_passing};
 
@@ -155,7 +155,7 @@ where
     /// The first value of each document, None of one without.
     #[inline]
     pub fn first_vals(&self, doc_ids: &[DocId], output: &mut [Option<T>])
-        requires below { AreBelow doc_ids.now (docs_in V.values self.now) }
+        requires below { AreBelow (docs_in V.values self.now) doc_ids.now }
         requires alike { length doc_ids.now ≡ length output.old }
         ensures { output.new ≡ map (first_at (rows_in V.values self.now)) doc_ids.now }
     {
@@ -167,7 +167,7 @@ where
 
     // The same, row by row.
     fn first_vals_by_rows(&self, doc_ids: &[DocId], output: &mut [Option<T>])
-        requires below { AreBelow doc_ids.now (docs_in V.values self.now) }
+        requires below { AreBelow (docs_in V.values self.now) doc_ids.now }
         requires alike { length doc_ids.now ≡ length output.old }
         ensures { output.new ≡ map (first_at (rows_in V.values self.now)) doc_ids.now }
     {
@@ -226,7 +226,7 @@ where
             (docs_passing (is_between T.partial_cmp (range_inclusive_start value_range)
             (range_inclusive_end value_range)) (rows_in V.values self.now)
             selected_docid_range.start selected_docid_range.end) }
-        ensures rises { IsStrictlyIncreasing doc_ids.new.items }
+        ensures rises { is_rising doc_ids.new.items ≡ true }
     {
         find_docids(
             &self.index,

@@ -2,6 +2,7 @@
 ghost use Rattle.std.specs.Prelude.{◌≡◌, ◌<◌, ◌^◌, ◌++◌, [], false, true, length, map, slice_get, Some, OnOk};
 ghost use Rattle.std.specs.Int.{w64, to_le_bytes};
 ghost use Rattle.std.specs.List.{AllByRecursion};
+ghost use Rattle.col_common.specs.Ascending.{AreBelow};
 ghost use Rattle.col_common.specs.Serializing.{Serializes, Stopped};
 ghost use Rattle.col_common.specs.Walks.{int_range};
 ghost use Rattle.col_common.specs.declared.error.ColumnarError.TheVariants as refusals;
@@ -104,7 +105,7 @@ where
         (numbers_bytes (map code_of codec_types.now) (map T.code (I.items column_values.now))
         ++ to_le_bytes w64 index_len) }
     ensures fit { OnOk result
-        (AllByRecursion (λ x. x < 2 ^ 64) (map T.code (I.items column_values.now))) }
+        (AreBelow (2 ^ 64) (map T.code (I.items column_values.now))) }
 {
     serialize_u64_based_column_values(alloc, column_values, codec_types, sink)?;
     serialize_bytes(sink, &index_len.to_le_bytes())

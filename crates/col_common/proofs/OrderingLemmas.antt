@@ -1,5 +1,5 @@
 -- Total orders: what is at most what, the lesser and the greater of two; and ranges, which rise.
-use Rattle.std.proofs.Common.{◌≡◌, ℕ, ◌+◌, ◌<◌, Bool, true, false, cond, refl, ap, ◌∙◌, arith}
+use Rattle.std.proofs.Common.{◌≡◌, ℕ, ◌+◌, ◌<◌, Bool, true, false, cond, List, [], ◌∷◌, length, get_or, filter, refl, ap, subst, ◌∙◌, arith}
 use Rattle.std.specs.Cmp.{IsTotalOrder, upto, tied_itself}
 use Rattle.std.specs.Ordering.{is_le, is_lt, is_gt, ordering_reverse}
 use Rattle.std.specs.declared.cmp.Ordering.{Ordering}
@@ -7,6 +7,8 @@ use Rattle.std.specs.declared.cmp.Ordering.TheVariants.{Less, Equal, Greater}
 use Rattle.std.specs.List.{range_with_len}
 use Rattle.std.specs.List.Sorted.{IsStrictlyIncreasing}
 use Rattle.std.proofs.lemmas.List.FromFn.{length-range_with_len, get_or-range_with_len}
+use Rattle.std.proofs.lemmas.List.Kept.{IsStrictlyIncreasing-filter}
+use Rattle.col_common.specs.Ascending.{is_rising}
 
 pub le_not_gt : (r : Ordering) → is_le r ≡ true → is_gt r ≡ false
 le_not_gt Less h = refl
@@ -47,7 +49,22 @@ module _ {T : Type 0} {R : T → T → Ordering} (o : IsTotalOrder R) where
 
 -- ---- ranges
 
-pub range_rises : (a n : ℕ) → IsStrictlyIncreasing (range_with_len a n)
-range_rises a n k within =
+increasing : (a n : ℕ) → IsStrictlyIncreasing (range_with_len a n)
+increasing a n k within =
     let next : k + 1 < n = omega (arith, length-range_with_len a n) in
     omega (arith, get_or-range_with_len a n k 0 (omega arith), get_or-range_with_len a n (k + 1) 0 next)
+
+-- numbers that strictly increase pass the test
+increasing_rises : (xs : List ℕ) → IsStrictlyIncreasing xs → is_rising xs ≡ true
+increasing_rises [] h = refl
+increasing_rises (x ∷ []) h = refl
+increasing_rises (x ∷ y ∷ zs) h =
+    let first : x < y = h 0 (omega arith) in
+    rw (lt-ltb x y first) (increasing_rises (y ∷ zs) (λ k within. next k (h (k + 1) (omega arith))))
+  where
+    next : (k : ℕ) → get_or (x ∷ y ∷ zs) (k + 1) 0 < get_or (x ∷ y ∷ zs) (k + 1 + 1) 0 → get_or (y ∷ zs) k 0 < get_or (y ∷ zs) (k + 1) 0
+    next k l = subst (λ m. get_or (x ∷ y ∷ zs) m 0 < get_or (y ∷ zs) (k + 1) 0) (add-one k) (subst (λ m. get_or (x ∷ y ∷ zs) (k + 1) 0 < get_or (x ∷ y ∷ zs) m 0) (add-one (k + 1)) l)
+
+-- the numbers of a range that pass a test rise
+pub filtered_rises : (test : ℕ → Bool) (a n : ℕ) → is_rising (filter test (range_with_len a n)) ≡ true
+filtered_rises test a n = increasing_rises _ (IsStrictlyIncreasing-filter test (range_with_len a n) (increasing a n))

@@ -10,4 +10,5 @@ pub mod Memory
 pub mod Walks
 pub mod Octets
 pub mod Flags
+pub mod Ascending
 pub mod Laws

@@ -4,6 +4,7 @@ use Rattle.std.specs.Int.{is_in_range}
 use Rattle.std.specs.List.{AllByRecursion, list_all}
 use Rattle.std.proofs.lemmas.Bool.{le-leb, lt-ltb, eq-eqb, and_parts}
 use Rattle.std.proofs.lemmas.List.{length-map}
+use Rattle.col_common.specs.Ascending.{AreBelow}
 use Rattle.col_common.proofs.VIntLemmas.{vint-vint_bytes}
 use Rattle.col_bits.specs.Packed.{packed, width}
 use Rattle.col_bits.proofs.PackedLemmas.{packed-packed_bytes}
@@ -52,7 +53,7 @@ module _ (ms : List RangeMapping) (space : IsSpace ms) where
       let coded = is_coded ms x space parts.0 in
       rw (le-leb 1 (code_of (ranges_of ms) x) coded.first, le-leb (code_of (ranges_of ms) x) (code_count (ranges_of ms)) coded.last, codes-inside xs parts.1) refl
 
-  codes-narrow : (xs : List ℕ) → cover (ranges_of ms) xs ≡ true → AllByRecursion (λ c. c < 2 ^ width (code_count (ranges_of ms))) (map (code_of (ranges_of ms)) xs)
+  codes-narrow : (xs : List ℕ) → cover (ranges_of ms) xs ≡ true → AreBelow (2 ^ width (code_count (ranges_of ms))) (map (code_of (ranges_of ms)) xs)
   codes-narrow [] inside = tt
   codes-narrow (x ∷ xs) inside =
       let parts = and_parts (is_in_ranges (ranges_of ms) x) (cover (ranges_of ms) xs) inside in

@@ -1,7 +1,7 @@
 //! Lists of numbers, read in place behind their codes.
 ghost use Rattle.std.specs.Prelude.{◌≡◌, ℕ, ◌<◌, ◌≤◌, ◌+◌, length, slice_get, Some};
-ghost use Rattle.std.specs.List.Sorted.{IsStrictlyIncreasing};
 ghost use Rattle.std.specs.Range.{range_inclusive_start, range_inclusive_end};
+ghost use Rattle.col_common.specs.Ascending.{is_rising};
 ghost use Rattle.col_common.specs.Decoding.{Decodes};
 ghost use Rattle.col_common.specs.Replacing.{Replaces};
 ghost use Rattle.col_model.specs.Stats.{least_of, greatest_of};
@@ -142,7 +142,7 @@ impl CompactSpaceDecompressor {
         ensures ok { Replaces result hits.new.items
             (hits_between number_cmp (numbers_of self.now) (range_inclusive_start value_range)
             (range_inclusive_end value_range) row_ids.start row_ids.end) }
-        ensures rises { IsStrictlyIncreasing hits.new.items }
+        ensures rises { is_rising hits.new.items ≡ true }
         ensures steps { steps.new ≤ steps.old + 2 }
     {
         let (low, high) = value_range.into_inner();
@@ -160,7 +160,7 @@ impl CompactSpaceDecompressor {
         ensures ok { Replaces result hits.new.items
             (hits_between number_cmp self.now.codes (range_inclusive_start codes)
             (range_inclusive_end codes) row_ids.start row_ids.end) }
-        ensures rises { IsStrictlyIncreasing hits.new.items }
+        ensures rises { is_rising hits.new.items ≡ true }
     {
         let end = row_ids.end.min(self.params.num_vals());
         let unpacker = self.params.bit_unpacker();

@@ -2,7 +2,7 @@
 use Rattle.std.proofs.Common.{◌≡◌, List, [], ◌∷◌, map, filter, true, false, cond, refl, sym, ap, ◌∙◌, subst, T, arith}
 use Rattle.std.specs.List.{AllByRecursion}
 use Rattle.std.proofs.lemmas.Bool.{and_from}
-use Rattle.col_model.specs.Ascending.{is_ascending}
+use Rattle.col_common.specs.Ascending.{is_ascending}
 use Rattle.col_model.specs.Category.{slot_cmp}
 use Rattle.col_model.specs.ColumnType.{is_numerical}
 use Rattle.col_model.specs.ColumnType as types

@@ -9,7 +9,7 @@ use Rattle.col_common.specs.Serializing.{Serializes}
 use Rattle.col_common.specs.declared.error.ColumnarError.{ColumnarError}
 use Rattle.col_common.specs.declared.error.ColumnarError.TheVariants as answers
 use Rattle.col_common.proofs.SerializingLemmas.{serializes-no_memory}
-use Rattle.col_model.specs.Ascending.{are_below}
+use Rattle.col_common.specs.Ascending.{are_below}
 use Rattle.col_model.specs.Category.{Slot, slot_cmp}
 use Rattle.col_model.specs.ColumnType.{ColumnType}
 use Rattle.col_model.specs.Refusal.{Refusal, ◌>>=◌, each_ok, doc_out_of_range, bad_order}

@@ -5,7 +5,7 @@ use Rattle.std.specs.Str.{is_utf8}
 use Rattle.std.proofs.Math.ListN.{get_or-map}
 use Rattle.std.proofs.lemmas.List.{length-map, take_all}
 use Rattle.col_common.specs.Outside.{SeenSink}
-use Rattle.col_model.specs.Ascending.{are_below}
+use Rattle.col_common.specs.Ascending.{are_below}
 use Rattle.col_model.specs.Refusal.{each_ok}
 use Rattle.col_keys.specs.KeyTables.{key_at}
 use Rattle.col_keys.specs.Put.{Columns}

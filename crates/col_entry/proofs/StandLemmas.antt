@@ -4,7 +4,7 @@ use Rattle.std.specs.Prelude.{nat_le, ◌||◌, ◌&&◌, ◌-◌, ◌==◌, not
 use Rattle.std.specs.Ordering.{nat_cmp}
 use Rattle.std.specs.Cmp.Lexicographic.{slice_cmp}
 use Rattle.std.proofs.lemmas.Option.{same_Some}
-use Rattle.col_model.specs.Ascending.{are_below}
+use Rattle.col_common.specs.Ascending.{are_below}
 use Rattle.col_model.specs.Category.{Category}
 use Rattle.col_model.specs.Category as categories
 use Rattle.col_model.specs.ColumnType.{ColumnType}

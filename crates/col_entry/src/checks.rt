@@ -1,6 +1,6 @@
 //! Tests of columns, before their first byte.
 ghost use Rattle.std.specs.Prelude.{◌≡◌, true, length, IfOk};
-ghost use Rattle.col_model.specs.Ascending.{are_below};
+ghost use Rattle.col_common.specs.Ascending.{are_below};
 ghost use Rattle.col_model.specs.Category as categories;
 ghost use Rattle.col_model.specs.Category.{category_of};
 ghost use Rattle.col_model.specs.ColumnType as types;

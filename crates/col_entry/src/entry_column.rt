@@ -1,6 +1,6 @@
 //! A column that records, whichever its category.
 ghost use Rattle.std.specs.Prelude.{◌≡◌, true, length, IfOk};
-ghost use Rattle.col_model.specs.Ascending.{are_below};
+ghost use Rattle.col_common.specs.Ascending.{are_below};
 ghost use Rattle.col_model.specs.Category.{category_of, category_place};
 ghost use Rattle.col_model.specs.ColumnType as types;
 ghost use Rattle.col_record.specs.Answers.{Gives};

@@ -1,6 +1,6 @@
 //! Columns of numbers.
 ghost use Rattle.std.specs.Prelude.{◌≡◌, ◌<◌, ◌^◌, true, false, map, length, Some, None, IfOk};
-ghost use Rattle.col_model.specs.Ascending.{are_below};
+ghost use Rattle.col_common.specs.Ascending.{are_below};
 ghost use Rattle.col_model.specs.Category as categories;
 ghost use Rattle.col_model.specs.ColumnType as types;
 ghost use Rattle.col_model.specs.Written.{Entry, entry_type, is_past_ties};

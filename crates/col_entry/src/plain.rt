@@ -1,6 +1,6 @@
 //! Columns of bools, of points in time and of addresses.
 ghost use Rattle.std.specs.Prelude.{◌≡◌, ◌^◌, true, false, nat_le, map, length, IfOk};
-ghost use Rattle.col_model.specs.Ascending.{are_below};
+ghost use Rattle.col_common.specs.Ascending.{are_below};
 ghost use Rattle.col_model.specs.ColumnType as types;
 ghost use Rattle.col_model.specs.Limits.{has_many_codes};
 ghost use Rattle.col_rows.specs.Counted.{SerializesColumn};

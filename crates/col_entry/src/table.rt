@@ -3,7 +3,7 @@ ghost use Rattle.std.specs.Prelude.{◌≡◌, true, not, map, filter, length, O
 ghost use Rattle.std.specs.FinMap.Entries.{is_sorted};
 ghost use Rattle.std.specs.List.{list_all, list_any};
 ghost use Rattle.std.specs.Str.{is_utf8};
-ghost use Rattle.col_model.specs.Ascending.{are_below};
+ghost use Rattle.col_common.specs.Ascending.{are_below};
 ghost use Rattle.col_model.specs.Category.{slot_cmp, category_of};
 ghost use Rattle.col_model.specs.Refusal.{each_ok};
 ghost use Rattle.col_model.specs.Written.{has_zero, is_past_docs, written};

@@ -1,6 +1,6 @@
 //! Columns of texts.
 ghost use Rattle.std.specs.Prelude.{◌≡◌, ◌^◌, true, false, nat_le, map, length};
-ghost use Rattle.col_model.specs.Ascending.{are_below};
+ghost use Rattle.col_common.specs.Ascending.{are_below};
 ghost use Rattle.col_model.specs.ColumnType as types;
 ghost use Rattle.col_model.specs.Limits.{dictionary_length};
 ghost use Rattle.col_rows.specs.Counted.{SerializesColumn};

@@ -14,7 +14,7 @@ use Rattle.std.proofs.lemmas.Map.Lookups.{exact_bytes}
 use Rattle.std.proofs.lemmas.Map.Text.{is_eq-slice_cmp}
 use Rattle.std.proofs.lemmas.List.Sorted.{IsNonDecreasingBy-from_all_adjacent}
 use Rattle.col_keys.specs.KeyTables.{key_seen}
-use Rattle.col_model.specs.Ascending.{is_before, is_ascending}
+use Rattle.col_common.specs.Ascending.{is_before, is_ascending}
 use Rattle.col_model.specs.ColumnType.{type_code}
 use Rattle.col_model.specs.Keys.{key_bytes, are_keys}
 use Rattle.col_model.proofs.KeyLaws.{slice_cmp-keys}

@@ -11,7 +11,7 @@ use Rattle.col_column.specs.Columns.{row_count}
 use Rattle.col_dynamic.specs.Dynamic.{type_of, content_of, dynamic_shape, value_count}
 use Rattle.col_dynamic.specs.declared.dynamic_column.DynamicColumn.{DynamicColumn}
 use Rattle.col_dynamic.specs.declared.dynamic_column.DynamicColumn.TheVariants as columns
-use Rattle.col_model.specs.Ascending.{are_below}
+use Rattle.col_common.specs.Ascending.{are_below}
 use Rattle.col_model.specs.Column.{number_cell, term_cell, number_rows, content_of as content_from, term_column, column}
 use Rattle.col_model.specs.ColumnType.{ColumnType, has_terms}
 use Rattle.col_model.specs.Dictionary.{terms}

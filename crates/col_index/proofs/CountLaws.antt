@@ -5,7 +5,7 @@ use Rattle.std.proofs.lemmas.Bool.{and_parts, ne_eqb}
 use Rattle.std.proofs.lemmas.List.{length-replicate, get_or-replicate, take-replicate, take_all}
 use Rattle.std.proofs.lemmas.List.Folds.{sum_by-replicate}
 use Rattle.std.proofs.lemmas.List.FromFn.{length-map-range_with_len}
-use Rattle.col_model.specs.Ascending.{is_rising, differences}
+use Rattle.col_common.specs.Ascending.{is_rising, differences}
 use Rattle.col_model.specs.Index.{RowSet, RowOffsets, set_counts, offset_counts}
 use Rattle.col_model.specs.Positions.{rank, start_of, rows_with_value, starts_of}
 use Rattle.col_index.specs.Offsets.{AreOffsets}

@@ -3,7 +3,7 @@ use Rattle.std.proofs.Common.{◌≡◌, ℕ, zero, suc, ◌+◌, ◌-◌, ◌<�
 use Rattle.std.specs.List.{AllByRecursion, sum, list_all}
 use Rattle.std.proofs.lemmas.Bool.{ltb-true, leb-true, le-leb, ne_eqb, and_parts, and_from}
 use Rattle.std.proofs.lemmas.List.Sums.{sum_by-cons}
-use Rattle.col_model.specs.Ascending.{is_rising, is_never_falling, differences}
+use Rattle.col_common.specs.Ascending.{is_rising, is_never_falling, differences}
 use Rattle.col_model.specs.Positions.{starts_after}
 use Rattle.col_index.specs.Offsets.{is_start_list}
 use Rattle.col_model.proofs.ListLaws.{length-differences}

@@ -4,7 +4,7 @@ use Rattle.std.specs.List.{AllByRecursion}
 use Rattle.std.specs.Prelude.{slice_get, Some}
 use Rattle.std.proofs.lemmas.Option.{slice_get-get_or, slice_get_within, get_or_from_slice_get}
 use Rattle.std.proofs.lemmas.Bool.{eq-eqb, eqb-true, ne_eqb, cases_order, or_cases, or_left, or_right, or_from, true≢false}
-use Rattle.col_model.specs.Ascending.{is_rising}
+use Rattle.col_common.specs.Ascending.{is_rising}
 use Rattle.col_model.specs.Positions.{rank}
 use Rattle.col_index.proofs.RankLaws.{rank-cons_below, rank-cons_above, tail_rises, rising_from, rank-none, rank-monotone, rank-at}
 use Rattle.col_index.specs.Laws.{IsRanked}

@@ -1,7 +1,7 @@
 -- The rows that have positions, one position after another.
 use Rattle.std.proofs.Common.{◌≡◌, ℕ, suc, ◌+◌, ◌<◌, ◌≤◌, nat_lt, nat_le, nat_eq, inl, inr, true, false, length, get_or, sum, sym, ap, ◌∙◌, arith}
 use Rattle.std.proofs.lemmas.Bool.{and_parts, and_from, ltb-true, leb-true, lt-ltb, le-leb, eq-eqb, ne_eqb, cases_eq, cases_lt, cases_order, cases_Bool, false_from_ne_true}
-use Rattle.col_model.specs.Ascending.{is_rising}
+use Rattle.col_common.specs.Ascending.{is_rising}
 use Rattle.col_model.specs.Index.{RowOffsets, offset_counts}
 use Rattle.col_model.specs.Positions.{rank, start_of, is_in_row}
 use Rattle.col_index.specs.Offsets.{AreOffsets}

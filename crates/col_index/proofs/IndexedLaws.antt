@@ -3,7 +3,7 @@ use Rattle.std.proofs.Common.{◌≡◌, ℕ, zero, suc, ◌+◌, ◌<◌, ◌�
 use Rattle.std.specs.List.{AllByRecursion, sum, list_all}
 use Rattle.std.proofs.lemmas.Bool.{lt-ltb, eq-eqb, ne_eqb, leb-true, and_parts, and_from}
 use Rattle.std.proofs.lemmas.List.Sums.{sum_by-cons}
-use Rattle.col_model.specs.Ascending.{is_rising, differences}
+use Rattle.col_common.specs.Ascending.{is_rising, differences}
 use Rattle.col_model.specs.Index.{RowSet, RowOffsets, set_counts, offset_counts, are_offsets}
 use Rattle.col_model.specs.Positions.{rows_with_value, starts_after, starts_of}
 use Rattle.col_index.specs.Offsets.{AreOffsets}

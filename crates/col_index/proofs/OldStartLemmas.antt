@@ -3,7 +3,7 @@ use Rattle.std.proofs.Common.{◌≡◌, ℕ, ◌-◌, ◌<◌, ◌^◌, nat_eq,
 use Rattle.std.specs.List.{list_all, starts_with}
 use Rattle.std.proofs.lemmas.Bool.{and_parts, ltb-true}
 use Rattle.std.proofs.lemmas.List.{take_all}
-use Rattle.col_model.specs.Ascending.{is_never_falling, differences}
+use Rattle.col_common.specs.Ascending.{is_never_falling, differences}
 use Rattle.col_model.specs.Index.{RowSet, RowOffsets}
 use Rattle.col_model.specs.Positions.{rows_with_value, starts_of}
 use Rattle.col_index.specs.Offsets.{AreOffsets, AreOldOffsets}

@@ -10,7 +10,7 @@ use Rattle.std.proofs.lemmas.List.{get_or-set_same, get_or-set_other, get_or-rep
 use Rattle.std.proofs.lemmas.List.Folds.{list_any-append}
 use Rattle.std.proofs.lemmas.Option.{get_or_from_slice_get, slice_get_within}
 use Rattle.std.specs.Prelude.{slice_get, Some}
-use Rattle.col_model.specs.Ascending.{is_rising}
+use Rattle.col_common.specs.Ascending.{is_rising}
 use Rattle.col_model.specs.Positions.{rank}
 use Rattle.col_common.specs.Flags.{flags_of}
 use Rattle.col_common.proofs.FlagLemmas.{length-flags, flag-is, flags_put}

@@ -3,7 +3,7 @@ use Rattle.std.proofs.Common.{◌≡◌, ℕ, zero, suc, ◌+◌, ◌-◌, ◌<�
 use Rattle.std.specs.List.{list_any, range_with_len}
 use Rattle.std.proofs.lemmas.Bool.{ltb-true, eq-eqb, ne_eqb, cases_eq, cases_lt, cases_order, or_from}
 use Rattle.std.proofs.lemmas.List.Folds.{list_any_more}
-use Rattle.col_model.specs.Ascending.{is_rising}
+use Rattle.col_common.specs.Ascending.{is_rising}
 use Rattle.col_model.specs.Index.{RowOffsets, offset_counts}
 use Rattle.col_model.specs.Positions.{rank, is_in_row, rows_at}
 use Rattle.col_index.specs.Offsets.{AreOffsets}

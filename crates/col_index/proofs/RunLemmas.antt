@@ -1,7 +1,7 @@
 -- Runs of equal start offsets, one after another.
 use Rattle.std.proofs.Common.{◌≡◌, ℕ, zero, suc, ◌+◌, ◌-◌, ◌<◌, ◌≤◌, ◌==◌, nat_le, true, false, cond, not, List, [], ◌∷◌, ◌++◌, length, drop, get_or, sym, ap, ◌∙◌, add-one, drop-cons, append_assoc, arith}
 use Rattle.std.proofs.lemmas.Bool.{and_parts, leb-true, eq-eqb, ne_eqb}
-use Rattle.col_model.specs.Ascending.{is_never_falling, differences}
+use Rattle.col_common.specs.Ascending.{is_never_falling, differences}
 use Rattle.col_model.specs.Positions.{rows_with_value, starts_after, starts_of}
 use Rattle.col_index.proofs.RowsLaws.{rows_from, rows_with_value-from}
 

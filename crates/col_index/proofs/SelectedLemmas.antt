@@ -5,10 +5,9 @@ use Rattle.std.proofs.Math.Bool.{and-false}
 use Rattle.std.proofs.lemmas.Bool.{and_parts, and_from, lt-ltb, le-ltb, le-leb, lt-leb, ltb-true, eq-eqb, ne_eqb, cases_lt, cases_order}
 use Rattle.std.proofs.lemmas.Option.{get_or_from_slice_get}
 use Rattle.std.proofs.lemmas.List.Elements.{All-from_recursion}
-use Rattle.col_model.specs.Ascending.{is_rising}
+use Rattle.col_common.specs.Ascending.{is_rising, AreBelow}
 use Rattle.col_model.specs.Index.{RowSet, set_counts}
 use Rattle.col_model.specs.Positions.{rank, start_of, is_in_row, rows_at}
-use Rattle.col_values.specs.Values.{AreBelow}
 use Rattle.col_index.specs.Sets.{AreRows, holds}
 use Rattle.col_index.proofs.RankLaws.{rows_rise, rank-at, below_rank, from_rank, tail_rises}
 use Rattle.col_index.proofs.SpreadLaws.{all_below}
@@ -22,12 +21,12 @@ rows_of rows ranks = map (λ k. get_or rows k 0) ranks
 
 -- positions below the count of values are ranks
 abbrev AreRanks : List ℕ → List ℕ → Type 0
-AreRanks rows ranks = AllByRecursion (λ k. k < length rows) ranks
+AreRanks rows ranks = AreBelow (length rows) ranks
 
 ranks_of : (s : RowSet) → AreRows s → (ranks : List ℕ) → list_all (λ p. nat_lt p (sum (set_counts s))) ranks ≡ true → AreRanks s.rows ranks
 ranks_of s a ranks e = all_below (length s.rows) ranks (ap (λ n. list_all (λ p. nat_lt p n) ranks) (sym (sum-set_counts s a)) ∙ e)
 
-pub ranks_below : (s : RowSet) → AreRows s → (ranks : List ℕ) → list_all (λ p. nat_lt p (sum (set_counts s))) ranks ≡ true → AreBelow ranks (length s.rows)
+pub ranks_below : (s : RowSet) → AreRows s → (ranks : List ℕ) → list_all (λ p. nat_lt p (sum (set_counts s))) ranks ≡ true → AreBelow (length s.rows) ranks
 ranks_below s a ranks e = All-from_recursion (λ k. k < length s.rows) ranks (ranks_of s a ranks e)
 
 -- what was selected one by one

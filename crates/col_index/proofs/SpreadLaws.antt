@@ -5,7 +5,7 @@ use Rattle.std.proofs.lemmas.Bool.{ltb-true, eq-eqb, ne_eqb, cases_order, and_pa
 use Rattle.std.proofs.lemmas.List.Sums.{sum_by-cons}
 use Rattle.std.proofs.lemmas.List.FromFn.{get_or-map-range_with_len, length-map-range_with_len}
 use Rattle.std.proofs.lemmas.Grind.{same_number_lists}
-use Rattle.col_model.specs.Ascending.{is_rising}
+use Rattle.col_common.specs.Ascending.{is_rising, AreBelow}
 use Rattle.col_model.specs.Index.{count_beside, spread}
 use Rattle.col_model.specs.Positions.{rank, start_of, starts_after}
 use Rattle.col_index.specs.Sets.{holds}
@@ -96,7 +96,7 @@ spread_is n rows values cs e s =
     same_number_lists (spread n rows values) cs (long ∙ sym e)
     (λ k h. get_or-map-range_with_len (count_beside (zip rows values)) 0 n k k 0 (omega (arith, long)) (omega arith) ∙ spread_beside s k k (omega arith))
 
-some_spread : (n a m : ℕ) (rows values : List ℕ) → m ≡ a + n → is_rising rows ≡ true → AllByRecursion (λ r. a ≤ r) rows → AllByRecursion (λ r. r < m) rows → length rows ≡ length values → (cs : List ℕ) × (length cs ≡ n) × IsSpread a rows values cs
+some_spread : (n a m : ℕ) (rows values : List ℕ) → m ≡ a + n → is_rising rows ≡ true → AllByRecursion (λ r. a ≤ r) rows → AreBelow m rows → length rows ≡ length values → (cs : List ℕ) × (length cs ≡ n) × IsSpread a rows values cs
 some_spread zero a m [] [] e up low high long = ([], refl, ended)
 some_spread zero a m (r ∷ rows) values e up low high long = absurd (omega (arith, low.0, high.0))
 some_spread zero a m [] (v ∷ values) e up low high long = absurd (omega arith)
@@ -115,7 +115,7 @@ some_spread (suc n) a m (r ∷ rows) (v ∷ values) e up low high long = elim (c
   | inr (inr above) ↦ absurd (omega (arith, low.0))
 ]
 
-pub all_below : (n : ℕ) (rows : List ℕ) → list_all (λ r. nat_lt r n) rows ≡ true → AllByRecursion (λ r. r < n) rows
+pub all_below : (n : ℕ) (rows : List ℕ) → list_all (λ r. nat_lt r n) rows ≡ true → AreBelow n rows
 all_below n [] e = tt
 all_below n (r ∷ rows) e =
     let parts = and_parts (nat_lt r n) (list_all (λ q. nat_lt q n) rows) e in

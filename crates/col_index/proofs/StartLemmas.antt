@@ -5,8 +5,7 @@ use Rattle.std.proofs.lemmas.Bool.{and_parts, lt-ltb, le-ltb, ltb-true, eqb-true
 use Rattle.std.proofs.Math.Bool.{and-true}
 use Rattle.std.proofs.lemmas.Option.{get_or_from_slice_get, slice_get_within}
 use Rattle.std.proofs.lemmas.List.Sums.{AllPass-from_list_all}
-use Rattle.col_values.specs.Values.{AreBelow}
-use Rattle.col_model.specs.Ascending.{is_rising}
+use Rattle.col_common.specs.Ascending.{is_rising, AreBelow}
 use Rattle.col_model.specs.Index.{are_offsets}
 use Rattle.col_index.specs.Offsets.{is_start_list}
 
@@ -47,7 +46,7 @@ start-fits n starts i v e g =
     omega (arith, small, same)
 
 -- all are
-pub starts-below : (n : ℕ) (starts : List ℕ) → is_start_list n starts ≡ true → AreBelow starts (2 ^ 32)
+pub starts-below : (n : ℕ) (starts : List ℕ) → is_start_list n starts ≡ true → AreBelow (2 ^ 32) starts
 starts-below n starts e =
     let small = AllPass-from_list_all (λ s. nat_lt s (2 ^ 32)) starts (start_list-parts n starts e).small in
     λ k d h. ltb-true _ _ (small k d h)

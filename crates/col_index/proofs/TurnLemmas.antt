@@ -1,10 +1,9 @@
 -- A turn of the walk over positions, by its places among the start offsets.
 use Rattle.std.proofs.Common.{◌≡◌, ℕ, ◌+◌, ◌-◌, ◌<◌, ◌≤◌, true, false, List, [], ◌∷◌, ◌++◌, length, take, get_or, slice_get, Some, sum, refl, sym, ap, ◌∙◌, arith}
 use Rattle.std.proofs.lemmas.Option.{get_or_from_slice_get}
-use Rattle.col_model.specs.Ascending.{is_rising}
+use Rattle.col_common.specs.Ascending.{is_rising, AreBelow}
 use Rattle.col_model.specs.Index.{RowOffsets, offset_counts}
 use Rattle.col_model.specs.Positions.{rank, rows_at}
-use Rattle.col_values.specs.Values.{AreBelow}
 use Rattle.col_index.specs.declared.search.Place.{Place}
 use Rattle.col_index.specs.Offsets.{AreOffsets}
 use Rattle.col_index.specs.Places.{IsPlace}
@@ -28,7 +27,7 @@ turned o ps xs kept at position next p t read s = record {
   target = t ∙ ap (λ n. n + 1) (read ∙ selected-read (offset_counts o) ps xs kept at s);
 }
 
-module _ (o : RowOffsets) (a : AreOffsets o) (ps : List ℕ) (at : ℕ) (e : is_rising ps ≡ true) (within : at < length ps) (below : AreBelow ps (sum (offset_counts o))) where
+module _ (o : RowOffsets) (a : AreOffsets o) (ps : List ℕ) (at : ℕ) (e : is_rising ps ≡ true) (within : at < length ps) (below : AreBelow (sum (offset_counts o)) ps) where
   module _ (next : Place) (t : IsTurn o ps at next) where
     ranked : next.at ≡ rank o.starts (get_or ps at 0 + 1)
     ranked = t.place.count ∙ ap (rank o.starts) t.target

@@ -3,7 +3,7 @@ use Rattle.std.proofs.Common.{◌≡◌, ℕ, zero, suc, ◌+◌, ◌-◌, ◌<�
 use Rattle.std.proofs.lemmas.Bool.{cases_lt, cases_Bool, false_from_ne_true, true≢false}
 use Rattle.std.proofs.lemmas.List.{get_or-take, get_or-drop}
 use Rattle.std.proofs.lemmas.List.Sums.{sum_by_more}
-use Rattle.col_model.specs.Ascending.{is_rising}
+use Rattle.col_common.specs.Ascending.{is_rising}
 use Rattle.col_model.specs.Positions.{rank}
 use Rattle.col_index.specs.Sets.{holds}
 use Rattle.col_index.proofs.RankLaws.{from_rank, rank-monotone, rank-le-length}

@@ -4,10 +4,9 @@ use Rattle.std.proofs.Common.{◌≡◌, ℕ, ◌+◌, ◌-◌, ◌<◌, ◌≤�
 use Rattle.std.proofs.lemmas.Bool.{cases_eq, eq-eqb, ne_eqb}
 use Rattle.std.proofs.lemmas.List.{take-set-le, drop-set-lt, length-set}
 use Rattle.std.proofs.lemmas.Option.{get_or_from_slice_get}
-use Rattle.col_model.specs.Ascending.{is_rising}
+use Rattle.col_common.specs.Ascending.{is_rising, AreBelow}
 use Rattle.col_model.specs.Index.{RowOffsets, offset_counts}
 use Rattle.col_model.specs.Positions.{rank, rows_at}
-use Rattle.col_values.specs.Values.{AreBelow}
 use Rattle.col_index.specs.Offsets.{AreOffsets}
 use Rattle.col_index.specs.Windows.{IsWindow}
 use Rattle.col_index.specs.declared.windows.Window.{Window}
@@ -31,7 +30,7 @@ written counts ps xs kept at row few s = record {
   ahead = drop-set-lt (at + 1) xs kept row (omega (arith, few)) ∙ s.ahead;
 }
 
-module _ (o : RowOffsets) (a : AreOffsets o) (ps : List ℕ) (at : ℕ) (e : is_rising ps ≡ true) (within : at < length ps) (below : AreBelow ps (sum (offset_counts o))) where
+module _ (o : RowOffsets) (a : AreOffsets o) (ps : List ℕ) (at : ℕ) (e : is_rising ps ≡ true) (within : at < length ps) (below : AreBelow (sum (offset_counts o)) ps) where
   -- how many start offsets are at or before a position
   abbrev pub started_at : ℕ
   started_at = rank o.starts (get_or ps at 0 + 1)

@@ -2,7 +2,7 @@
 use Rattle.std.specs.Prelude.{◌≡◌, ℕ, ◌+◌, ◌-◌, ◌^◌, ◌==◌, ◌≤◌, ◌&&◌, Bool, true, List, length, map, flat_map, slice_index, sum, Option, if◌then◌else◌}
 use Rattle.std.specs.List.{range_with_len}
 use Rattle.col_common.specs.Reading.{only_if}
-use Rattle.col_model.specs.Ascending.{is_rising, is_never_falling, are_below}
+use Rattle.col_common.specs.Ascending.{is_rising, is_never_falling, are_below}
 use Rattle.col_model.specs.Index.{RowSet, RowOffsets, Shape, empty_shape, full_shape, optional_shape, multivalued_shape, are_starts, are_offsets}
 use Rattle.col_model.specs.Positions.{values_in, count_in, index_range, positions_in}
 use Rattle.col_model.specs.Table as tables

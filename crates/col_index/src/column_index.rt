@@ -2,7 +2,7 @@
 ghost use Rattle.std.specs.Prelude.{◌≡◌, ◌<◌, ◌-◌, ◌^◌, ◌==◌, true, not, nat_le, max, IfOk, IfErr};
 ghost use Rattle.std.specs.List.{list_all};
 ghost use Rattle.col_common.specs.declared.error.ColumnarError.TheVariants as refusals;
-ghost use Rattle.col_model.specs.Ascending.{is_rising};
+ghost use Rattle.col_common.specs.Ascending.{is_rising};
 ghost use Rattle.col_model.specs.Index.{set_counts, optional_shape, multivalued_shape, full_shape};
 ghost use Rattle.col_model.specs.Positions.{count_in, start_in, positions_in, rows_in};
 ghost use Rattle.col_index.specs.Versions.{cardinality_of};

@@ -3,10 +3,9 @@ ghost use Rattle.std.specs.Prelude.{◌≡◌, ◌^◌, ◌==◌, not, true, nat
 ghost use Rattle.std.specs.Prelude.{IfOk, IfErr};
 ghost use Rattle.std.specs.List.{list_all};
 ghost use Rattle.col_common.specs.declared.error.ColumnarError.TheVariants as refusals;
-ghost use Rattle.col_model.specs.Ascending.{is_rising, differences};
+ghost use Rattle.col_common.specs.Ascending.{is_rising, differences, AreBelow};
 ghost use Rattle.col_model.specs.Positions.{start_of, index_range, rows_with_value, next_row, starts_of, rows_at};
 ghost use Rattle.col_numbers.specs.Readers.{list_of};
-ghost use Rattle.col_values.specs.Values.{AreBelow};
 ghost use Rattle.col_index.specs.Offsets.{range_if_any, AreOldOffsets, row_positions, docs_of, positions_of};
 ghost use Rattle.col_index.specs.Appending.{PushesBoth};
 
@@ -55,7 +54,7 @@ impl MultiValueIndex {
     /// Where the values of each row with a value start, and behind the last where they end.
     pub fn get_start_index_column(&self) -> &U64Values
         ensures counts { list_of result.now ≡ starts_of (counts_of self.now) }
-        ensures fits { AreBelow (list_of result.now) (2 ^ 32) }
+        ensures fits { AreBelow (2 ^ 32) (list_of result.now) }
     {
         match self {
             MultiValueIndex::MultiValueIndexV2(index) => index.start_index_column(),
@@ -153,7 +152,7 @@ impl MultiValueIndex {
     /// before the values of the start.
     pub fn select_batch_in_place(&self, doc_id_start: DocId, ranks: &mut Vec<RowId>)
         requires rising { is_rising ranks.old.items ≡ true }
-        requires below { AreBelow ranks.old.items (sum (counts_of self.now)) }
+        requires below { AreBelow (sum (counts_of self.now)) ranks.old.items }
         requires start { list_all (λ p. nat_le (start_of (counts_of self.now) doc_id_start) p)
             ranks.old.items ≡ true }
         ensures { ranks.new.items ≡ rows_at (counts_of self.now) ranks.old.items }

@@ -2,11 +2,10 @@
 ghost use Rattle.std.specs.Prelude.{◌≡◌, ◌≤◌, ◌<◌, ◌+◌, ◌^◌, ◌==◌, not, true, length, take, sum, slice_index, OnOk};
 ghost use Rattle.std.specs.Prelude.{◌++◌, IfOk, IfErr};
 ghost use Rattle.col_common.specs.declared.error.ColumnarError.TheVariants as refusals;
-ghost use Rattle.col_model.specs.Ascending.{is_rising, differences};
+ghost use Rattle.col_common.specs.Ascending.{is_rising, differences, AreBelow};
 ghost use Rattle.col_model.specs.Index.{offset_counts};
 ghost use Rattle.col_model.specs.Positions.{start_of, index_range, rows_with_value, next_row, starts_of, rows_at};
 ghost use Rattle.col_numbers.specs.Readers.{list_of};
-ghost use Rattle.col_values.specs.Values.{AreBelow};
 ghost use Rattle.col_index.specs.Offsets.{AreOldOffsets, range_if_any, row_positions, docs_of, positions_of, is_start_list, offsets_by};
 ghost use Rattle.col_index.specs.Appending.{PushesBoth};
 
@@ -98,7 +97,7 @@ impl MultiValueIndexV2 {
     pub fn start_index_column(&self) -> &U64Values
         ensures offsets { list_of result.now ≡ self.now.starts }
         ensures counts { list_of result.now ≡ starts_of (offset_counts self.now) }
-        ensures fits { AreBelow (list_of result.now) (2 ^ 32) }
+        ensures fits { AreBelow (2 ^ 32) (list_of result.now) }
     {
         &self.start_index_column
     }
@@ -247,7 +246,7 @@ impl MultiValueIndexV2 {
     /// Puts in the place of ascending positions the rows that have them, each once.
     pub fn select_batch_in_place(&self, doc_id_start: DocId, ranks: &mut Vec<RowId>)
         requires rising { is_rising ranks.old.items ≡ true }
-        requires below { AreBelow ranks.old.items (sum (offset_counts self.now)) }
+        requires below { AreBelow (sum (offset_counts self.now)) ranks.old.items }
         ensures { ranks.new.items ≡ rows_at (offset_counts self.now) ranks.old.items }
     {
         let kept = self.select_rows(ranks);
@@ -257,7 +256,7 @@ impl MultiValueIndexV2 {
     // The same in the front of a list; how many rows there are.
     fn select_rows(&self, ranks: &mut [RowId]) -> usize
         requires rising { is_rising ranks.old ≡ true }
-        requires below { AreBelow ranks.old (sum (offset_counts self.now)) }
+        requires below { AreBelow (sum (offset_counts self.now)) ranks.old }
         ensures { take result ranks.new ≡ rows_at (offset_counts self.now) ranks.old }
     {
         if are_close(ranks) {
@@ -270,7 +269,7 @@ impl MultiValueIndexV2 {
     // The same by windows, in which no step depends on how far apart the positions are.
     fn select_close_rows(&self, ranks: &mut [RowId]) -> usize
         requires rising { is_rising ranks.old ≡ true }
-        requires below { AreBelow ranks.old (sum (offset_counts self.now)) }
+        requires below { AreBelow (sum (offset_counts self.now)) ranks.old }
         ensures { take result ranks.new ≡ rows_at (offset_counts self.now) ranks.old }
     {
         let mut table = [0; TABLE_LEN];
@@ -294,7 +293,7 @@ impl MultiValueIndexV2 {
     // The same by places, which are few steps apart or many.
     fn select_distant_rows(&self, ranks: &mut [RowId]) -> usize
         requires rising { is_rising ranks.old ≡ true }
-        requires below { AreBelow ranks.old (sum (offset_counts self.now)) }
+        requires below { AreBelow (sum (offset_counts self.now)) ranks.old }
         ensures { take result ranks.new ≡ rows_at (offset_counts self.now) ranks.old }
     {
         let mut place = Place::first(&self.start_index_column);

@@ -1,6 +1,6 @@
 //! Optional indexes by how many values each row has.
 ghost use Rattle.std.specs.Prelude.{◌≡◌, ◌==◌, not, true, sum, slice_index};
-ghost use Rattle.col_model.specs.Ascending.{is_rising, are_below};
+ghost use Rattle.col_common.specs.Ascending.{is_rising, are_below};
 ghost use Rattle.col_model.specs.Index.{set_counts, optional_shape};
 ghost use Rattle.col_model.specs.Positions.{start_of, rows_at};
 ghost use Rattle.col_index.specs.Offsets.{positions_of_rows, docs_of, positions_of};

@@ -1,12 +1,12 @@
 //! Rows that have at most one value.
 ghost use Rattle.std.specs.Prelude.{◌≡◌, [], ◌∷◌, ◌^◌, ◌<◌, length, map, slice_get, Some};
 ghost use Rattle.std.specs.Prelude.{IfOk, IfErr};
+ghost use Rattle.col_common.specs.Ascending.{AreBelow};
 ghost use Rattle.col_common.specs.declared.error.ColumnarError.TheVariants as refusals;
 ghost use Rattle.col_common.specs.Decoding.{Decodes};
 ghost use Rattle.col_common.specs.Reading.{only_if};
 ghost use Rattle.col_model.specs.Index.{RowSet, set_counts};
 ghost use Rattle.col_model.specs.Positions.{rank, next_row, index_range};
-ghost use Rattle.col_values.specs.Values.{AreBelow};
 ghost use Rattle.col_index.specs.Appending.{AppendsBoth, PushesBoth};
 ghost use Rattle.col_index.specs.Offsets.{range_if_any};
 ghost use Rattle.col_index.specs.RankedRows.{AreRankedRows};
@@ -156,7 +156,7 @@ impl OptionalIndex {
 
     /// Puts the row of each rank in its place.
     pub fn select_batch(&self, ranks: &mut [RowId])
-        requires { AreBelow ranks.old (length self.now.rows) }
+        requires { AreBelow (length self.now.rows) ranks.old }
         ensures { map Some ranks.new ≡ map (slice_get self.now.rows) ranks.old }
     {
         for at in 0..ranks.len() {

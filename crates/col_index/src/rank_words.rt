@@ -4,7 +4,7 @@ ghost use Rattle.std.specs.Prelude.{IfOk, IfErr};
 ghost use Rattle.col_common.specs.declared.error.ColumnarError.TheVariants as refusals;
 ghost use Rattle.col_common.specs.Decoding.{Decodes};
 ghost use Rattle.col_common.specs.Flags.{flag_at};
-ghost use Rattle.col_model.specs.Ascending.{is_rising};
+ghost use Rattle.col_common.specs.Ascending.{is_rising};
 ghost use Rattle.col_numbers.specs.Readers.{list_of};
 ghost use Rattle.col_index.specs.Sets.{is_row_list, set_by};
 ghost use Rattle.col_index.specs.Ranks.{AreCounts, AreRanks, HasFlags, ones_below};

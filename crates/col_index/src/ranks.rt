@@ -3,7 +3,7 @@ ghost use Rattle.std.specs.Prelude.{◌≡◌, ◌≤◌, ◌*◌, true, length,
 ghost use Rattle.col_common.specs.declared.error.ColumnarError.TheVariants as refusals;
 ghost use Rattle.col_common.specs.Decoding.{Decodes};
 ghost use Rattle.col_common.specs.Reading.{only_if};
-ghost use Rattle.col_model.specs.Ascending.{is_rising};
+ghost use Rattle.col_common.specs.Ascending.{is_rising};
 ghost use Rattle.col_model.specs.Positions.{rank};
 ghost use Rattle.col_numbers.specs.Readers.{list_of};
 ghost use Rattle.col_index.specs.Sets.{holds, set_by};

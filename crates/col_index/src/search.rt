@@ -1,6 +1,6 @@
 //! Places in rising lists.
 ghost use Rattle.std.specs.Prelude.{◌≡◌, ◌^◌, ◌-◌, ◌+◌, ◌<◌, true, length, slice_index_or, IfSome};
-ghost use Rattle.col_model.specs.Ascending.{is_rising};
+ghost use Rattle.col_common.specs.Ascending.{is_rising};
 ghost use Rattle.col_model.specs.Positions.{rank};
 ghost use Rattle.col_numbers.specs.Readers.{list_of};
 ghost use Rattle.col_index.specs.Search.{IsNarrowed};

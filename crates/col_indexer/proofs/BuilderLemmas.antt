@@ -3,7 +3,7 @@ use Rattle.std.proofs.Common.{◌≡◌, ℕ, suc, ◌+◌, ◌-◌, ◌<◌, �
 use Rattle.std.specs.List.{sum, list_all, starts_with}
 use Rattle.std.proofs.lemmas.Bool.{lt-ltb, eqb-true, and_parts, and_from, true≢false}
 use Rattle.std.proofs.lemmas.Grind.{get_or_default_zero}
-use Rattle.col_model.specs.Ascending.{is_rising, is_never_falling, differences}
+use Rattle.col_common.specs.Ascending.{is_rising, is_never_falling, differences}
 use Rattle.col_model.specs.Index.{are_offsets}
 use Rattle.col_indexer.specs.Builders.{Recorded, IsAfter, IsRecording, with_value}
 use Rattle.col_indexer.proofs.RecordedLists.{all-push, rising-push, last_of, never_falling-again, differences-again, all-last, never_falling-raised, differences-raised, all-raised, last-sum, first_is_zero}

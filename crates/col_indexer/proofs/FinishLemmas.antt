@@ -1,7 +1,7 @@
 -- The index of rows and offsets that builders recorded.
 use Rattle.std.proofs.Common.{◌≡◌, ℕ, ◌+◌, ◌<◌, ◌^◌, ◌==◌, ◌&&◌, true, List, [], ◌∷◌, length, refl, sym, ap, ◌∙◌, arith, subst}
 use Rattle.std.proofs.lemmas.Bool.{eq-eqb, and_from}
-use Rattle.col_model.specs.Ascending.{is_rising, are_below, differences}
+use Rattle.col_common.specs.Ascending.{is_rising, are_below, differences}
 use Rattle.col_model.specs.Index.{are_offsets, are_starts}
 use Rattle.col_model.specs.Positions.{starts_after, starts_of}
 use Rattle.col_indexer.specs.Builders.{Recorded, IsRecording, AllHaveValues, recorded_index}

@@ -3,7 +3,7 @@ use Rattle.std.proofs.Common.{◌≡◌, ℕ, zero, suc, ◌+◌, ◌-◌, ◌<�
 use Rattle.std.specs.List.{sum, list_all}
 use Rattle.std.proofs.lemmas.Bool.{lt-ltb, leb-true, le-leb, and_parts, and_from, true≢false}
 use Rattle.std.proofs.lemmas.List.Sums.{sum_by-cons}
-use Rattle.col_model.specs.Ascending.{is_rising, is_never_falling, differences}
+use Rattle.col_common.specs.Ascending.{is_rising, is_never_falling, differences}
 use Rattle.col_model.specs.Index.{are_offsets}
 use Rattle.col_model.specs.Positions.{starts_after}
 use Rattle.col_indexer.specs.Builders.{IsAfter, AllHaveValues, with_value}

@@ -5,7 +5,7 @@ use Rattle.std.specs.Int.{w64, to_le_bytes}
 use Rattle.std.proofs.lemmas.Bool.{and_parts, eqb-true, leb-false, lt-ltb, ltb-true}
 use Rattle.col_common.specs.VInt.{vint_bytes}
 use Rattle.col_common.proofs.VIntLemmas.{vint-vint_bytes}
-use Rattle.col_model.specs.Ascending.{is_rising}
+use Rattle.col_common.specs.Ascending.{is_rising, AreBelow}
 use Rattle.col_model.specs.Index.{RowSet, RowOffsets, are_offsets, row_set, row_offsets, shape}
 use Rattle.col_model.specs.U64List.{values64}
 use Rattle.col_model.proofs.ChosenLaws.{values64-chosen}
@@ -15,7 +15,7 @@ use Rattle.col_indexer.specs.Spelling.{Index, full_index, optional_index, multiv
 use Rattle.col_indexer.proofs.ByteCountLemmas.{index_codec, list_bytes-picked, list_bytes-most, vint_bytes-most}
 
 -- numbers below one are below a greater one
-all_below : (n m : ℕ) (xs : List ℕ) → n ≤ m → list_all (λ x. nat_lt x n) xs ≡ true → AllByRecursion (λ x. x < m) xs
+all_below : (n m : ℕ) (xs : List ℕ) → n ≤ m → list_all (λ x. nat_lt x n) xs ≡ true → AreBelow m xs
 all_below n m [] h e = tt
 all_below n m (x ∷ xs) h e =
     let parts = and_parts (nat_lt x n) (list_all (λ x. nat_lt x n) xs) e in
@@ -40,7 +40,7 @@ rows-few s a = let parts = and_parts (is_rising s.rows) (list_all (λ r. nat_lt 
 
 -- ---- reading back
 
-list-back : (xs : List ℕ) → AllByRecursion (λ x. x < 2 ^ 64) xs → length xs < 2 ^ 32 → values64 (list_bytes xs) ≡ Some xs
+list-back : (xs : List ℕ) → AreBelow (2 ^ 64) xs → length xs < 2 ^ 32 → values64 (list_bytes xs) ≡ Some xs
 list-back xs all few = let p = index_codec xs in ap values64 (list_bytes-picked xs p.0 p.1) ∙ values64-chosen index_codecs xs p.0 all few p.1
 
 rows-back : (s : RowSet) → AreRowsOf32 s → values64 (list_bytes s.rows) ≡ Some s.rows

@@ -1,7 +1,7 @@
 -- Rows as builders record them.
 use Rattle.std.specs.Prelude.{◌≡◌, ℕ, ◌+◌, ◌<◌, ◌==◌, not, true, List, [], ◌∷◌, length}
 use Rattle.std.specs.List.{list_all}
-use Rattle.col_model.specs.Ascending.{is_rising, is_never_falling, are_below}
+use Rattle.col_common.specs.Ascending.{is_rising, is_never_falling, are_below}
 use Rattle.col_model.specs.Index.{RowOffsets, are_offsets}
 use Rattle.col_model.specs.Positions.{starts_of}
 

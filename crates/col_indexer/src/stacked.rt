@@ -1,12 +1,12 @@
 //! Indexes one behind another.
 ghost use Rattle.std.specs.Prelude.{◌≡◌, ◌≤◌, ◌<◌, ◌^◌, length, sum, slice_get, IfOk};
 ghost use Rattle.std.specs.List.{range_with_len};
+ghost use Rattle.col_common.specs.Ascending.{AreBelow};
 ghost use Rattle.col_model.specs.Positions.{rows_with_value, starts_of};
 ghost use Rattle.col_numbers.specs.Readers.{list_of};
 ghost use Rattle.col_indexer.specs.Counted.{counts_in};
 ghost use Rattle.col_index.specs.Indexes.{shape_of};
 ghost use Rattle.col_common.specs.Walks.{IsNext};
-ghost use Rattle.col_values.specs.Values.{AreBelow};
 ghost use Rattle.col_indexer.specs.Stacks.{AreSegments, segments_of, stacked_counts};
 ghost use Rattle.col_indexer.specs.Stacks.{StandsAtRow, stacked_rows_to_give, StandsAtOffset, stacked_offsets_to_give};
 
@@ -202,7 +202,7 @@ pub(crate) fn start_at(column_index: &ColumnIndex, num_rows: RowId, place: u64) 
 // The value at a place; none past the last.
 #[inline(always)]
 fn value_at(values: &U64Values, place: u64) -> Option<RowId>
-    requires { AreBelow (list_of values.now) (2 ^ 32) }
+    requires { AreBelow (2 ^ 32) (list_of values.now) }
     ensures { result ≡ slice_get (list_of values.now) place }
 {
     if place < u64::from(values.num_vals()) {

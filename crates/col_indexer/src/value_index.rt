@@ -1,7 +1,7 @@
 //! Builders of indexes.
 ghost use Rattle.std.specs.Prelude.{◌≡◌, [], ℕ, true, IfErr, OnOk};
 ghost use Rattle.col_common.specs.declared.error.ColumnarError.TheVariants as refusals;
-ghost use Rattle.col_model.specs.Ascending.{are_below};
+ghost use Rattle.col_common.specs.Ascending.{are_below};
 ghost use Rattle.col_indexer.specs.Builders.{AllHaveValues};
 ghost use Rattle.col_indexer.specs.Builders.{nothing_recorded, recorded_index};
 ghost use Rattle.col_indexer.specs.Spelling.{optional_index, multivalued_index, IsIndex};
@@ -77,7 +77,7 @@ pub struct OptionalIndexBuilder {
 
 impl Model for OptionalIndexBuilder {
     ghost use Rattle.std.specs.Prelude.{◌≡◌, List, ℕ, true};
-    ghost use Rattle.col_model.specs.Ascending.{is_rising};
+    ghost use Rattle.col_common.specs.Ascending.{is_rising};
 
     ghost Value = { List ℕ };
 
@@ -146,7 +146,7 @@ pub struct MultivaluedIndexBuilder {
 }
 
 impl Model for MultivaluedIndexBuilder {
-    ghost use Rattle.col_model.specs.Ascending.{differences};
+    ghost use Rattle.col_common.specs.Ascending.{differences};
     ghost use Rattle.col_indexer.specs.Builders.{Recorded, IsRecording};
 
     ghost Value = { Recorded };

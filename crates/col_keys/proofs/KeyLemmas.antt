@@ -8,7 +8,7 @@ use Rattle.std.proofs.lemmas.Bool.{and_from, and_left, and_parts}
 use Rattle.std.proofs.lemmas.Str.{is_utf8-from_IsUtf8, IsUtf8-from_is_utf8}
 use Rattle.col_common.specs.Reading.{only_if}
 use Rattle.col_model.specs.ColumnType.{type_code, is_numerical}
-use Rattle.col_model.specs.Ascending.{is_before, is_ascending}
+use Rattle.col_common.specs.Ascending.{is_before, is_ascending}
 use Rattle.col_model.specs.Keys.{Key, key_bytes, is_name}
 use Rattle.col_model.proofs.KeyLaws.{slice_cmp-keys}
 use Rattle.col_keys.specs.declared.key_table.KeyedLength.{KeyedLength}

@@ -2,7 +2,7 @@
 use Rattle.std.specs.Prelude.{◌≡◌, true}
 use Rattle.std.specs.Ordering.{nat_cmp, is_lt, ordering_then}
 use Rattle.std.specs.Cmp.Lexicographic.{slice_cmp}
-use Rattle.col_model.specs.Ascending.{is_before}
+use Rattle.col_common.specs.Ascending.{is_before}
 use Rattle.col_model.specs.ColumnType.{type_code}
 use Rattle.col_model.specs.Keys.{Key, key_bytes, is_name}
 

@@ -14,7 +14,7 @@ pub struct ColumnKey {
 }
 
 impl ColumnKey {
-    ghost use Rattle.col_model.specs.Ascending.{is_before};
+    ghost use Rattle.col_common.specs.Ascending.{is_before};
     ghost use Rattle.col_model.specs.Keys.{key_bytes};
     ghost use Rattle.col_keys.specs.KeyTables.{key_seen};
 

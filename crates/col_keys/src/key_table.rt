@@ -3,7 +3,7 @@ ghost use Rattle.std.specs.Prelude.{◌≡◌, ◌==◌, not, map, filter, optio
 ghost use Rattle.std.specs.List.{list_all};
 ghost use Rattle.col_common.specs.Reading.{only_if, items};
 ghost use Rattle.col_common.specs.Decoding.{Decodes};
-ghost use Rattle.col_model.specs.Ascending.{is_ascending};
+ghost use Rattle.col_common.specs.Ascending.{is_ascending};
 ghost use Rattle.col_model.specs.ColumnType.{is_numerical};
 ghost use Rattle.col_model.specs.Keys.{is_name, key_bytes, key_of, keyed_length, key_table, total_length};
 ghost use Rattle.col_types.specs.Kinds.{kind_of};

@@ -5,6 +5,7 @@ use Rattle.std.specs.List.{AllByRecursion}
 use Rattle.std.proofs.lemmas.Bool.{cases_lt}
 use Rattle.std.proofs.lemmas.List.{length-map, length-take, length-drop, take-append-drop}
 use Rattle.std.proofs.lemmas.List.Folds.{flat_map-map}
+use Rattle.col_common.specs.Ascending.{AreBelow}
 use Rattle.col_common.specs.Reading.{◌>>=◌, nothing_left, items}
 use Rattle.col_common.specs.VInt.{group_bytes}
 use Rattle.col_common.proofs.VIntLemmas.{group_bytes-short, group_bytes-long}
@@ -47,7 +48,7 @@ block_len-taken : (xs : List ℕ) → length (take block_size xs) ≡ block_len 
 block_len-taken xs = length-take block_size xs ∙ omega arith
 
 -- blocks are read back from their lines and their packed offsets, whatever follows
-pub blocks-cut_blocks : (k : ℕ) (xs rest : List ℕ) → AllByRecursion (λ x. x < 2 ^ 64) xs → let bs = cut_blocks k xs in blocks (length xs) (map block_line bs) (joined_lists (map packed_block bs) ++ rest) ≡ Some (bs, rest)
+pub blocks-cut_blocks : (k : ℕ) (xs rest : List ℕ) → AreBelow (2 ^ 64) xs → let bs = cut_blocks k xs in blocks (length xs) (map block_line bs) (joined_lists (map packed_block bs) ++ rest) ≡ Some (bs, rest)
 unfolding blocks cut_blocks
 blocks-cut_blocks zero xs rest all = refl
 blocks-cut_blocks (suc k) xs rest all =
@@ -93,7 +94,7 @@ length-lines_bytes (b ∷ bs) = rw (length-append (params_bytes (block_line b)) 
 -- ---- lists are read back
 
 -- the blocks of numbers, where a reader knows how many there are
-pub blockwise_values-back : (s : Stats) (ks : List ℕ) → s.count ≡ length ks → length ks < 2 ^ 32 → AllByRecursion (λ k. k < 2 ^ 64) ks → blockwise_values s (blocks_bytes (blocks_of ks)) ≡ Some (map (λ k. (s.least + s.divisor * k) % 2 ^ 64) ks)
+pub blockwise_values-back : (s : Stats) (ks : List ℕ) → s.count ≡ length ks → length ks < 2 ^ 32 → AreBelow (2 ^ 64) ks → blockwise_values s (blocks_bytes (blocks_of ks)) ≡ Some (map (λ k. (s.least + s.divisor * k) % 2 ^ 64) ks)
 unfolding blockwise_values blocks_bytes
 blockwise_values-back s ks count len all =
     let k = block_count (length ks) in
@@ -105,7 +106,7 @@ blockwise_values-back s ks count len all =
     let read = rw append-nil at (blocks-cut_blocks k ks [] all) in
     rw (parts, count, items-lines_bytes k bs (sym (length-cut_blocks k ks)), read, joined-cut_blocks k ks (omega arith)) refl
 
-wrapped : (xs : List ℕ) → AllByRecursion (λ x. x < 2 ^ 64) xs → map (λ x. x % 2 ^ 64) xs ≡ xs
+wrapped : (xs : List ℕ) → AreBelow (2 ^ 64) xs → map (λ x. x % 2 ^ 64) xs ≡ xs
 wrapped xs all = map-same (λ x. x % 2 ^ 64) xs (all_by (λ x p. mod-eq_of_lt p) xs all)
 
 -- a list is read back from its bytes under BlockwiseLinear
@@ -116,7 +117,7 @@ values64-blockwise xs all len =
     let d = stats_of-describes xs all in
     let ks = steps_above s xs in
     let long : length ks ≡ length xs = length-map xs (λ x. (x - s.least) / s.divisor) in
-    let below : AllByRecursion (λ k. k < 2 ^ 64) ks = mapped_all (λ k. k < 2 ^ 64) (λ x. (x - s.least) / s.divisor) xs (all_by (λ x p. omega (arith, div-le_self (x - s.least) s.divisor, p)) xs all) in
+    let below : AreBelow (2 ^ 64) ks = mapped_all (λ k. k < 2 ^ 64) (λ x. (x - s.least) / s.divisor) xs (all_by (λ x p. omega (arith, div-le_self (x - s.least) s.divisor, p)) xs all) in
     let back : map (λ k. (s.least + s.divisor * k) % 2 ^ 64) ks ≡ xs =
     sym (map-map (λ k. s.least + s.divisor * k) (λ x. x % 2 ^ 64) ks) ∙ ap (map (λ x. x % 2 ^ 64)) (steps_list-back xs s d) ∙ wrapped xs all in
     values64-behind_stats 2 xs (blocks_bytes (blocks_of ks)) all len

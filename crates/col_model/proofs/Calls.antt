@@ -16,7 +16,7 @@ use Rattle.col_model.specs.U64List.{bitpacked_bytes}
 use Rattle.col_model.specs.Outcome.{refused, number_word, gen_number, outcome_of_merge}
 use Rattle.col_model.specs.Positions.{value_positions, index_range, range_positions, rows_at, starts_of, rows_with_value, next_row}
 use Rattle.col_model.specs.Order.{stack, shuffle, picks}
-use Rattle.col_model.specs.Ascending.{differences}
+use Rattle.col_common.specs.Ascending.{differences}
 
 abbrev order_of : Bool → Result (List ℕ) Refusal
 order_of reversed = content_after_all [] (recorded 0 (codes "a") types.i64 (number (pos 5)) ∷ recorded 2 (codes "a") types.i64 (number (pos 3)) ∷ recorded 3 (codes "a") types.i64 (number (pos 5)) ∷ []) >>= λ w. sort_order w (codes "a") 4 reversed

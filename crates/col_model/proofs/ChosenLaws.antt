@@ -2,6 +2,7 @@
 use Rattle.std.proofs.Common.{◌≡◌, ℕ, zero, suc, ◌^◌, ◌<◌, Bool, true, false, List, [], ◌∷◌, length, Option, Some, None, refl, sym, ap, ◌∙◌, cond}
 use Rattle.std.specs.List.{AllByRecursion, list_all}
 use Rattle.std.proofs.lemmas.Option.{none-some, same_Some}
+use Rattle.col_common.specs.Ascending.{AreBelow}
 use Rattle.col_model.specs.U64List.{values64, bitpacked_bytes}
 use Rattle.col_model.specs.Codecs.{bitpacked_body, codec_bytes, estimate, is_not_below, chosen_before, chosen_codec}
 use Rattle.col_model.specs.Laws.{ChosenIsReadBack}
@@ -33,7 +34,7 @@ chosen-estimate xs [] codec p = absurd (none-some codec p)
 chosen-estimate xs (c ∷ cs) codec p = by_estimate xs c cs codec (chosen_codec xs cs) (estimate xs c) refl (chosen-estimate xs cs codec) p
 
 -- a list is read back under each codec that has an estimate
-pub values64-estimated : (xs : List ℕ) (codec : ℕ) → HasEstimate xs codec → AllByRecursion (λ x. x < 2 ^ 64) xs → length xs < 2 ^ 32 → values64 (codec_bytes codec xs) ≡ Some xs
+pub values64-estimated : (xs : List ℕ) (codec : ℕ) → HasEstimate xs codec → AreBelow (2 ^ 64) xs → length xs < 2 ^ 32 → values64 (codec_bytes codec xs) ≡ Some xs
 values64-estimated xs zero e all len = ap values64 (codec_bytes-bitpacked xs) ∙ values64-bitpacked_bytes xs all len
 values64-estimated xs (suc zero) e all len = values64-linear xs all len
 values64-estimated xs (suc (suc zero)) e all len = values64-blockwise xs all len

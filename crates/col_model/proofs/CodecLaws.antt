@@ -2,6 +2,7 @@
 use Rattle.std.proofs.Common.{◌≡◌, ℕ, zero, suc, ◌+◌, ◌-◌, ◌*◌, ◌/◌, ◌%◌, ◌^◌, ◌<◌, ◌≤◌, inl, inr, true, List, [], ◌∷◌, ◌++◌, map, take, Some, refl, arith, lit<, append_assoc, lt_of_le_of_lt}
 use Rattle.std.specs.List.{AllByRecursion, enumerate_from}
 use Rattle.std.proofs.lemmas.Bool.{cases_eq, cases_lt, lt-ltb, le-ltb, le-leb, eq-eqb, ne_eqb, or_left}
+use Rattle.col_common.specs.Ascending.{AreBelow}
 use Rattle.col_bits.specs.Packed.{width, binary_digits, is_width}
 use Rattle.col_common.proofs.VIntLemmas.{vint-vint_bytes}
 use Rattle.col_model.specs.Stats.{least_of, greatest_of}
@@ -83,7 +84,7 @@ lowest xs = least_of (deviations (trained xs) xs)
 abbrev pub highest : List ℕ → ℕ
 highest xs = greatest_of (deviations (trained xs) xs)
 
-deviations-below : (l : ℕ × ℕ) (ps : List (ℕ × ℕ)) → AllByRecursion (λ v. v < 2 ^ 64) (map (deviation l) ps)
+deviations-below : (l : ℕ × ℕ) (ps : List (ℕ × ℕ)) → AreBelow (2 ^ 64) (map (deviation l) ps)
 deviations-below l [] = tt
 deviations-below l (p ∷ ps) = (less_wrapped-below (p.1 + half_space) (line l.0 l.1 p.0), deviations-below l ps)
 
@@ -108,7 +109,7 @@ deviations-within xs =
     (all_mapped (λ v. v ≤ highest xs) (deviation (trained xs)) ps (fold-max 0 ds).1)
 
 -- the offsets of a list from its trained line fit the line's width
-pub linear_offsets-fit : (xs : List ℕ) → AllByRecursion (λ v. v < 2 ^ (linear_line xs).offset_width) (offsets_from (linear_line xs) xs)
+pub linear_offsets-fit : (xs : List ℕ) → AreBelow (2 ^ (linear_line xs).offset_width) (offsets_from (linear_line xs) xs)
 linear_offsets-fit xs = mapped_all (λ v. v < 2 ^ (linear_line xs).offset_width) (offset_from (linear_line xs)) (enumerate_from 0 xs) (all_by (λ p h. (linear-offset xs p h).1) (enumerate_from 0 xs) (deviations-within xs))
 
 -- ---- blocks
@@ -117,7 +118,7 @@ linear_offsets-fit xs = mapped_all (λ v. v < 2 ^ (linear_line xs).offset_width)
 abbrev pub bare_line : List ℕ → LinearParams
 bare_line xs = record { slope = (line_of xs).0; intercept = (line_of xs).1; offset_width = 0 }
 
-offsets-below : (l : LinearParams) (ps : List (ℕ × ℕ)) → AllByRecursion (λ v. v < 2 ^ 64) (map (offset_from l) ps)
+offsets-below : (l : LinearParams) (ps : List (ℕ × ℕ)) → AreBelow (2 ^ 64) (map (offset_from l) ps)
 offsets-below l [] = tt
 offsets-below l (p ∷ ps) = (less_wrapped-below p.1 (line l.slope l.intercept p.0), offsets-below l ps)
 
@@ -125,7 +126,7 @@ greatest_offset-below : (l : LinearParams) (xs : List ℕ) → greatest_of (offs
 greatest_offset-below l xs = fold-max-one (λ v. v < 2 ^ 64) 0 (offsets_from l xs) (lit< tt) (offsets-below l (enumerate_from 0 xs))
 
 -- the offsets of a block from its line fit the line's width
-pub block_offsets-fit : (xs : List ℕ) → AllByRecursion (λ v. v < 2 ^ (block_line xs).offset_width) (offsets_from (block_line xs) xs)
+pub block_offsets-fit : (xs : List ℕ) → AreBelow (2 ^ (block_line xs).offset_width) (offsets_from (block_line xs) xs)
 unfolding block_line
 block_offsets-fit xs =
     let os = offsets_from (bare_line xs) xs in

@@ -5,7 +5,7 @@ use Rattle.std.proofs.lemmas.Bool.{true≢false}
 use Rattle.std.proofs.lemmas.List.Sums.{sum_by-cons}
 use Rattle.std.proofs.lemmas.List.{map-id}
 use Rattle.std.proofs.lemmas.List.FromFn.{map-range_with_len_more}
-use Rattle.col_model.specs.Ascending.{differences}
+use Rattle.col_common.specs.Ascending.{differences}
 use Rattle.col_model.specs.Limits.{cell_count}
 use Rattle.col_model.specs.Table.{Cell}
 

@@ -5,6 +5,7 @@ use Rattle.std.specs.Int.{div_ceil}
 use Rattle.std.proofs.lemmas.Bool.{and_parts, ltb-true, eqb-true, leb-true}
 use Rattle.std.proofs.lemmas.Option.{option_and_then_some, cond_some, same_Some}
 use Rattle.std.proofs.lemmas.Nat.{pow_pos}
+use Rattle.col_common.specs.Ascending.{AreBelow}
 use Rattle.col_common.specs.Reading.{IsBytes, only_if, ◌>>=◌}
 use Rattle.col_common.specs.VInt.{vint, vint_bytes}
 use Rattle.col_bits.specs.Packed.{number_of, digits, packed, packed_bytes, width}
@@ -14,7 +15,7 @@ use Rattle.col_common.proofs.VIntLemmas.{vint_bytes-vint}
 use Rattle.col_model.proofs.StatsLaws.{map-map, map-same}
 use Rattle.col_bits.proofs.PackedLemmas.{digits-number_of, number_of-digits, length-digits, pow-pow}
 
-pub bytes_by_recursion : (bytes : List ℕ) → IsBytes bytes → AllByRecursion (λ b. b < 256) bytes
+pub bytes_by_recursion : (bytes : List ℕ) → IsBytes bytes → AreBelow 256 bytes
 bytes_by_recursion [] b = tt
 bytes_by_recursion (c ∷ bytes) b = (b 0, bytes_by_recursion bytes (λ i. b (suc i)))
 

@@ -6,6 +6,7 @@ use Rattle.std.proofs.lemmas.Nat.{pow_pos, shr-shr, mul-add-lt}
 use Rattle.std.proofs.lemmas.Option.{cond_some}
 use Rattle.std.proofs.lemmas.Bool.{and_parts, eqb-true}
 use lib.Pow.{field, mod-mod-pow}
+use Rattle.col_common.specs.Ascending.{AreBelow}
 use Rattle.col_bits.specs.Packed.{number_of, digits, packed}
 use Rattle.col_model.specs.PackedBits.{bit_of_bytes, PackedHasBits}
 use Rattle.col_bits.proofs.PackedLemmas.{digits-at, digits-number_of, pow-pow}
@@ -26,7 +27,7 @@ item-bit n w count i j p q =
     ∙ ap (λ x. x % 2) (ap (λ x. n / x / 2 ^ j) (pow-pow w i) ∙ shr-shr n (i * w) j)
 
 -- so are those of a byte
-byte-bit : (bytes : List ℕ) (b : ℕ) → AllByRecursion (λ d. d < 256) bytes → b / 8 < length bytes → bit_of_bytes bytes b ≡ bit_at (number_of 256 bytes) b
+byte-bit : (bytes : List ℕ) (b : ℕ) → AreBelow 256 bytes → b / 8 < length bytes → bit_of_bytes bytes b ≡ bit_at (number_of 256 bytes) b
 byte-bit bytes b all p =
     let n = number_of 256 bytes in
     let same : digits (2 ^ 8) (length bytes) n ≡ bytes = digits-number_of 256 bytes (lit< tt) all in

@@ -6,6 +6,7 @@ use Rattle.std.specs.List.{AllByRecursion}
 use Rattle.std.specs.Int.{◌∣◌}
 use Rattle.std.proofs.lemmas.Bool.{and_from, lt-ltb, le-leb, eq-eqb, cases_eq, cases_lt, or_left, or_right}
 use native.Mathlib.Nat.{mul-div_cancel', dvd-zero, le_of_dvd}
+use Rattle.col_common.specs.Ascending.{AreBelow}
 use Rattle.col_model.specs.Stats.{Stats, stats_of, stats_at, stats_bytes, steps_of, are_possible, same_stats, least_of, greatest_of, gcd_of, at_least_one}
 use Rattle.col_bits.specs.Packed.{width, packed, packed_bytes}
 use Rattle.col_model.specs.U64List.{values64, bitpacked_bytes, bitpacked_values}
@@ -60,7 +61,7 @@ pub record Describes (xs : List ℕ) (s : Stats) : Type 0 where
   pub flat : s.greatest ≤ s.least → s.divisor ≡ 1
   pub count : s.count ≡ length xs
 
-pub stats_of-describes : (xs : List ℕ) → AllByRecursion (λ x. x < 2 ^ 64) xs → Describes xs (stats_of xs)
+pub stats_of-describes : (xs : List ℕ) → AreBelow (2 ^ 64) xs → Describes xs (stats_of xs)
 unfolding stats_of
 stats_of-describes xs all =
     let fits : greatest_of xs < 2 ^ 64 = fold-max-one (λ x. x < 2 ^ 64) 0 xs (lit< tt) all in
@@ -93,7 +94,7 @@ steps-positive xs s d p =
       | inr n ↦ omega (arith, n)
     ]
 
-pub are_possible-described : (xs : List ℕ) → AllByRecursion (λ x. x < 2 ^ 64) xs → length xs < 2 ^ 32 → let s = stats_of xs in are_possible s.least s.divisor (steps_of s) s.count ≡ true
+pub are_possible-described : (xs : List ℕ) → AreBelow (2 ^ 64) xs → length xs < 2 ^ 32 → let s = stats_of xs in are_possible s.least s.divisor (steps_of s) s.count ≡ true
 are_possible-described xs all len =
     let s = stats_of xs in
     let d = stats_of-describes xs all in
@@ -121,7 +122,7 @@ steps_list s xs = map (λ x. (x - s.least) / s.divisor) xs
 div-mono : (m n k : ℕ) → 0 < k → m ≤ n → m / k ≤ n / k
 div-mono m n k p h = le-div (m / k) n k p (le_trans (div-mul-le_self m k) h)
 
-steps_list-bound : (xs : List ℕ) (s : Stats) → Describes xs s → AllByRecursion (λ k. k < 2 ^ width (steps_of s)) (steps_list s xs)
+steps_list-bound : (xs : List ℕ) (s : Stats) → Describes xs s → AreBelow (2 ^ width (steps_of s)) (steps_list s xs)
 steps_list-bound xs s d = mapped_all (λ k. k < 2 ^ width (steps_of s)) (λ x. (x - s.least) / s.divisor) xs
     (all_by (λ x p. lt_of_le_of_lt (div-mono (x - s.least) (s.greatest - s.least) s.divisor d.positive (omega (arith, p))) (width-above (steps_of s) (steps-bound xs s d))) xs d.within)
 
@@ -131,7 +132,7 @@ steps_list-back xs s d = map-map (λ x. (x - s.least) / s.divisor) (λ k. s.leas
     (all_by (λ x p. rw (mul-div_cancel' s.divisor p.1) (omega (arith, p.0))) xs (all_both (λ x. s.least ≤ x) (λ x. s.divisor ∣ x - s.least) xs d.below d.divides))
 
 -- A list is read back from its bytes under Bitpacked.
-pub values64-bitpacked_bytes : (xs : List ℕ) → AllByRecursion (λ x. x < 2 ^ 64) xs → length xs < 2 ^ 32 → values64 (bitpacked_bytes xs) ≡ Some xs
+pub values64-bitpacked_bytes : (xs : List ℕ) → AreBelow (2 ^ 64) xs → length xs < 2 ^ 32 → values64 (bitpacked_bytes xs) ≡ Some xs
 unfolding values64 bitpacked_values
 values64-bitpacked_bytes xs all len =
     let s = stats_of xs in

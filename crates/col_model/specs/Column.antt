@@ -4,7 +4,7 @@ use Rattle.std.specs.Int.{w32, w64}
 use Rattle.std.specs.List.{list_all}
 use Rattle.col_common.specs.Reading.{◌>>=◌, only_if, parts_by_first}
 use Rattle.col_model.specs.U64List.{values64}
-use Rattle.col_model.specs.Ascending.{are_below}
+use Rattle.col_common.specs.Ascending.{are_below}
 use Rattle.col_model.specs.Images.{is_image_of_bool}
 use Rattle.col_model.specs.AddressList.{values128}
 use Rattle.col_model.specs.Dictionary.{cut, terms}

@@ -2,7 +2,7 @@
 use Rattle.std.specs.Prelude.{ℕ, ◌==◌, ◌&&◌, List, [], ◌∷◌, length, sum, Option, take, drop}
 use Rattle.std.specs.Int.{w32}
 use Rattle.col_common.specs.Reading.{◌>>=◌, only_if, le_number, items}
-use Rattle.col_model.specs.Ascending.{is_ascending, is_never_falling, differences}
+use Rattle.col_common.specs.Ascending.{is_ascending, is_never_falling, differences}
 
 -- the list cut into runs of these lengths
 unfoldable pub cut : {A : Type 0} → List ℕ → List A → List (List A)

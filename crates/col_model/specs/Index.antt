@@ -6,7 +6,7 @@ use Rattle.std.specs.Bool.{nat_eq}
 use Rattle.col_common.specs.Reading.{◌>>=◌, only_if, parts_by_first}
 use Rattle.col_common.specs.VInt.{vint}
 use Rattle.col_model.specs.U64List.{values64}
-use Rattle.col_model.specs.Ascending.{are_below, is_rising, is_never_falling, differences}
+use Rattle.col_common.specs.Ascending.{are_below, is_rising, is_never_falling, differences}
 use Rattle.col_model.specs.Table.{Cardinality, full, optional, multivalued, cardinality_of_code}
 
 -- the cardinality, and for each row its number of values

@@ -5,7 +5,7 @@ use Rattle.std.specs.List.{list_all}
 use Rattle.std.specs.Str.{is_utf8}
 use Rattle.col_common.specs.Reading.{◌>>=◌, only_if, nothing_left, front, back, le_number, items}
 use Rattle.col_common.specs.VInt.{vint}
-use Rattle.col_model.specs.Ascending.{is_ascending}
+use Rattle.col_common.specs.Ascending.{is_ascending}
 use Rattle.col_model.specs.ColumnType.{ColumnType, type_code, type_of_code, is_numerical}
 use Rattle.col_model.specs.Version.{version_of}
 

@@ -5,7 +5,7 @@ use Rattle.std.specs.List.{AllByRecursion}
 use Rattle.col_common.specs.Reading.{IsBytes}
 use Rattle.col_common.specs.VInt.{vint, vint_bytes}
 use Rattle.col_model.specs.Stats.{stats_of, least_of, greatest_of}
-use Rattle.col_model.specs.Ascending.{AreBelow}
+use Rattle.col_common.specs.Ascending.{AreBelow}
 use Rattle.col_model.specs.U64List.{values64, bitpacked_bytes}
 use Rattle.col_model.specs.Codecs.{codec_bytes, chosen_codec}
 

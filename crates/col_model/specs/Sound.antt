@@ -2,7 +2,7 @@
 use Rattle.std.specs.Prelude.{◌≡◌, ℕ, ◌<◌, ◌^◌, ◌==◌, nat_le, IsTrue, Bool, true, false, List, [], map, filter, length, bytes_eq, Some}
 use Rattle.std.specs.List.{list_all, list_any, AllByRecursion}
 use Rattle.col_common.specs.Reading.{IsBytes}
-use Rattle.col_model.specs.Ascending.{is_ascending}
+use Rattle.col_common.specs.Ascending.{is_ascending}
 use Rattle.col_model.specs.ColumnType.{is_numerical, has_terms}
 use Rattle.col_model.specs.Table.{Cell, number, text, Cardinality, full, optional, multivalued, Column, Table}
 use Rattle.col_model.specs.Keys.{Key, key_bytes, is_name}

@@ -1,6 +1,7 @@
 -- A list that is collected by a walk.
 use Rattle.std.proofs.Common.{◌≡◌, ℕ, ◌+◌, ◌-◌, ◌<◌, ◌≤◌, ◌^◌, List, [], ◌∷◌, ◌++◌, length, sym, ◌∙◌, ap, arith, append_assoc, append-nil, length-append, subst}
 use Rattle.std.specs.List.{AllByRecursion}
+use Rattle.col_common.specs.Ascending.{AreBelow}
 use Rattle.col_model.specs.Stats.{stats_of}
 use Rattle.col_model.proofs.StatsLaws.{all_by, fold-max}
 use Rattle.col_codecs.specs.ColumnStats.{collected_of}
@@ -51,7 +52,7 @@ pub collected-room : (s : Collected) (count : ℕ) (left items : List ℕ) → c
 collected-room s count left items fits below c = omega (arith, collected-count s c.found c.collected.is, c.collected.count_is)
 
 -- each item is at most the greatest
-pub fits-below : (xs : List ℕ) (top : ℕ) → (stats_of xs).greatest ≡ top → top < 2 ^ 64 → AllByRecursion (λ x. x < 2 ^ 64) xs
+pub fits-below : (xs : List ℕ) (top : ℕ) → (stats_of xs).greatest ≡ top → top < 2 ^ 64 → AreBelow (2 ^ 64) xs
 unfolding stats_of
 fits-below xs top e fits = all_by (λ x p. omega (arith, p, e)) xs (fold-max 0 xs).1
 

@@ -2,6 +2,7 @@
 use Rattle.std.proofs.Common.{◌≡◌, ℕ, zero, suc, ◌<◌, ◌≤◌, ◌^◌, nat_lt, max, Bool, true, List, [], ◌∷◌, length, Contains, Option, Some, None, refl, sym, ap, ◌∙◌, arith, subst, slice_index, cond, inl, inr}
 use Rattle.std.specs.Option.{option_map, IfNone}
 use Rattle.std.proofs.lemmas.Option.{none-some}
+use Rattle.col_common.specs.Ascending.{AreBelow}
 use Rattle.col_numbers.specs.CodecTypes.{code_of}
 use Rattle.col_numbers.specs.declared.codec_type.CodecType.{CodecType}
 use Rattle.std.specs.List.{AllByRecursion, All, list_all}
@@ -51,7 +52,7 @@ module _ (is_image : ℕ → Bool) where
   pub greatest-tells : ImagesReachDown is_image → (xs : List ℕ) → 0 < length xs → is_image (greatest_of xs) ≡ list_all is_image xs
   greatest-tells down xs some = both-ways _ _ (all-below down xs (greatest_of xs) (fold-max 0 xs).1) (greatest-image xs some)
 
-  all_passed : (xs : List ℕ) → AllByRecursion (λ n. n < 2 ^ 64) xs → list_all is_image xs ≡ true → AllByRecursion (Passes (is_seen (is_below (2 ^ 64)) (λ n. n) is_image)) xs
+  all_passed : (xs : List ℕ) → AreBelow (2 ^ 64) xs → list_all is_image xs ≡ true → AllByRecursion (Passes (is_seen (is_below (2 ^ 64)) (λ n. n) is_image)) xs
   all_passed [] fit t = tt
   all_passed (x ∷ xs) fit t =
       let p = and_parts _ _ t in
@@ -59,11 +60,11 @@ module _ (is_image : ℕ → Bool) where
       (and_from _ _ below (and_from _ _ below p.0), all_passed xs fit.1 p.1)
 
   -- images of 64 bits can be seen as they are
-  pub images-seen : (xs : List ℕ) → AllByRecursion (λ n. n < 2 ^ 64) xs → list_all is_image xs ≡ true → All (Passes (is_seen (is_below (2 ^ 64)) (λ n. n) is_image)) xs
+  pub images-seen : (xs : List ℕ) → AreBelow (2 ^ 64) xs → list_all is_image xs ≡ true → All (Passes (is_seen (is_below (2 ^ 64)) (λ n. n) is_image)) xs
   images-seen xs fit t = All-from_recursion (Passes (is_seen (is_below (2 ^ 64)) (λ n. n) is_image)) xs (all_passed xs fit t)
 
 -- each item fits where the greatest one does
-pub all-fit : (xs : List ℕ) (top : ℕ) → top ≡ greatest_of xs → top < 2 ^ 64 → AllByRecursion (λ n. n < 2 ^ 64) xs
+pub all-fit : (xs : List ℕ) (top : ℕ) → top ≡ greatest_of xs → top < 2 ^ 64 → AreBelow (2 ^ 64) xs
 all-fit xs top e fits = all_by (λ x p. omega (arith, p, e)) xs (fold-max 0 xs).1
 
 none_behind : (code : ℕ) (o : Option (Stats × List ℕ)) → 3 ≤ code → (o >>= λ s. values_by code s.0 s.1 >>= λ xs. only_if (same_stats (stats_of xs) s.0) xs) ≡ None

@@ -2,6 +2,7 @@
 use Rattle.std.proofs.Common.{◌≡◌, ℕ, ◌==◌, ◌<◌, ◌^◌, true, List, [], ◌∷◌, length, map, Option, Some, None, Result, Ok, Err, OnOk, refl, sym, arith, subst}
 use Rattle.std.specs.Option.{IfSome}
 use Rattle.std.specs.List.{AllByRecursion}
+use Rattle.col_common.specs.Ascending.{AreBelow}
 use Rattle.col_common.specs.Outside.{SeenSink}
 use Rattle.col_common.specs.Serializing.{Serializes}
 use Rattle.col_common.specs.declared.error.ColumnarError.{ColumnarError}
@@ -27,7 +28,7 @@ pub nothing_offered : {A : Type 0} (f : A → ℕ) (cs : List A) (xs : List ℕ)
 nothing_offered f cs xs P e = subst (λ o. IfSome o P) (sym (none_offered f cs xs e)) tt
 
 -- the bytes under the chosen codec stand for the list
-pub appends_list : (old new : SeenSink) (result : Result (Unit {0}) ColumnarError) (xs codecs : List ℕ) (codec : ℕ) → AllByRecursion (λ x. x < 2 ^ 64) xs → length xs < 2 ^ 32 → chosen_codec xs codecs ≡ Some codec → Serializes old new result (codec_bytes codec xs) → OnOk result (AppendsList old new xs)
+pub appends_list : (old new : SeenSink) (result : Result (Unit {0}) ColumnarError) (xs codecs : List ℕ) (codec : ℕ) → AreBelow (2 ^ 64) xs → length xs < 2 ^ 32 → chosen_codec xs codecs ≡ Some codec → Serializes old new result (codec_bytes codec xs) → OnOk result (AppendsList old new xs)
 appends_list old new (Ok done) xs codecs codec all fits e s = (codec_bytes codec xs, values64-chosen codecs xs codec all fits e, s.ok)
 appends_list old new (Err refusal) xs codecs codec all fits e s = tt
 

@@ -1,6 +1,7 @@
 //! Values of a type: a list of numbers that is read, one that is coerced, or none.
 ghost use Rattle.std.specs.Prelude.{◌≡◌, ◌≤◌, ◌<◌, ◌^◌, ◌∷◌, length, map, drop, pos, nat_abs, true, option_map, None, IfSome, IfNone};
 ghost use Rattle.std.specs.List.{AllByRecursion, list_all};
+ghost use Rattle.col_common.specs.Ascending.{AreBelow};
 ghost use Rattle.col_common.specs.Decoding.{Decodes};
 ghost use Rattle.col_model.specs.Images.{images64};
 ghost use Rattle.col_model.specs.U64List.{values64};
@@ -159,7 +160,7 @@ fn is_each_image<T: MonotonicallyMappableToU64>(values: &U64Values) -> bool
 // The same, which the greatest number tells where images reach down.
 fn are_images<T: MonotonicallyMappableToU64>(values: &U64Values) -> bool
     ensures images { result ≡ list_all T.is_code (list_of values.now) }
-    ensures fit { AllByRecursion (λ n. n < 2 ^ 64) (list_of values.now) }
+    ensures fit { AreBelow (2 ^ 64) (list_of values.now) }
 {
     let greatest = values.max_value();
     if values.num_vals() == 0 {

@@ -1,8 +1,8 @@
 //! A list of numbers, seen through a map as values of a type.
 ghost use Rattle.std.specs.Prelude.{◌≡◌, ◌+◌, ◌≤◌, ◌<◌, length, take, drop, map, slice_get, Some};
 ghost use Rattle.std.specs.List.{All};
+ghost use Rattle.col_common.specs.Ascending.{AreBelow};
 ghost use Rattle.col_values.specs.Monotonic.{Passes};
-ghost use Rattle.col_values.specs.Values.{AreBelow};
 ghost use Rattle.col_numbers.specs.Views.{is_seen, IsLeastOf, IsGreatestOf};
 ghost use Rattle.col_numbers.specs.Readers.{list_of};
 
@@ -218,7 +218,7 @@ where
     M: StrictlyMonotonicFn<u64, u64>,
     requires seen { All (Passes (is_seen (M.is_in mapping.now) (M.there mapping.now) T.is_code))
         (list_of values.now) }
-    requires below { AreBelow indexes.now (length (list_of values.now)) }
+    requires below { AreBelow (length (list_of values.now)) indexes.now }
     requires alike { length indexes.now ≡ length output.old }
     requires room { 0 < length block.old }
     ensures { map Some output.new ≡ map (slice_get
@@ -246,7 +246,7 @@ where
     M: StrictlyMonotonicFn<u64, u64>,
     requires seen { All (Passes (is_seen (M.is_in mapping.now) (M.there mapping.now) T.is_code))
         (list_of values.now) }
-    requires below { AreBelow indexes.now (length (list_of values.now)) }
+    requires below { AreBelow (length (list_of values.now)) indexes.now }
     requires alike { length indexes.now ≡ length output.old }
     requires room { 0 < length block.old }
     ensures { output.new ≡ map (slice_get

@@ -1,6 +1,7 @@
 //! Lists of numbers, written under the codec that takes the fewest bytes.
 ghost use Rattle.std.specs.Prelude.{◌≡◌, ◌≤◌, ◌<◌, ◌^◌, ℕ, List, [], ◌∷◌, ◌++◌, map, length, option_map, ◌⊎◌, Some, None, Err, IfOk, IfErr, IfSome, IfNone, OnOk};
 ghost use Rattle.std.specs.List.{AllByRecursion};
+ghost use Rattle.col_common.specs.Ascending.{AreBelow};
 ghost use Rattle.col_common.specs.Decoding.{Decodes};
 ghost use Rattle.col_numbers.specs.NumValues.{num_values_of, images_of};
 ghost use Rattle.col_numbers.specs.Readers.{list_of};
@@ -55,7 +56,7 @@ impl<'a, T: MonotonicallyMappableToU64, I: Iterable<T>> Iterable<u64> for Number
 pub fn collect_stats<I: Iterable<u64>>(vals: &I) -> Option<ColumnStats>
     ensures stats { IfSome result (λ s. stats_seen s ≡ stats_of (I.items vals.now)) }
     ensures count { IfSome result (λ s. length (I.items vals.now) < 2 ^ 32) }
-    ensures fit { IfSome result (λ s. AllByRecursion (λ x. x < 2 ^ 64) (I.items vals.now)) }
+    ensures fit { IfSome result (λ s. AreBelow (2 ^ 64) (I.items vals.now)) }
     ensures none { IfNone result (2 ^ 32 ≤ length (I.items vals.now)) }
 {
     let mut collector = StatsCollector::default();

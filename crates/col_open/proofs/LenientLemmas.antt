@@ -14,7 +14,7 @@ use Rattle.col_column.specs.Columns.{Seen, IsCounted, counts_by, rows_by, conten
 use Rattle.col_column.specs.Opened.{counted_rows}
 use Rattle.col_compact.specs.Coded.{Coded, numbers_of}
 use Rattle.col_index.specs.Offsets.{cardinality_in}
-use Rattle.col_model.specs.Ascending.{are_below}
+use Rattle.col_common.specs.Ascending.{are_below, AreBelow}
 use Rattle.col_model.specs.AddressList.{coded_number}
 use Rattle.col_model.specs.Column.{number_rows, term_column, number_cell, content_of, column}
 use Rattle.col_model.specs.ColumnType.{ColumnType, has_terms, same_type}
@@ -206,7 +206,7 @@ module _ (bytes : List ℕ) (version rows : ℕ) where
         xs : List ℕ
         xs = num_values_of c.values
 
-        below : (k : ℕ) → are_below k xs ≡ true → All (λ n. n < k) xs
+        below : (k : ℕ) → are_below k xs ≡ true → AreBelow k xs
         below k e i d within = ltb-true (get_or xs i d) k (AllPass-from_list_all (λ n. nat_lt n k) xs e i d within)
 
         at : (o : Option (List (List ℕ))) → terms a ≡ o → option_map length o ≡ Some count → DecodesTo (IsInPlaceOf types.bytes) r (column bytes types.bytes version rows)

@@ -1,6 +1,7 @@
 -- Columns of any type as columns of numbers.
 use Rattle.std.specs.Prelude.{◌≡◌, ◌<◌, ℕ, true, length}
 use Rattle.std.specs.List.{All}
+use Rattle.col_common.specs.Ascending.{AreBelow}
 use Rattle.col_model.specs.ColumnType.{ColumnType, has_terms, same_type}
 use Rattle.col_model.specs.ColumnType as types
 use Rattle.col_model.specs.Table.{Content}
@@ -17,7 +18,7 @@ pub record IsInPlaceOf (t : ColumnType) (content : Content) (c : Seen LenientVal
     pub cells : content
         ≡ content_seen content.terms (lenient_cell t content.terms c.values) c.shape
         (lenient_values_of c.values)
-    pub ordinals : has_terms t ≡ true → All (λ n. n < length content.terms)
+    pub ordinals : has_terms t ≡ true → AreBelow (length content.terms)
         (lenient_values_of c.values)
     pub codes : are_codes c.values ≡ same_type t types.ip
 

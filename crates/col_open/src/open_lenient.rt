@@ -7,7 +7,7 @@ ghost use Rattle.col_column.specs.Columns.{IsCounted};
 ghost use Rattle.col_index.specs.Versions.{version_number};
 ghost use Rattle.col_model.specs.Column.{column};
 ghost use Rattle.col_model.specs.ColumnType as types;
-ghost use Rattle.col_model.specs.Ascending.{are_below};
+ghost use Rattle.col_common.specs.Ascending.{are_below};
 ghost use Rattle.col_model.specs.Dictionary.{terms};
 ghost use Rattle.col_numbers.specs.NumValues.{num_values_of};
 ghost use Rattle.col_types.specs.Kinds.{kind_of};

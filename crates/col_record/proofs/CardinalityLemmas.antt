@@ -5,7 +5,7 @@ use Rattle.std.specs.List.{list_all, last_or, range_with_len}
 use Rattle.std.proofs.lemmas.Bool.{and_parts, and_from}
 use Rattle.std.proofs.lemmas.List.Sums.{sum_by-cons}
 use Rattle.std.proofs.lemmas.List.FromFn.{length-map-range_with_len}
-use Rattle.col_model.specs.Ascending.{is_never_falling, is_rising}
+use Rattle.col_common.specs.Ascending.{is_never_falling, is_rising}
 use Rattle.col_model.specs.Table.{Cardinality, full, optional, multivalued}
 use Rattle.col_index.proofs.RankLaws.{tail_rises}
 use Rattle.col_rows.proofs.DocumentLemmas.{last_or-found}

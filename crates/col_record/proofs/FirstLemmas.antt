@@ -7,7 +7,7 @@ use Rattle.std.proofs.lemmas.List.{length-replicate, get_or-replicate}
 use Rattle.std.proofs.lemmas.List.FromFn.{length-map-range_with_len, get_or-map-range_with_len}
 use Rattle.std.proofs.lemmas.List.Folds.{list_all-append}
 use Rattle.std.proofs.lemmas.Grind.{same_number_lists}
-use Rattle.col_model.specs.Ascending.{is_never_falling}
+use Rattle.col_common.specs.Ascending.{is_never_falling}
 use Rattle.col_rows.proofs.DocumentLemmas.{last_or-found}
 use Rattle.col_record.specs.Sorting.{first_key, with_first}
 use Rattle.col_record.proofs.CardinalityLemmas.{last-greatest}

@@ -2,6 +2,7 @@
 use Rattle.std.specs.Prelude.{◌≡◌, ℕ, ◌<◌, IsTrue, true, List}
 use Rattle.std.specs.List.{AllByRecursion}
 use Rattle.std.specs.Str.{is_utf8}
+use Rattle.col_common.specs.Ascending.{AreBelow}
 use Rattle.col_model.specs.ColumnType.{ColumnType, has_terms}
 use Rattle.col_model.specs.Category.{Category, category_of}
 use Rattle.col_model.specs.Soundness.{IsSoundEntry}
@@ -21,4 +22,4 @@ AreSoundTexts texts = (t : ColumnType) → has_terms t ≡ true
 
 -- each number is below a limit
 abbrev pub Fit : ℕ → List ℕ → Type 0
-Fit limit numbers = AllByRecursion (λ n. n < limit) numbers
+Fit limit numbers = AreBelow limit numbers

@@ -10,7 +10,7 @@ use Rattle.col_common.specs.Reading.{◌>>=◌}
 use Rattle.col_common.specs.declared.error.ColumnarError.{ColumnarError}
 use Rattle.col_common.proofs.OnOkLemmas.{on_ok-map}
 use Rattle.col_model.specs.AddressList.{least_codes}
-use Rattle.col_model.specs.Ascending.{are_below, is_never_falling}
+use Rattle.col_common.specs.Ascending.{are_below, is_never_falling}
 use Rattle.col_model.specs.Column.{number_rows, number_cell, is_stored, term_column, content_of, column}
 use Rattle.col_model.specs.ColumnType.{ColumnType, has_terms}
 use Rattle.col_model.specs.Dictionary.{cut}

@@ -3,7 +3,7 @@ use Rattle.std.proofs.Common.{◌≡◌, ◌<◌, ℕ, zero, suc, ◌+◌, ◌-�
 use Rattle.std.specs.Prelude.{nat_le, not, is_some, MatchOption, option_to_list}
 use Rattle.std.specs.List.{range_with_len}
 use Rattle.std.proofs.lemmas.Bool.{and_parts, and_from}
-use Rattle.col_model.specs.Ascending.{is_never_falling}
+use Rattle.col_common.specs.Ascending.{is_never_falling}
 use Rattle.col_model.proofs.ListLaws.{range-more}
 use Rattle.col_rows.specs.Documents.{dense_then, IsCut}
 use Rattle.col_rows.proofs.DocumentLemmas.{append-none, dense_then-push}

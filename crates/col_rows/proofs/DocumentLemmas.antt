@@ -4,7 +4,7 @@ use Rattle.std.specs.Prelude.{nat_lt, nat_le, ◌&&◌, ◌==◌, option_map, sl
 use Rattle.std.specs.List.{last_or, range_with_len}
 use Rattle.std.proofs.lemmas.Bool.{and_parts, and_from}
 use Rattle.std.proofs.lemmas.List.FromFn.{length-range_with_len}
-use Rattle.col_model.specs.Ascending.{is_never_falling, is_rising}
+use Rattle.col_common.specs.Ascending.{is_never_falling, is_rising}
 use Rattle.col_model.proofs.ListLaws.{range-more}
 use Rattle.col_rows.specs.Documents.{dense_then, is_late_doc, all_from}
 

@@ -10,7 +10,7 @@ use Rattle.col_common.specs.Outside.{SeenSink}
 use Rattle.col_common.specs.Serializing.{Serializes}
 use Rattle.col_common.specs.declared.error.ColumnarError.{ColumnarError}
 use Rattle.col_common.proofs.OnOkLemmas.{on_ok-map}
-use Rattle.col_model.specs.Ascending.{is_rising, is_never_falling, are_below}
+use Rattle.col_common.specs.Ascending.{is_rising, is_never_falling, are_below}
 use Rattle.col_model.specs.Column.{number_rows}
 use Rattle.col_model.specs.ColumnType.{ColumnType}
 use Rattle.col_model.specs.Dictionary.{cut}

@@ -8,7 +8,7 @@ use Rattle.std.proofs.lemmas.List.{take_more}
 use Rattle.std.proofs.lemmas.List.FromFn.{length-map-range_with_len, get_or-map-range_with_len, length-range_with_len}
 use Rattle.std.proofs.lemmas.List.Sums.{sum_by-cons}
 use Rattle.std.proofs.lemmas.Grind.{same_number_lists}
-use Rattle.col_model.specs.Ascending.{are_below}
+use Rattle.col_common.specs.Ascending.{are_below}
 use Rattle.col_model.specs.Written.{doc_at, is_permutation}
 use Rattle.col_rows.specs.RowOrders.{docs_placed, AreRowDocs, first_doc, first_docs, noted}
 use Rattle.col_rows.specs.declared.row_order.TheConstants.{NO_DOC}

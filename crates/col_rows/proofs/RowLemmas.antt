@@ -6,7 +6,7 @@ use Rattle.std.proofs.lemmas.Bool.{and_parts, and_from}
 use Rattle.std.proofs.lemmas.List.Sums.{length-filter, sum_by-cons, sum-map}
 use Rattle.std.proofs.lemmas.Slice.Zip.{firsts-zip, seconds-zip}
 use Rattle.std.proofs.lemmas.List.{length-map}
-use Rattle.col_model.specs.Ascending.{is_never_falling, are_below}
+use Rattle.col_common.specs.Ascending.{is_never_falling, are_below}
 use Rattle.col_model.specs.U64List.{joined_lists}
 use Rattle.col_model.specs.Dictionary.{cut}
 use Rattle.col_rows.specs.Documents.{docs_of}

@@ -16,7 +16,7 @@ use Rattle.col_common.specs.Serializing.{Serializes}
 use Rattle.col_common.specs.declared.error.ColumnarError.{ColumnarError}
 use Rattle.col_common.proofs.SerializingLemmas.{serializes-then}
 use Rattle.col_common.proofs.OnOkLemmas.{on_ok-map, on_ok-always}
-use Rattle.col_model.specs.Ascending.{are_below}
+use Rattle.col_common.specs.Ascending.{are_below}
 use Rattle.col_model.specs.Column.{number_rows, is_stored, term_cell, term_column, content_of, column}
 use Rattle.col_model.specs.ColumnType.{ColumnType, has_terms}
 use Rattle.col_model.specs.ColumnType as types

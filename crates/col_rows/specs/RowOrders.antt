@@ -1,7 +1,7 @@
 -- Which document stands at each row.
 use Rattle.std.specs.Prelude.{◌≡◌, ◌≤◌, ℕ, ◌==◌, ◌&&◌, nat_lt, Bool, true, false, List, map, length, count_by, position, slice_index, slice_set, unwrap_or, if◌then◌else◌, Option}
 use Rattle.std.specs.List.{range_with_len}
-use Rattle.col_model.specs.Ascending.{are_below}
+use Rattle.col_common.specs.Ascending.{are_below}
 use Rattle.col_model.specs.Written.{doc_at}
 use Rattle.col_rows.specs.declared.row_order.TheConstants.{NO_DOC}
 

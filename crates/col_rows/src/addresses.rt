@@ -1,7 +1,7 @@
 //! Writes columns of addresses.
 ghost use Rattle.std.specs.Prelude.{◌≡◌, ◌<◌, ◌^◌, true, false, map, zip, length};
 ghost use Rattle.col_model.specs.AddressList.{least_codes};
-ghost use Rattle.col_model.specs.Ascending.{are_below};
+ghost use Rattle.col_common.specs.Ascending.{are_below};
 ghost use Rattle.col_model.specs.ColumnType as types;
 ghost use Rattle.col_model.specs.U64List.{joined_lists};
 ghost use Rattle.col_indexer.specs.Spelling.{IsIndex, index_shape, is_past_limit};

@@ -1,6 +1,6 @@
 //! The documents of a column's values.
 ghost use Rattle.std.specs.Prelude.{◌≡◌, ◌-◌, ◌^◌, ◌<◌, ◌==◌, ◌&&◌, [], ◌∷◌, ◌++◌, true, false, Some, length, slice_get, IfOk, OnOk, OnErr};
-ghost use Rattle.col_model.specs.Ascending.{are_below, is_never_falling, is_rising};
+ghost use Rattle.col_common.specs.Ascending.{are_below, is_never_falling, is_rising};
 ghost use Rattle.col_rows.specs.Counted.{row_counts};
 ghost use Rattle.col_rows.specs.Documents.{is_late_doc, all_from, IsCut};
 
@@ -19,7 +19,7 @@ pub struct DocList {
 
 impl Model for DocList {
     ghost use Rattle.std.specs.Prelude.{◌≡◌, List, ℕ, true};
-    ghost use Rattle.col_model.specs.Ascending.{is_never_falling};
+    ghost use Rattle.col_common.specs.Ascending.{is_never_falling};
     ghost use Rattle.col_rows.specs.Documents.{dense_then};
 
     ghost Value = { List ℕ };

@@ -2,7 +2,7 @@
 ghost use Rattle.std.specs.Prelude.{◌≡◌, ◌<◌, ◌^◌, true, nat_le, zip, Some, bytes_eq, length, IfOk};
 ghost use Rattle.std.specs.List.{IsDistinct};
 ghost use Rattle.col_model.specs.AddressList.{least_codes};
-ghost use Rattle.col_model.specs.Ascending.{are_below};
+ghost use Rattle.col_common.specs.Ascending.{are_below};
 ghost use Rattle.col_model.specs.U64List.{joined_lists};
 ghost use Rattle.col_model.specs.Written.{is_past_ties};
 ghost use Rattle.col_terms.specs.Building.{is_too_long};

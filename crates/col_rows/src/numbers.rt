@@ -1,6 +1,6 @@
 //! Writes columns of numbers.
 ghost use Rattle.std.specs.Prelude.{◌≡◌, ◌<◌, ◌^◌, true, false, map, sum, zip, length};
-ghost use Rattle.col_model.specs.Ascending.{are_below};
+ghost use Rattle.col_common.specs.Ascending.{are_below};
 ghost use Rattle.col_model.specs.ColumnType.{ColumnType, has_terms};
 ghost use Rattle.col_model.specs.U64List.{joined_lists};
 ghost use Rattle.col_indexer.specs.Spelling.{IsIndex, index_shape, is_past_limit};

@@ -1,6 +1,6 @@
 //! Indexes of rows, on their way into a column.
 ghost use Rattle.std.specs.Prelude.{◌≡◌, ◌<◌, ◌^◌, true, sum, length, IfOk};
-ghost use Rattle.col_model.specs.Ascending.{are_below};
+ghost use Rattle.col_common.specs.Ascending.{are_below};
 ghost use Rattle.col_indexer.specs.Spelling as spelled;
 ghost use Rattle.col_indexer.specs.Written.{index_of, set_of};
 ghost use Rattle.col_rows.specs.Counted.{row_counts, CountsRows};

@@ -1,7 +1,7 @@
 //! Writes columns of texts.
 ghost use Rattle.std.specs.Prelude.{◌≡◌, ◌<◌, ◌^◌, true, false, map, zip, length, bytes_eq, IfOk};
 ghost use Rattle.std.specs.List.{range_with_len, IsDistinct};
-ghost use Rattle.col_model.specs.Ascending.{are_below};
+ghost use Rattle.col_common.specs.Ascending.{are_below};
 ghost use Rattle.col_model.specs.ColumnType.{ColumnType, has_terms};
 ghost use Rattle.col_model.specs.Limits.{dictionary_length};
 ghost use Rattle.col_model.specs.U64List.{joined_lists};

@@ -6,7 +6,7 @@ use Rattle.std.specs.Ordering.{is_eq}
 use Rattle.std.proofs.lemmas.Bool.{and_parts}
 use Rattle.std.proofs.lemmas.Cmp.{tied_itself}
 use Rattle.col_common.specs.Reading.{◌>>=◌, only_if, back}
-use Rattle.col_model.specs.Ascending.{is_ascending}
+use Rattle.col_common.specs.Ascending.{is_ascending}
 use Rattle.col_model.specs.Category.{same_slot}
 use Rattle.col_model.specs.File.{Part, PartColumn, part_column, parts_of}
 use Rattle.col_model.specs.Keys.{Key, key_bytes, are_keys, key_table, Entry, entries_from, total_length, FileKeys, FileFooter, file_footer, keys}

@@ -10,7 +10,7 @@ use Rattle.std.proofs.lemmas.Cmp.{nat_list_cmp_total}
 use Rattle.std.proofs.lemmas.List.Elements.{filter-append}
 use Rattle.std.proofs.lemmas.List.Concat.{flat_map-append}
 use Rattle.std.proofs.lemmas.List.Sorted.{IsPermutation-append_left, length_permutation, IsPermutation-sym, IsPermutation-map}
-use Rattle.col_model.specs.Ascending.{is_before, is_never_falling}
+use Rattle.col_common.specs.Ascending.{is_before, is_never_falling}
 use Rattle.col_model.specs.Sorted.{sorted_items}
 use Rattle.col_model.proofs.OrderingLaws.{less_where}
 use Rattle.col_model.proofs.StatsLaws.{all_by, mapped_all, all_both}

@@ -13,7 +13,7 @@ use Rattle.std.proofs.lemmas.List.{map-append}
 use Rattle.std.proofs.lemmas.List.Sums.{sum_by-cons}
 use Rattle.std.proofs.lemmas.List.Sorted.{IsPermutation-sym, list_any-IsPermutation, IsPermutation-map}
 use Rattle.std.proofs.lemmas.Map.Lookups.{exact_bytes, btree_set_from_contains}
-use Rattle.col_model.specs.Ascending.{is_before}
+use Rattle.col_common.specs.Ascending.{is_before}
 use Rattle.col_model.specs.Sorted.{with_item, distinct_items, inserted, sorted_items}
 use Rattle.col_model.specs.U64List.{joined_lists}
 use Rattle.col_model.proofs.DistinctLaws.{has, has-distinct, sorted-with_item}

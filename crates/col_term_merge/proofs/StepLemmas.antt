@@ -8,7 +8,7 @@ use Rattle.std.proofs.lemmas.Bool.{le-leb, true≢false}
 use Rattle.std.proofs.lemmas.List.{map-append}
 use Rattle.std.proofs.lemmas.List.Concat.{flat_map-append}
 use Rattle.std.proofs.lemmas.List.Sorted.{IsPermutation-refl, IsPermutation-trans, IsPermutation-pop_more}
-use Rattle.col_model.specs.Ascending.{is_never_falling}
+use Rattle.col_common.specs.Ascending.{is_never_falling}
 use Rattle.col_model.proofs.ListLaws.{all_push}
 use Rattle.col_model.proofs.OrderingLaws.{bytes_eq-true}
 use Rattle.col_model.proofs.StatsLaws.{all_by}

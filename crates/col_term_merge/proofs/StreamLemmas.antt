@@ -7,7 +7,7 @@ use Rattle.std.proofs.lemmas.Bool.{true≢false, and_parts}
 use Rattle.std.proofs.lemmas.Cmp.{nat_list_cmp_total}
 use Rattle.std.proofs.lemmas.List.{take_more}
 use Rattle.std.proofs.lemmas.List.Sorted.{IsPermutation-refl, IsPermutation-trans, IsPermutation-append_left, IsPermutation-append_right, IsPermutation-append_comm}
-use Rattle.col_model.specs.Ascending.{is_ascending, is_before}
+use Rattle.col_common.specs.Ascending.{is_ascending, is_before}
 use Rattle.col_model.proofs.ListLaws.{all_push}
 use Rattle.col_model.proofs.OrderingLaws.{less_where}
 use Rattle.col_model.proofs.StatsLaws.{all_by, all_mapped}

@@ -3,7 +3,7 @@ use Rattle.std.specs.Prelude.{◌≡◌, ℕ, not, Bool, true, List, [], ◌∷�
 use Rattle.std.specs.declared.cmp.Ordering.{Ordering}
 use Rattle.std.specs.Ordering.{nat_cmp, is_gt, ordering_then}
 use Rattle.std.specs.Cmp.Lexicographic.{slice_cmp}
-use Rattle.col_model.specs.Ascending.{is_ascending}
+use Rattle.col_common.specs.Ascending.{is_ascending}
 use Rattle.col_model.specs.Sorted.{sorted_items}
 use Rattle.col_terms.specs.Streams.{OrdTerm}
 use Rattle.col_term_merge.specs.declared.terms_with_segment_ord.TermsWithSegmentOrd.{TermsWithSegmentOrd}

@@ -6,7 +6,7 @@ use Rattle.std.specs.List.Sorted.{IsStrictlySortedBy}
 use Rattle.std.specs.Ordering.{nat_cmp, is_lt, ordering_then}
 use Rattle.std.specs.Cmp.Lexicographic.{slice_cmp}
 use Rattle.std.specs.BinaryHeap.{IsHeap}
-use Rattle.col_model.specs.Ascending.{is_before, is_never_falling}
+use Rattle.col_common.specs.Ascending.{is_before, is_never_falling}
 use Rattle.col_terms.specs.Streams.{OrdTerm}
 use Rattle.col_term_merge.specs.declared.terms_with_segment_ord.TermsWithSegmentOrd.{TermsWithSegmentOrd}
 use Rattle.col_term_merge.specs.Keys.{key_at, from_here}

@@ -5,7 +5,7 @@ use Rattle.std.specs.Ordering.{nat_cmp}
 use Rattle.std.specs.Cmp.Lexicographic.{slice_cmp}
 use Rattle.std.specs.declared.vec.Vec.{Vec}
 use Rattle.std.specs.declared.alloc.Global.{Global}
-use Rattle.col_model.specs.Ascending.{is_before}
+use Rattle.col_common.specs.Ascending.{is_before}
 use Rattle.col_model.specs.Sorted.{distinct_items}
 use Rattle.col_model.specs.U64List.{joined_lists}
 use Rattle.col_terms.specs.Building.{id_of}

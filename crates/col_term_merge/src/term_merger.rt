@@ -3,7 +3,7 @@ ghost use Rattle.std.specs.Prelude.{◌≡◌, ◌<◌, ◌≤◌, ◌+◌, ◌+
 ghost use Rattle.std.specs.List.{AllByRecursion};
 ghost use Rattle.std.specs.BinaryHeap.{heap_items, heap_len, heap_capacity, IsHeap};
 ghost use Rattle.std.specs.Vec.{vec_len, vec_capacity};
-ghost use Rattle.col_model.specs.Ascending.{is_never_falling};
+ghost use Rattle.col_common.specs.Ascending.{is_never_falling};
 ghost use Rattle.col_term_merge.specs.Merging.{in_order, terms_left, terms_ahead, LeftAscends};
 ghost use Rattle.col_term_merge.specs.Moves.{stream_cmp, AreReady, AreTaken, AreLater, IsLeast, IsFirstAt, LeftRises, first_key};
 

@@ -8,7 +8,7 @@ use Rattle.std.proofs.lemmas.List.Folds.{concat-append}
 use Rattle.std.proofs.lemmas.List.Sums.{sum_by-cons}
 use Rattle.std.proofs.lemmas.List.Sorted.{length_permutation, sum_by-IsPermutation}
 use Rattle.std.proofs.Math.Seq.{take-suc}
-use Rattle.col_model.specs.Ascending.{is_never_falling, differences}
+use Rattle.col_common.specs.Ascending.{is_never_falling, differences}
 use Rattle.col_model.specs.Dictionary.{cut}
 use Rattle.col_model.specs.Limits.{dictionary_length}
 use Rattle.col_terms.specs.Building.{HoldsTerms, TermRef, HasHead, AreNumbered, ord_term, ordered, counted_bytes}

@@ -3,7 +3,7 @@ use Rattle.std.proofs.Common.{◌≡◌, ℕ, zero, suc, ◌+◌, ◌-◌, ◌*�
 use Rattle.std.proofs.lemmas.Bool.{and_parts, and_from, and_left, and_right, le-leb, lt-leb, leb-true, ne_eqb}
 use Rattle.std.proofs.lemmas.Bool.Decides.{nat_tests}
 use Rattle.std.proofs.lemmas.List.{length-drop, drop-drop, drop_all}
-use Rattle.col_model.specs.Ascending.{is_before, is_ascending, is_never_falling, differences}
+use Rattle.col_common.specs.Ascending.{is_before, is_ascending, is_never_falling, differences}
 use Rattle.col_model.specs.Dictionary.{cut}
 use Rattle.col_model.proofs.ListLaws.{sum-cons}
 use Rattle.col_terms.specs.TermTable.{number_at, numbers_in, cut_whole, follows}

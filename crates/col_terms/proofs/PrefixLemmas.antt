@@ -7,7 +7,7 @@ use Rattle.std.specs.Cmp.Lexicographic.{slice_cmp}
 use Rattle.std.proofs.lemmas.Bool.{and_parts, and_from, and_left, and_right, false≢true, true≢false, eqb-true, eq-eqb, ne_eqb, cases_lt, cases_order, false_from_ne_true}
 use Rattle.std.proofs.lemmas.List.FromFn.{length-enumerate_from, get_or-enumerate_from}
 use Rattle.std.proofs.lemmas.Option.{get_or_from_slice_get}
-use Rattle.col_model.specs.Ascending.{is_before, is_ascending}
+use Rattle.col_common.specs.Ascending.{is_before, is_ascending}
 use Rattle.col_terms.specs.Lookups.{IsFirstFrom, has_prefix, IsPrefixEnd}
 use Rattle.col_terms.specs.Streams.{OrdTerm, numbered, with_prefix}
 use Rattle.col_terms.proofs.HeadLemmas.{cmp_same}

@@ -12,7 +12,7 @@ use Rattle.std.proofs.lemmas.Map.Lookups.{exact_bytes}
 use Rattle.std.proofs.lemmas.Map.Text.{is_eq-slice_cmp}
 use Rattle.std.proofs.lemmas.List.Sums.{position_or_len_is}
 use Rattle.std.proofs.lemmas.Option.{get_or_from_slice_get}
-use Rattle.col_model.specs.Ascending.{is_before, is_ascending}
+use Rattle.col_common.specs.Ascending.{is_before, is_ascending}
 use Rattle.col_terms.proofs.PlaceLemmas.{same_bytes}
 use Rattle.col_terms.specs.Lookups.{ord_of, IsAt, IsGapFor, IsFirstFrom}
 use Rattle.col_model.proofs.OrderingLaws.{less_where}

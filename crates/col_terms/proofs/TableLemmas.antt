@@ -5,7 +5,7 @@ use Rattle.std.proofs.lemmas.List.{length-drop, length-take-le, drop-drop}
 use Rattle.std.proofs.lemmas.Option.{none-some, same_Some, cond_some}
 use Rattle.std.proofs.lemmas.List.Sums.{sum_by-cons}
 use Rattle.col_common.specs.Reading.{only_if, items}
-use Rattle.col_model.specs.Ascending.{is_ascending, is_never_falling, differences}
+use Rattle.col_common.specs.Ascending.{is_ascending, is_never_falling, differences}
 use Rattle.col_model.specs.Dictionary.{cut, terms}
 use Rattle.col_model.specs.Limits.{dictionary_length}
 use Rattle.col_terms.specs.TermTable.{number_at, numbers_in, start_at, terms_by, cut_whole, terms_of, IsTable}

@@ -2,7 +2,7 @@
 use Rattle.std.proofs.Common.{◌≡◌, ℕ, zero, suc, ◌+◌, ◌-◌, Bool, true, List, [], ◌∷◌, map, take, drop, refl, ap, ◌∙◌}
 use Rattle.std.specs.List.{enumerate_from}
 use Rattle.std.proofs.lemmas.Bool.{and_parts}
-use Rattle.col_model.specs.Ascending.{is_ascending, is_before}
+use Rattle.col_common.specs.Ascending.{is_ascending, is_before}
 use Rattle.col_terms.specs.Streams.{OrdTerm, numbered, walk_between, IsWalk}
 use Rattle.col_terms.specs.TermTable.{terms_of}
 use Rattle.col_terms.proofs.TableLemmas.{table_ascending}

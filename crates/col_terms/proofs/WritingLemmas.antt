@@ -9,7 +9,7 @@ use Rattle.std.proofs.lemmas.Cmp.{nat_list_cmp_total, tied_itself}
 use Rattle.std.proofs.lemmas.List.{length-append, take_at, drop_at}
 use Rattle.std.proofs.lemmas.List.Sums.{sum_by-cons}
 use Rattle.col_common.specs.Reading.{only_if, le_number, items}
-use Rattle.col_model.specs.Ascending.{is_ascending, is_never_falling, differences}
+use Rattle.col_common.specs.Ascending.{is_ascending, is_never_falling, differences, AreBelow}
 use Rattle.col_model.specs.Dictionary.{cut, terms}
 use Rattle.col_model.specs.Limits.{dictionary_length}
 use Rattle.col_model.proofs.ReadingLaws.{le_number-w32, items-flat_map}
@@ -41,7 +41,7 @@ sizes_are start (t ∷ ts) =
     let size : start + length t - start ≡ length t = omega arith in
     ap (λ n. n ∷ differences ((start + length t) ∷ ends_from (start + length t) ts)) size ∙ ap (λ ns. length t ∷ ns) (sizes_are (start + length t) ts)
 
-ends_fit : (start : ℕ) (ts : List (List ℕ)) → start + sum_by length ts < 2 ^ 32 → AllByRecursion (λ e. e < 2 ^ 32) (ends_from start ts)
+ends_fit : (start : ℕ) (ts : List (List ℕ)) → start + sum_by length ts < 2 ^ 32 → AreBelow (2 ^ 32) (ends_from start ts)
 ends_fit start [] h = tt
 ends_fit start (t ∷ ts) h =
     let split = sum_by-cons length t ts in

@@ -2,7 +2,7 @@
 use Rattle.std.specs.Prelude.{◌≡◌, ℕ, ◌<◌, ◌^◌, true, List, [], length, slice_get, slice_index, slice_index_or, Some}
 use Rattle.std.specs.Ordering.{nat_cmp}
 use Rattle.std.specs.Cmp.Lexicographic.{slice_cmp}
-use Rattle.col_model.specs.Ascending.{is_ascending}
+use Rattle.col_common.specs.Ascending.{is_ascending}
 use Rattle.col_model.specs.Dictionary.{terms}
 use Rattle.col_model.specs.Limits.{dictionary_length}
 use Rattle.col_terms.specs.TermTable.{dictionary_bytes}

@@ -1,7 +1,7 @@
 -- Where a key stands among ascending terms.
 use Rattle.std.specs.Prelude.{◌≡◌, ℕ, ◌<◌, ◌≤◌, true, false, Bool, List, [], length, slice_index_or, position, nat_eq, bytes_eq, Option}
 use Rattle.std.specs.List.{starts_with}
-use Rattle.col_model.specs.Ascending.{is_before}
+use Rattle.col_common.specs.Ascending.{is_before}
 use Rattle.col_terms.specs.declared.dictionary.TermOrdHit.{TermOrdHit}
 use Rattle.col_terms.specs.declared.dictionary.TermOrdHit.TheVariants.{Exact, Next}
 

@@ -2,7 +2,7 @@
 use Rattle.std.specs.Prelude.{◌≡◌, ℕ, zero, suc, ◌+◌, ◌*◌, ◌^◌, ◌==◌, ◌&&◌, Bool, List, [], ◌∷◌, ◌++◌, length, sum, take, drop, flat_map, unwrap_or, Option, Some, None, true}
 use Rattle.std.specs.List.{concat}
 use Rattle.std.specs.Int.{w32, to_le_bytes, from_le_bytes}
-use Rattle.col_model.specs.Ascending.{is_before, is_ascending, is_never_falling, differences}
+use Rattle.col_common.specs.Ascending.{is_before, is_ascending, is_never_falling, differences}
 use Rattle.col_model.specs.Dictionary.{cut, terms}
 use Rattle.col_terms.specs.declared.table.TheConstants.{HEAD_NUM_BYTES}
 

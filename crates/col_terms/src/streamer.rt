@@ -1,7 +1,7 @@
 //! Walks over terms in order.
 ghost use Rattle.std.specs.Prelude.{◌≡◌, [], map, true, is_some, IsSome, IfSome};
 ghost use Rattle.std.specs.Option.{option_map_or};
-ghost use Rattle.col_model.specs.Ascending.{is_ascending};
+ghost use Rattle.col_common.specs.Ascending.{is_ascending};
 ghost use Rattle.col_terms.specs.Streams.{stream_of, stepped};
 
 use crate::table::{EMPTY_TABLE, term_in};

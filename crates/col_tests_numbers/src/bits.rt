@@ -1,6 +1,7 @@
 //! Widths, packed lists whose bytes are worked out by hand, and lookups in them.
 ghost use Rattle.std.specs.Prelude.{◌<◌, ◌^◌, IsTrue};
 ghost use Rattle.std.specs.List.{AllByRecursion};
+ghost use Rattle.col_common.specs.Ascending.{AreBelow};
 ghost use Rattle.col_bits.specs.Packed.{is_width};
 
 use col_bits::{BitPacker, BitUnpacker, compute_num_bits, minmax};
@@ -10,7 +11,7 @@ use std::test::Fail;
 // The packed list of these numbers.
 fn pack(alloc: Global, values: &[u64], width: u8) -> Result<Vec<u8>, AllocError>
     requires width { IsTrue (is_width width) }
-    requires small { AllByRecursion (λ v. v < 2 ^ width) values.now }
+    requires small { AreBelow (2 ^ width) values.now }
 {
     let mut output = Vec::new(alloc);
     let mut packer = BitPacker::new();

@@ -10,7 +10,7 @@ use Rattle.std.proofs.lemmas.List.Sums.{sum_by-cons, AllPass-from_list_all}
 use Rattle.col_column.specs.Columns.{Seen, IsCounted, counts_by, rows_by}
 use Rattle.col_column.specs.Opened.{counted_rows}
 use Rattle.col_common.specs.Reading.{only_if, parts_by_first}
-use Rattle.col_model.specs.Ascending.{is_ascending}
+use Rattle.col_common.specs.Ascending.{is_ascending, AreBelow}
 use Rattle.col_model.specs.Column.{number_rows, term_column, column}
 use Rattle.col_model.specs.ColumnType as types
 use Rattle.col_model.specs.Dictionary.{cut, terms}
@@ -78,7 +78,7 @@ terms-ascend bytes ts e =
     let same : terms_of bytes ≡ ts = ap (λ o. unwrap_or o []) e in
     ap is_ascending (sym same) ∙ table_ascending bytes (length ts) (table_counted bytes (length ts) (sym (ap (option_map length) e)))
 
-pub ordinals-below : (k : ℕ) (xs : List ℕ) → true ≡ list_all (λ n. nat_lt n k) xs → All (λ n. n < k) xs
+pub ordinals-below : (k : ℕ) (xs : List ℕ) → true ≡ list_all (λ n. nat_lt n k) xs → AreBelow k xs
 ordinals-below k xs e i d within = ltb-true (get_or xs i d) k (AllPass-from_list_all (λ n. nat_lt n k) xs (sym e) i d within)
 
 -- numbers are below what the greatest one is below

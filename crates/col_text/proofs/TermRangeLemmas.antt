@@ -9,7 +9,7 @@ use Rattle.std.proofs.lemmas.Bool.Decides.{nat_tests}
 use Rattle.std.proofs.lemmas.Cmp.{nat_list_cmp_total, tied_itself}
 use Rattle.std.proofs.lemmas.Option.{unwrap_or-slice_get}
 use Rattle.col_model.proofs.OrderingLaws.{less_where}
-use Rattle.col_model.specs.Ascending.{is_before, is_ascending}
+use Rattle.col_common.specs.Ascending.{is_before, is_ascending}
 use Rattle.col_model.specs.Column.{term_cell}
 use Rattle.col_model.specs.Lookup.{is_at_most}
 use Rattle.col_model.specs.Table.{text}

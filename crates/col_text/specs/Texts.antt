@@ -5,7 +5,7 @@ use Rattle.std.specs.Str.{IsUtf8}
 use Rattle.std.specs.declared.alloc.Global.{Global}
 use Rattle.col_common.specs.declared.error.ColumnarError.{ColumnarError}
 use Rattle.col_common.specs.declared.error.ColumnarError.TheVariants.{OutOfMemory, NotUtf8}
-use Rattle.col_model.specs.Ascending.{is_ascending}
+use Rattle.col_common.specs.Ascending.{is_ascending, AreBelow}
 use Rattle.col_model.specs.Column.{term_cell}
 use Rattle.col_model.specs.Lookup.{is_at_most}
 use Rattle.col_model.specs.Table.{Content, text}
@@ -21,7 +21,7 @@ pub record Texts : Type 0 where
 -- the terms strictly ascend, and each value is the ordinal of one
 pub record AreOrdinals (terms : List (List ℕ)) (ords : Seen (NumValues ℕ)) : Type 0 where
   pub ascend : is_ascending terms ≡ true
-  pub below : All (λ n. n < length terms) (num_values_of ords.values)
+  pub below : AreBelow (length terms) (num_values_of ords.values)
 
 -- what stands in the column
 abbrev pub texts_content : Texts → Content

@@ -1,7 +1,7 @@
 //! Columns of terms: a dictionary, and a column of the ordinals of terms in it.
 ghost use Rattle.std.specs.Prelude.{◌≡◌, ◌<◌, [], nat_lt, length, slice_get, unwrap_or, IfOk, IfErr, OnOk};
-ghost use Rattle.std.specs.List.Sorted.{IsStrictlyIncreasing};
 ghost use Rattle.std.specs.Str.{IsUtf8};
+ghost use Rattle.col_common.specs.Ascending.{is_rising};
 ghost use Rattle.col_common.specs.Replacing.{Replaces};
 ghost use Rattle.col_model.specs.Index.{empty_shape};
 ghost use Rattle.col_model.specs.Lookup.{docs_between};
@@ -137,7 +137,7 @@ impl BytesColumn {
         ensures ok { Replaces result doc_ids.new.items
             (docs_between (texts_content self.now) (text low.now) (text high.now)
             selected_docid_range.start selected_docid_range.end) }
-        ensures rises { IsStrictlyIncreasing doc_ids.new.items }
+        ensures rises { is_rising doc_ids.new.items ≡ true }
     {
         let ords = &self.term_ord_column;
         let first = self.first_from(low);

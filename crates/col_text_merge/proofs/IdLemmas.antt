@@ -3,6 +3,7 @@ use Rattle.std.proofs.Common.{◌≡◌, ℕ, ◌+◌, ◌<◌, List, [], ◌∷
 use Rattle.std.specs.List.{AllByRecursion}
 use Rattle.std.proofs.lemmas.List.{map-append, take_more}
 use Rattle.std.proofs.lemmas.Option.{slice_get-get_or, slice_get_within}
+use Rattle.col_common.specs.Ascending.{AreBelow}
 use Rattle.col_model.specs.U64List.{joined_lists}
 use Rattle.col_model.proofs.CutLaws.{joined_lists-push}
 use Rattle.col_text.specs.Texts.{Texts}
@@ -32,7 +33,7 @@ ids-kept held new keeps (p ∷ ps) (id ∷ ids) h =
     λ i. keeps p id first i ∷ ids-kept held new keeps ps ids rest i
 
 -- each is the id of a term
-pub ids-low : (columns : List Texts) (Whole Left : Place → Type 0) (n : Noted) → AreNoted columns Whole Left n → (ps : List Place) (ids : List ℕ) → AreIds n.ids ps ids → AllByRecursion (λ id. id < length n.terms) ids
+pub ids-low : (columns : List Texts) (Whole Left : Place → Type 0) (n : Noted) → AreNoted columns Whole Left n → (ps : List Place) (ids : List ℕ) → AreIds n.ids ps ids → AreBelow (length n.terms) ids
 ids-low columns Whole Left n noted [] [] h = tt
 ids-low columns Whole Left n noted [] (id ∷ ids) h = absurd (cc)
 ids-low columns Whole Left n noted (p ∷ ps) [] h = absurd (cc)

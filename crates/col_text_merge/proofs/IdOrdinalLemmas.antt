@@ -4,6 +4,7 @@ use Rattle.std.specs.Prelude.{option_and_then}
 use Rattle.std.specs.List.{AllByRecursion}
 use Rattle.std.proofs.lemmas.List.{map-append}
 use Rattle.std.proofs.lemmas.Option.{slice_get-map}
+use Rattle.col_common.specs.Ascending.{AreBelow}
 use Rattle.col_model.specs.Order.{Order, stack, shuffle}
 use Rattle.col_model.specs.U64List.{joined_lists}
 use Rattle.col_order.specs.Orders.{picks_of}
@@ -68,6 +69,6 @@ pub order-ords : (columns : List Texts) (order : Order) (counts : List ℕ) (row
 order-ords columns (stack own) counts rows n ords ids e long low h = absurd (cc)
 order-ords columns (shuffle own picked) counts rows n ords ids e long low h = picked-ords columns ords n.ids long own picked ids low h
 
-pub order-low : (columns : List Texts) (order : Order) (Whole Left : Place → Type 0) (n : Noted) (ids : List ℕ) → AreNoted columns Whole Left n → HasIds columns order n ids → AllByRecursion (λ id. id < length n.terms) ids
-order-low columns (stack counts) Whole Left n ids noted h = subst (AllByRecursion (λ id. id < length n.terms)) (sym h) tt
+pub order-low : (columns : List Texts) (order : Order) (Whole Left : Place → Type 0) (n : Noted) (ids : List ℕ) → AreNoted columns Whole Left n → HasIds columns order n ids → AreBelow (length n.terms) ids
+order-low columns (stack counts) Whole Left n ids noted h = subst (AreBelow (length n.terms)) (sym h) tt
 order-low columns (shuffle counts rows) Whole Left n ids noted h = ids-low columns Whole Left n noted (places_of columns rows) ids h

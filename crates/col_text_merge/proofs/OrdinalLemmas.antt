@@ -5,7 +5,7 @@ use Rattle.std.specs.List.{AllByRecursion, list_all}
 use Rattle.std.proofs.lemmas.Bool.{and_from, and_parts, lt-ltb}
 use Rattle.std.proofs.lemmas.List.{length-map}
 use Rattle.std.proofs.lemmas.Option.{slice_get-map, none-some, slice_get_within}
-use Rattle.col_model.specs.Ascending.{are_below}
+use Rattle.col_common.specs.Ascending.{are_below}
 use Rattle.col_model.specs.Column.{term_cell}
 use Rattle.col_model.specs.Order.{Order, has_row, picks}
 use Rattle.col_model.specs.Table.{text}

@@ -1,6 +1,7 @@
 //! Terms of columns, each noted once.
 ghost use Rattle.std.specs.Prelude.{◌≡◌, ◌<◌, true, is_some, map, length, None, IfOk, IfErr, OnOk, Some, slice_get, slice_index, unwrap_or};
 ghost use Rattle.std.specs.List.{AllByRecursion};
+ghost use Rattle.col_common.specs.Ascending.{AreBelow};
 ghost use Rattle.col_term_merge.specs.Numbering.{item_at, lists_of, terms_of};
 ghost use Rattle.col_text_merge.specs.Noting.{ids_of, noted_by, no_ids_of, ord_by, ords_by, Sets, Notes, IsNoteRefusal, IsIdBelow};
 
@@ -213,7 +214,7 @@ pub(crate) fn picked_ords(
     mapping: &TermIdMapping,
     ids: &[u32],
 ) -> Result<Vec<u64>, AllocError>
-    requires { AllByRecursion (λ id. id < length mapping.now) ids.now }
+    requires { AreBelow (length mapping.now) ids.now }
     ensures { IfOk result (λ v. v.items ≡ map (slice_index mapping.now) ids.now) }
 {
     let mut ords = Vec::with_capacity(alloc, ids.len())?;

@@ -4,8 +4,6 @@ use mir.Val.{bool_byte}
 use Rattle.std.specs.List.{All, AllByRecursion, filter, range_with_len}
 use Rattle.std.specs.Ordering.{partial_le}
 use Rattle.std.specs.declared.cmp.Ordering.{Ordering}
-use Rattle.std.specs.List.Sorted.{IsStrictlyIncreasing}
-use Rattle.std.proofs.lemmas.List.Kept.{IsStrictlyIncreasing-filter}
 use Rattle.std.proofs.lemmas.Grind.{common_steps}
 use Rattle.std.proofs.lemmas.List.{take_more, take_more_set, take-set, drop_more, get_or-drop, length-drop, length-map}
 use Rattle.std.proofs.lemmas.List.Elements.{filter-append, filter_agree, recursion_from_All}
@@ -13,7 +11,8 @@ use Rattle.std.proofs.lemmas.List.FromFn.{length-range_with_len, get_or-range_wi
 use Rattle.std.proofs.lemmas.Option.{get_or_from_slice_get}
 use Rattle.std.specs.Int.{is_in_range}
 use Rattle.std.proofs.lemmas.Bool.Decides.{nat_tests}
-use Rattle.col_common.proofs.OrderingLemmas.{range_rises}
+use Rattle.col_common.specs.Ascending.{is_rising}
+use Rattle.col_common.proofs.OrderingLemmas.{filtered_rises}
 use Rattle.col_model.proofs.ListLaws.{range-more}
 use Rattle.col_values.specs.Monotonic.{Passes}
 use Rattle.col_values.specs.Values.{passes, hits, hits_between, is_between, span}
@@ -75,9 +74,9 @@ pub front_value : {T : Type 0} (values : List T) (i : ℕ) (x : T) → slice_get
 front_value values i x value within = drop_more values i x within ∙ ap (λ v. v ∷ drop (i + 1) values) (get_or_from_slice_get values i x x value)
 
 -- hits rise
-pub hits_rise : {T : Type 0} (test : T → Bool) (values : List T) (from n : ℕ) → IsStrictlyIncreasing (hits test values from n)
+pub hits_rise : {T : Type 0} (test : T → Bool) (values : List T) (from n : ℕ) → is_rising (hits test values from n) ≡ true
 unfolding hits
-hits_rise test values from n = IsStrictlyIncreasing-filter (λ row. passes test (slice_get values row)) (range_with_len from n) (range_rises from n)
+hits_rise test values from n = filtered_rises (λ row. passes test (slice_get values row)) from n
 
 -- no value passes, no hit
 never : {X : Type 0} (o : Option X) → passes (λ _. false) o ≡ false

@@ -8,10 +8,6 @@ use Rattle.std.specs.declared.cmp.Ordering.{Ordering}
 abbrev pub IsAtMost : {T : Type 0} → (T → T → Option Ordering) → T → T → Type 0
 IsAtMost partial_cmp a b = partial_le partial_cmp a b ≡ true
 
--- each of these positions is below a count
-abbrev pub AreBelow : List ℕ → ℕ → Type 0
-AreBelow positions count = All (λ p. p < count) positions
-
 -- the value is one from low to high
 abbrev pub is_between : {T : Type 0} → (T → T → Option Ordering) → T → T → T → Bool
 is_between partial_cmp low high v = partial_le partial_cmp low v && partial_le partial_cmp v high

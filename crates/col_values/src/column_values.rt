@@ -1,10 +1,10 @@
 //! Lists of values, asked by position.
 ghost use Rattle.std.specs.Prelude.{◌≡◌, ◌+◌, ◌≤◌, ◌<◌, List, take, drop, length, slice_get, map, Some};
 ghost use Rattle.std.specs.List.{All};
-ghost use Rattle.std.specs.List.Sorted.{IsStrictlyIncreasing};
 ghost use Rattle.std.specs.Range.{range_inclusive_start, range_inclusive_end};
+ghost use Rattle.col_common.specs.Ascending.{AreBelow, is_rising};
 ghost use Rattle.col_common.specs.Replacing.{Replaces};
-ghost use Rattle.col_values.specs.Values.{IsAtMost, AreBelow, hits_between, is_between};
+ghost use Rattle.col_values.specs.Values.{IsAtMost, hits_between, is_between};
 
 use crate::ValuesIter;
 use col_common::{ColumnarError, RowId};
@@ -52,7 +52,7 @@ pub trait ColumnValues<T: PartialOrd + Copy> {
 
     /// The values at positions.
     fn get_vals(&self, indexes: &[u32], output: &mut [T])
-        requires below { AreBelow indexes.now (length (values self.now)) }
+        requires below { AreBelow (length (values self.now)) indexes.now }
         requires alike { length indexes.now ≡ length output.old }
         ensures { map Some output.new ≡ map (slice_get (values self.now)) indexes.now }
     {
@@ -63,7 +63,7 @@ pub trait ColumnValues<T: PartialOrd + Copy> {
 
     /// The same, each found.
     fn get_vals_opt(&self, indexes: &[u32], output: &mut [Option<T>])
-        requires below { AreBelow indexes.now (length (values self.now)) }
+        requires below { AreBelow (length (values self.now)) indexes.now }
         requires alike { length indexes.now ≡ length output.old }
         ensures { output.new ≡ map (slice_get (values self.now)) indexes.now }
     {
@@ -130,7 +130,7 @@ pub trait ColumnValues<T: PartialOrd + Copy> {
         ensures ok { Replaces result hits.new.items
             (hits_between T.partial_cmp (values self.now) (range_inclusive_start value_range)
             (range_inclusive_end value_range) row_ids.start row_ids.end) }
-        ensures rises { IsStrictlyIncreasing hits.new.items }
+        ensures rises { is_rising hits.new.items ≡ true }
     {
         let (low, high) = value_range.into_inner();
         self.get_row_ids_between(low, high, row_ids, hits)

@@ -16,7 +16,7 @@ use Rattle.std.proofs.lemmas.Option.{slice_get-get_or, slice_get_within, get_or_
 use Rattle.std.proofs.lemmas.List.Sorted.{Contains-permutation, IsPermutation-map, list_any-IsPermutation}
 use Rattle.std.proofs.lemmas.Map.Entries.{place_from_lookup, lookup_from_place}
 use Rattle.std.proofs.lemmas.Map.Keys.{IsDistinct-IsPermutation, apart_from_distinct}
-use Rattle.col_model.specs.Ascending.{all_adjacent}
+use Rattle.col_common.specs.Ascending.{all_adjacent}
 use Rattle.col_model.specs.Category.{Slot, slot_cmp, same_slot}
 use Rattle.col_model.specs.Written.{Entry, Recorded}
 use Rattle.col_model.proofs.SlotLaws.{slots_total}

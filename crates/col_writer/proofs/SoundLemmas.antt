@@ -10,7 +10,7 @@ use Rattle.std.specs.FinMap.Entries.{by_order, is_sorted}
 use Rattle.std.specs.List.{AllByRecursion}
 use Rattle.std.specs.Str.{is_utf8}
 use Rattle.std.proofs.lemmas.Bool.{and_from}
-use Rattle.col_model.specs.Ascending.{all_adjacent}
+use Rattle.col_common.specs.Ascending.{all_adjacent}
 use Rattle.col_model.specs.Category.{Category, Slot, slot_cmp}
 use Rattle.col_model.specs.Category as categories
 use Rattle.col_model.specs.Soundness.{IsSoundEntry, IsSoundContent}

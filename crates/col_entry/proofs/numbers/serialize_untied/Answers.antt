@@ -1,5 +1,5 @@
 use Rattle.std.proofs.Common.{◌∙◌, ap, sym, length}
-use Rattle.col_model.specs.Ascending.{are_below}
+use Rattle.col_common.specs.Ascending.{are_below}
 use Rattle.col_entry.proofs.NumberLemmas.{docs-in-codes, signed-typed, unsigned-typed}
 use Rattle.col_entry.proofs.numbers.serialize_untied.Goals as goal
 

@@ -1,5 +1,5 @@
 use Rattle.std.proofs.Common.{◌∙◌, ap, sym, length}
-use Rattle.col_model.specs.Ascending.{are_below}
+use Rattle.col_common.specs.Ascending.{are_below}
 use Rattle.col_entry.proofs.TextEntryLemmas.{docs-in-texts, term-ids, texts-written}
 use Rattle.col_entry.proofs.texts.serialize_texts.Goals as goal
 

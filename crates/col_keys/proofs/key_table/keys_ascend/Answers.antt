@@ -1,5 +1,5 @@
 use Rattle.std.proofs.Common.{ap, sym, ◌-◌, arith}
-use Rattle.col_model.specs.Ascending.{is_ascending}
+use Rattle.col_common.specs.Ascending.{is_ascending}
 use Rattle.col_model.specs.Keys.{key_bytes}
 use Rattle.col_keys.specs.KeyTables.{key_seen}
 use Rattle.col_keys.proofs.KeyLemmas.{key_texts, ascending-done}

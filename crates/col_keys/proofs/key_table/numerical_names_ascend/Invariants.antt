@@ -1,5 +1,5 @@
 use Rattle.std.proofs.Common.{◌≡◌, map, filter, drop, option_map}
-use Rattle.col_model.specs.Ascending.{is_ascending}
+use Rattle.col_common.specs.Ascending.{is_ascending}
 use Rattle.col_model.specs.ColumnType.{is_numerical}
 use Rattle.col_keys.specs.KeyTables.{keys_seen}
 use Rattle.col_keys.proofs.KeyLemmas.{ascends_from, names_of}

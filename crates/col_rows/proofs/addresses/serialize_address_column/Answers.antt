@@ -1,7 +1,7 @@
 use Rattle.std.proofs.Common.{◌∙◌, ap, sym, arith, length, map, refl}
 use Rattle.std.specs.List.{range_with_len, zip}
 use Rattle.col_model.specs.AddressList.{least_codes}
-use Rattle.col_model.specs.Ascending.{are_below}
+use Rattle.col_common.specs.Ascending.{are_below}
 use Rattle.col_model.specs.ColumnType as types
 use Rattle.col_model.specs.U64List.{joined_lists}
 use Rattle.col_rows.specs.Rows.{picked_rows}

@@ -1,6 +1,6 @@
 use Rattle.std.proofs.Common.{◌∙◌, ap, sym, arith, length}
 use Rattle.std.specs.List.{range_with_len}
-use Rattle.col_model.specs.Ascending.{are_below}
+use Rattle.col_common.specs.Ascending.{are_below}
 use Rattle.col_rows.proofs.ColumnLemmas.{own-written, placed-written}
 use Rattle.col_rows.proofs.numbers.serialize_number_column.Goals as goal
 

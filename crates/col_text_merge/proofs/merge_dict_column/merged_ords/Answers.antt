@@ -1,6 +1,7 @@
 use Rattle.std.proofs.Common.{◌≡◌, ◌<◌, ◌∙◌, ap, sym, subst, length, map, slice_index}
 use Rattle.std.specs.Prelude.{IfOk}
 use Rattle.std.specs.List.{AllByRecursion}
+use Rattle.col_common.specs.Ascending.{AreBelow}
 use Rattle.col_order.specs.Orders.{counts_of}
 use Rattle.col_order.specs.RowOrders.{order_of}
 use Rattle.col_terms.specs.Building.{ordinals}
@@ -39,7 +40,7 @@ pub picked_ords-requires : goal.picked_ords-requires
 picked_ords-requires c =
     let columns = c.args.bytes_columns.now in
     let order = order_of c.args.merge_row_order.now in
-    subst (λ k. AllByRecursion (λ id. id < k) c.args.ids.now)
+    subst (λ k. AreBelow k c.args.ids.now)
     (sym (ap length c.requires.mapping ∙ c.terms_are_those_given.ensures.count c.args.noted.now.terms))
     (order-low columns order (IsTaken columns order) IsNowhere c.args.noted.now c.args.ids.now c.requires.noted c.requires.ids)
 

@@ -1,5 +1,5 @@
 use Rattle.std.proofs.Common.{◌∙◌, sym, ap, length}
-use Rattle.col_model.specs.Ascending.{are_below}
+use Rattle.col_common.specs.Ascending.{are_below}
 use Rattle.col_model.specs.ColumnType as types
 use Rattle.col_types.specs.Cells.{unsigned_cell}
 use Rattle.col_entry.specs.EntryColumns.{entry_in}

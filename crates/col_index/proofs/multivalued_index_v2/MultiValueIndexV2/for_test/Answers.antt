@@ -1,5 +1,5 @@
 use Rattle.std.proofs.Common.{◌≡◌, ◌<◌, ◌^◌, ◌++◌, length, sym, ap, ◌∙◌, subst}
-use Rattle.col_model.specs.Ascending.{differences}
+use Rattle.col_common.specs.Ascending.{differences}
 use Rattle.col_model.specs.Index.{offset_counts}
 use Rattle.col_model.specs.Positions.{rows_with_value, starts_of}
 use Rattle.col_numbers.specs.Readers.{list_of}

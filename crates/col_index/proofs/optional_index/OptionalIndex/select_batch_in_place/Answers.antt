@@ -1,13 +1,13 @@
 use Rattle.std.proofs.Common.{length, ap, subst, sym, ◌∙◌, map}
 use Rattle.std.specs.List.{slice_get}
 use Rattle.std.proofs.lemmas.List.{take_at}
-use Rattle.col_values.specs.Values.{AreBelow}
+use Rattle.col_common.specs.Ascending.{AreBelow}
 use Rattle.col_index.proofs.SelectedLemmas.{ranks_below, selected_each, rows_at-selected}
 use Rattle.col_index.proofs.optional_index.OptionalIndex.select_batch_in_place.Goals as goal
 
 pub select_batch-requires : goal.select_batch-requires
 select_batch-requires c =
-    subst (λ xs. AreBelow xs (length c.args.self.now.rows)) (sym c.deref_mut.ensures.value) (ranks_below c.args.self.now c.rows_rise.ensures c.args.rank_ids.now.items c.requires.inside)
+    subst (λ xs. AreBelow (length c.args.self.now.rows) xs) (sym c.deref_mut.ensures.value) (ranks_below c.args.self.now c.rows_rise.ensures c.args.rank_ids.now.items c.requires.inside)
 
 pub returns : goal.returns
 returns c =

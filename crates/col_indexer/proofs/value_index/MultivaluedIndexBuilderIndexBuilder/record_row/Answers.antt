@@ -1,5 +1,5 @@
 use Rattle.std.proofs.Common.{◌≡◌, ◌-◌, ◌++◌, ◌∷◌, ◌==◌, [], ap, sym, ◌∙◌, subst}
-use Rattle.col_model.specs.Ascending.{differences}
+use Rattle.col_common.specs.Ascending.{differences}
 use Rattle.col_indexer.specs.Builders.{Recorded, IsAfter, IsRecording}
 use Rattle.col_indexer.proofs.BuilderLemmas.{begun, begun-empty, begun-some, begun-read, row-recorded, row-shown}
 use Rattle.col_indexer.proofs.value_index.MultivaluedIndexBuilderIndexBuilder.record_row.Goals as goal

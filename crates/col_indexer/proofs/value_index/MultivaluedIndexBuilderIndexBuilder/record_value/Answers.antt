@@ -1,5 +1,5 @@
 use Rattle.std.proofs.Common.{◌<◌, ◌-◌, ◌^◌, length, sum, ap, sym, ◌∙◌, subst, arith}
-use Rattle.col_model.specs.Ascending.{differences}
+use Rattle.col_common.specs.Ascending.{differences}
 use Rattle.col_indexer.specs.Builders.{Recorded, with_value}
 use Rattle.col_indexer.proofs.BuilderLemmas.{value-fits, value-recorded, last-read}
 use Rattle.col_indexer.proofs.value_index.MultivaluedIndexBuilderIndexBuilder.record_value.Goals as goal

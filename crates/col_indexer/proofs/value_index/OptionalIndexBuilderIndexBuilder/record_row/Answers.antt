@@ -1,5 +1,5 @@
 use Rattle.std.proofs.Common.{◌≡◌, true, subst, sym}
-use Rattle.col_model.specs.Ascending.{is_rising}
+use Rattle.col_common.specs.Ascending.{is_rising}
 use Rattle.col_indexer.specs.Builders.{IsAfter}
 use Rattle.col_indexer.proofs.RecordedLists.{rising-push}
 use Rattle.col_indexer.proofs.value_index.OptionalIndexBuilderIndexBuilder.record_row.Goals as goal

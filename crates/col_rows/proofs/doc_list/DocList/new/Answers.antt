@@ -1,5 +1,5 @@
 use Rattle.std.proofs.Common.{◌∙◌, ap}
-use Rattle.col_model.specs.Ascending.{is_never_falling}
+use Rattle.col_common.specs.Ascending.{is_never_falling}
 use Rattle.col_rows.specs.Documents.{dense_then}
 use Rattle.col_rows.proofs.DocumentLemmas.{dense_then-none}
 use Rattle.col_rows.proofs.doc_list.DocList.new.Goals as goal

@@ -1,6 +1,6 @@
 use Rattle.std.proofs.Common.{◌∙◌, ap, sym, arith, ◌-◌}
 use Rattle.col_rows.specs.Documents.{dense_then}
-use Rattle.col_model.specs.Ascending.{is_never_falling}
+use Rattle.col_common.specs.Ascending.{is_never_falling}
 use Rattle.col_rows.proofs.CutLemmas.{dense-cut, others-cut, cut_of, never_falling-cut}
 use Rattle.col_rows.proofs.doc_list.DocList.pop.Goals as goal
 

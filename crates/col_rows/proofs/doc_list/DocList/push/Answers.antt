@@ -1,5 +1,5 @@
 use Rattle.std.proofs.Common.{◌∙◌, sym, ap, arith, length}
-use Rattle.col_model.specs.Ascending.{is_never_falling}
+use Rattle.col_common.specs.Ascending.{is_never_falling}
 use Rattle.col_rows.specs.Documents.{dense_then}
 use Rattle.col_rows.proofs.DocumentLemmas.{next-parts, dense_then-next, dense_then-push, length-dense_then, never_falling-push}
 use Rattle.col_rows.proofs.doc_list.DocList.push.Goals as goal

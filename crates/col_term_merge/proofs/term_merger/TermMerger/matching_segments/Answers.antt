@@ -1,6 +1,6 @@
 use Rattle.std.proofs.Common.{◌≡◌, ℕ, List, true, map, ap, sym, ◌∙◌, subst, IsPermutation}
 use Rattle.std.specs.BinaryHeap.{heap_items}
-use Rattle.col_model.specs.Ascending.{is_never_falling}
+use Rattle.col_common.specs.Ascending.{is_never_falling}
 use Rattle.col_term_merge.specs.Merging.{Merging, is_on_key, places_of}
 use Rattle.col_term_merge.specs.Places.{places_at}
 use Rattle.col_term_merge.proofs.MergerLemmas.{all-places, ascending-places}

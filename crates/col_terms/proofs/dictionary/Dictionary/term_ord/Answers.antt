@@ -1,5 +1,5 @@
 use Rattle.std.proofs.Common.{Some, ap, sym, ◌∙◌}
-use Rattle.col_model.specs.Ascending.{is_ascending}
+use Rattle.col_common.specs.Ascending.{is_ascending}
 use Rattle.col_terms.specs.TermTable.{terms_of}
 use Rattle.col_terms.specs.Lookups.{ord_of}
 use Rattle.col_terms.proofs.TableLemmas.{table_ascending}

@@ -1,5 +1,5 @@
 use Rattle.std.proofs.Common.{◌≡◌, map, true, ap, sym, ◌∙◌}
-use Rattle.col_model.specs.Ascending.{is_ascending}
+use Rattle.col_common.specs.Ascending.{is_ascending}
 use Rattle.col_terms.specs.Streams.{OrdTerm, TermStream}
 use Rattle.col_terms.proofs.WalkLemmas.{walk-ascends}
 use Rattle.col_terms.proofs.streamer.Streamer.terms_ascend.Goals as goal

@@ -1,5 +1,5 @@
 use Rattle.std.proofs.Common.{◌≡◌, ℕ, List, [], ◌∷◌, refl, sym, ap, subst, ◌∙◌, arith}
-use Rattle.col_model.specs.Ascending.{differences}
+use Rattle.col_common.specs.Ascending.{differences}
 use Rattle.col_model.specs.Index.{Shape, RowSet, empty_shape, full_shape, optional_shape, multivalued_shape, set_counts}
 use Rattle.col_model.specs.Order.{Order, stack}
 use Rattle.col_model.specs.Positions.{picked_counts}

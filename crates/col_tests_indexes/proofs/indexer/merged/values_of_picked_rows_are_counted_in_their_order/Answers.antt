@@ -1,5 +1,5 @@
 use Rattle.std.proofs.Common.{◌≡◌, ℕ, List, [], ◌∷◌, refl, sym, ap, subst, ◌∙◌, arith}
-use Rattle.col_model.specs.Ascending.{differences}
+use Rattle.col_common.specs.Ascending.{differences}
 use Rattle.col_model.specs.Index.{Shape, multivalued_shape}
 use Rattle.col_model.specs.Order.{Order, shuffle}
 use Rattle.col_model.specs.Positions.{picked_counts}
