@@ -1,11 +1,10 @@
 //! Sets of numbers below a bound.
 ghost use Rattle.std.specs.Prelude.{◌≡◌, ◌<◌, true, false, length, replicate, slice_set, slice_index_or};
-ghost use Rattle.std.specs.Prelude.{MatchOption, IfOk, IfErr};
-ghost use Rattle.col_common.specs.declared.error.ColumnarError.TheVariants as refusals;
+ghost use Rattle.std.specs.Prelude.{MatchOption, IfOk};
 ghost use Rattle.col_common.specs.Flags.{count_set, IsFirstMember};
 
-use crate::{ColumnarError, Iterable, Walk};
-use std::alloc::Global;
+use crate::{Iterable, Walk};
+use std::alloc::{AllocError, Global};
 use std::marker::Model;
 
 /// The numbers of a word.
@@ -32,9 +31,8 @@ impl Model for BitSet {
 
 impl BitSet {
     /// The empty set of numbers below a bound.
-    pub fn with_max_value(alloc: Global, max_value: u32) -> Result<BitSet, ColumnarError>
-        ensures ok { IfOk result (λ set. set ≡ replicate max_value false) }
-        ensures err { IfErr result (λ e. e ≡ refusals.OutOfMemory) }
+    pub fn with_max_value(alloc: Global, max_value: u32) -> Result<BitSet, AllocError>
+        ensures { IfOk result (λ set. set ≡ replicate max_value false) }
     {
         let count = u64::from(max_value).div_ceil(WORD_BITS);
         let words = vec![in alloc; 0; count as usize]?;

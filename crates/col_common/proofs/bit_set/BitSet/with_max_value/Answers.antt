@@ -15,8 +15,8 @@ invariant_of-result c =
       counted = sym (ap (λ words. count_set (flags_of words n)) zeros ∙ (ap count_set (flags_none count n (omega arith)) ∙ count_none n));
     }
 
-pub returns-clause-ok : goal.returns-clause-ok
-returns-clause-ok c =
+pub returns : goal.returns
+returns c =
     let n = c.args.max_value in
     let count = c.div_ceil-count.result in
     let zeros : c.in_ok-words.words.items ≡ replicate count 0 = c.in_ok-words.ensures.items_if_clones_equal (λ y h. h) in
