@@ -1,7 +1,7 @@
 //! Packs and reads numbers of one width in bits, the lowest bits first.
 ghost use Rattle.std.specs.Prelude.{◌≡◌, ℕ, ◌+◌, ◌-◌, ◌*◌, ◌/◌, ◌%◌, ◌^◌, ◌<◌, ◌≤◌};
 ghost use Rattle.std.specs.Prelude.{List, length, slice_index};
-ghost use Rattle.std.specs.Prelude.{◌↔◌, ◌++◌, [], IsTrue, OnOk, OnErr, take};
+ghost use Rattle.std.specs.Prelude.{◌↔◌, ◌++◌, [], true, IsTrue, OnOk, OnErr, take};
 ghost use Rattle.std.specs.Int.{div_ceil, is_in_range};
 ghost use Rattle.std.specs.Range.{range_inclusive_start, range_inclusive_end};
 ghost use Rattle.col_common.specs.Ascending.{is_rising};
@@ -19,8 +19,9 @@ use std::ops::{Range, RangeInclusive};
 // The widest numbers that are always read by one load of eight bytes.
 const MAX_SMALL_WIDTH: u32 = 56;
 
-// How many ids are tested before the room that is left over is given back.
+// How many ids are tested before those that were found are appended.
 const ID_BLOCK_LEN: u32 = 1024;
+const ID_BLOCK_SIZE: usize = ID_BLOCK_LEN as usize;
 
 /// The width of numbers up to `n`: its binary digits where these are at most 56, else 64.
 pub fn compute_num_bits(n: u64) -> u8
@@ -198,10 +199,11 @@ impl BitUnpacker {
     {
         let (low, high) = value_range.into_inner();
         positions.clear();
+        let mut block = [0; ID_BLOCK_SIZE];
         let mut from = ids.start;
         while from < ids.end {
             let to = from + (ids.end - from).min(ID_BLOCK_LEN - from % ID_BLOCK_LEN);
-            if let Err(wanting) = self.push_ids(low, high, from..to, data, positions) {
+            if let Err(wanting) = self.push_ids(low, high, from..to, data, &mut block, positions) {
                 positions.clear();
                 return Err(wanting);
             }
@@ -210,25 +212,24 @@ impl BitUnpacker {
         Ok(())
     }
 
-    /// Appends which of the ids have a number between the ends, ascending.
+    /// Appends which of the ids have a number between the ends, ascending. They are first put into
+    /// `block`, which has a place for each id.
     pub fn push_ids(
         &self,
         low: u64,
         high: u64,
         ids: Range<u32>,
         data: &[u8],
+        block: &mut [u32],
         positions: &mut Vec<u32>,
     ) -> Result<(), AllocError>
-        requires { ids.start ≤ ids.end }
+        requires order { ids.start ≤ ids.end }
+        requires room { ids.end - ids.start ≤ length block.old }
         ensures { OnOk result (positions.new.items ≡ positions.old.items
             ++ ids_between «data».now self.now low high ids.start (ids.end - ids.start)) }
     {
-        let len = positions.len();
-        let count = (ids.end - ids.start) as usize;
-        positions.resize(len + count, 0)?;
-        let end = self.write_ids(low, high, ids, data, positions.as_mut_slice(), len);
-        positions.truncate(end);
-        Ok(())
+        let found = self.write_ids(low, high, ids, data, block, 0);
+        positions.extend_from_slice(&block[..found])
     }
 
     // Writes them from place `at` on, and says where they end.

@@ -319,9 +319,11 @@ impl BoundedItems for PackedItems<'_> {
         low: u64,
         high: u64,
         ids: Range<u32>,
+        block: &mut [u32],
         hits: &mut Vec<u32>,
     ) -> Result<(), AllocError> {
-        self.bit_unpacker.push_ids(low, high, ids, self.bytes, hits)
+        self.bit_unpacker
+            .push_ids(low, high, ids, self.bytes, block, hits)
     }
 }
 

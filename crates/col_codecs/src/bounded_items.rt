@@ -47,25 +47,28 @@ pub trait BoundedItems {
         false
     }
 
-    /// Appends which of the ids of a block have a number from `low` to `high`.
+    /// Appends which of the ids of a block have a number from `low` to `high`. They are first put
+    /// into `block`, which has a place for each id.
     fn push_ids(
         &self,
         low: u64,
         high: u64,
         ids: Range<u32>,
+        block: &mut [u32],
         hits: &mut Vec<u32>,
     ) -> Result<(), AllocError>
         requires whole { IsWhole self.now }
         requires order { ids.start ≤ ids.end }
         requires within { ids.end ≤ count self.now }
         requires short { ids.end - ids.start ≤ 1024 }
+        requires room { ids.end - ids.start ≤ length block.old }
         ensures { OnOk result (hits.new.items ≡ hits.old.items
             ++ ids_by (item self.now) low high ids.start (ids.end - ids.start)) }
     {
-        let mut block = [0; BOUNDED_SIZE];
-        let vals = &mut block[..(ids.end - ids.start) as usize];
+        let mut vals = [0; BOUNDED_SIZE];
+        let vals = &mut vals[..(ids.end - ids.start) as usize];
         self.read(ids.start, vals);
-        push_within(vals, low, high, ids.start, hits)
+        push_within(vals, low, high, ids.start, block, hits)
     }
 }
 
@@ -78,21 +81,21 @@ fn is_within(low: u64, value: u64, high: u64) -> bool
 }
 
 // Appends the ids from `start` on of which the number, next in the list, is one from `low` to
-// `high`.
+// `high`; they are first put into the block.
 fn push_within(
     vals: &[u64],
     low: u64,
     high: u64,
     start: u32,
+    block: &mut [u32],
     hits: &mut Vec<u32>,
 ) -> Result<(), AllocError>
-    requires short { length vals.now ≤ 1024 }
+    requires room { length vals.now ≤ length block.old }
     requires fits { start + length vals.now < 2 ^ 32 }
     ensures { OnOk result (hits.new.items ≡ hits.old.items
         ++ ids_by (λ id. slice_index_or vals.now (id - start) 0) low high start
         (length vals.now)) }
 {
-    let mut block = [0; BOUNDED_SIZE];
     let mut found = 0;
     for at in 0..vals.len() {
         block[found] = start + at as u32;
@@ -182,10 +185,11 @@ pub fn find_ids<I: BoundedItems>(
         (ids_by (I.item items.now) low high ids.start (ids.end - ids.start)) }
 {
     hits.clear();
+    let mut block = [0; BOUNDED_SIZE];
     let mut from = ids.start;
     while from < ids.end {
         let to = from + (ids.end - from).min(BOUNDED_LEN - from % BOUNDED_LEN);
-        let pushed = push_block(items, bounds, low, high, from..to, hits);
+        let pushed = push_block(items, bounds, low, high, from..to, &mut block, hits);
         if let Err(_wanting) = pushed {
             hits.clear();
             return Err(ColumnarError::OutOfMemory);
@@ -202,22 +206,24 @@ fn push_block<I: BoundedItems>(
     low: u64,
     high: u64,
     ids: Range<u32>,
+    block: &mut [u32],
     hits: &mut Vec<u32>,
 ) -> Result<(), AllocError>
     requires whole { I.IsWhole items.now }
     requires order { ids.start ≤ ids.end }
     requires within { ids.end ≤ I.count items.now }
     requires block { ids.start % 1024 + (ids.end - ids.start) ≤ 1024 }
+    requires room { ids.end - ids.start ≤ length block.old }
     requires enclosed { Enclose bounds.now (I.item items.now) ids.end }
     ensures { OnOk result (hits.new.items ≡ hits.old.items
         ++ ids_by (I.item items.now) low high ids.start (ids.end - ids.start)) }
 {
-    let block = (ids.start / BOUNDED_LEN) as usize;
-    if is_outside(bounds, block, low, high) {
+    let at = (ids.start / BOUNDED_LEN) as usize;
+    if is_outside(bounds, at, low, high) {
         return Ok(());
     }
-    if is_inside(bounds, block, low, high) {
+    if is_inside(bounds, at, low, high) {
         return push_all(ids, hits);
     }
-    items.push_ids(low, high, ids, hits)
+    items.push_ids(low, high, ids, block, hits)
 }

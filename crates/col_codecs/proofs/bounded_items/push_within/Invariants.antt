@@ -7,5 +7,5 @@ abbrev pub invariant-loop-at : goal.invariant-loop-at
 invariant-loop-at l = record {
   found : take l.found l.block ≡ ids_by (λ id. get_or l.vals (id - l.start) 0) l.low l.high l.start l.at;
   below : l.found ≤ l.at;
-  room : length l.block ≡ 1024;
+  room : length l.block ≡ length l.fn.block;
 }
