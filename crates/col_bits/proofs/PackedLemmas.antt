@@ -2,7 +2,6 @@
 use Rattle.std.proofs.Common.{◌≡◌, ℕ, zero, suc, ◌+◌, ◌*◌, ◌/◌, ◌%◌, ◌^◌, ◌<◌, ◌≤◌, List, [], ◌∷◌, ◌++◌, length, Some, refl, sym, ◌∙◌, ap, arith, zero-add, pow-suc, mod-lt, mul_comm, lit<, mod-eq_of_lt, get_or, div-one, lt_of_lt_of_le, suc-mul, zero-mul}
 use native.Mathlib.Nat.{mod-add-div, add-mul-mod_self_left, add-mul-div_left, div-eq_of_lt, pow-zero, div-div-eq-div-mul, pow-le-pow_right}
 use Rattle.std.proofs.lemmas.Nat.{div_below, mul-add-lt, pow_pos, pow-add}
-use Rattle.std.specs.List.{AllByRecursion}
 use Rattle.std.specs.Int.{div_ceil}
 use Rattle.std.proofs.lemmas.Bool.{lt-ltb, eq-eqb}
 use Rattle.col_common.specs.Ascending.{AreBelow}

@@ -1,7 +1,7 @@
 -- Writes of one width, and a close, give the packed list.
 use Rattle.std.proofs.Common.{◌≡◌, ℕ, ◌+◌, ◌*◌, ◌/◌, ◌^◌, ◌<◌, List, [], ◌∷◌, ◌++◌, length, sym, ◌∙◌, ap, arith, refl, length-append, append_assoc, append-nil}
 use Rattle.std.proofs.lemmas.Nat.{pow-add, shl-shr}
-use Rattle.std.proofs.lemmas.List.Elements.{recursion_from_All, All-append, All-nil}
+use Rattle.std.proofs.lemmas.List.Elements.{recursion_from_All, All-from_recursion, All-append}
 use Rattle.std.specs.Int.{div_ceil}
 use Rattle.col_bits.specs.Packed.{number_of, packed_bytes}
 use Rattle.col_bits.specs.Packing.{Held, nothing_held, bits_of, count_of, AddsBytes}
@@ -15,13 +15,14 @@ pub record IsPacking (before : List ℕ) (w : ℕ) (items : List ℕ) (held : He
   pub adds : AddsBytes before bytes
 
 pub AddsBytes-nil : (xs : List ℕ) → AddsBytes xs xs
-AddsBytes-nil xs = record { added = []; bytes = All-nil (λ b. b < 256); front = sym (append-nil xs) }
+AddsBytes-nil xs = record { added = []; bytes = tt; front = sym (append-nil xs) }
 
 pub AddsBytes-trans : (xs ys zs : List ℕ) → AddsBytes xs ys → AddsBytes ys zs → AddsBytes xs zs
 AddsBytes-trans xs ys zs h k =
+    let IsByte : ℕ → Type 0 = λ b. b < 256 in
     record {
       added = h.added ++ k.added;
-      bytes = All-append (λ b. b < 256) h.added k.added h.bytes k.bytes;
+      bytes = recursion_from_All IsByte (h.added ++ k.added) (All-append IsByte h.added k.added (All-from_recursion IsByte h.added h.bytes) (All-from_recursion IsByte k.added k.bytes));
       front = k.front ∙ (ap (λ s. s ++ k.added) h.front ∙ append_assoc xs h.added k.added);
     }
 
@@ -55,4 +56,4 @@ IsPacking-close before w items held bytes out h bits count adds =
     let whole : number_of 256 out ≡ number_of 256 before + number_of 256 added * p = ap (number_of 256) all.front ∙ bytes-append before added in
     let scaled : number_of 256 added * p ≡ n * p = omega (arith, whole, bits, h.bits) in
     let same : number_of 256 added ≡ n = sym (shl-shr (number_of 256 added) (8 * length before)) ∙ (ap (λ m. m / p) scaled ∙ shl-shr n (8 * length before)) in
-    all.front ∙ ap (λ ys. before ++ ys) (packed_bytes-closed w items added (recursion_from_All (λ b. b < 256) added all.bytes) filled same)
+    all.front ∙ ap (λ ys. before ++ ys) (packed_bytes-closed w items added all.bytes filled same)

@@ -4,7 +4,6 @@ use Rattle.std.specs.Int.{div_ceil}
 use Rattle.std.proofs.lemmas.Nat.{pow_pos, pow-add, le-div}
 use Rattle.std.proofs.lemmas.Bool.{cases_lt, lt-ltb, le-ltb, eq-eqb, ne_eqb, and_from}
 use native.Mathlib.Nat.{div-lt_iff_lt-mul, div-eq_of_lt}
-use Rattle.std.specs.List.{AllByRecursion}
 use Rattle.col_common.specs.Ascending.{AreBelow}
 use Rattle.col_bits.specs.Packed.{number_of, is_packed}
 use Rattle.col_bits.proofs.PackedLemmas.{pow-pow, number_of-below}

@@ -1,6 +1,5 @@
 -- Items of a packed list, read through a window of eight bytes.
 use Rattle.std.proofs.Common.{◌≡◌, ℕ, zero, suc, ◌+◌, ◌*◌, ◌/◌, ◌%◌, ◌^◌, ◌<◌, List, [], ◌∷◌, take, drop, get_or, slice_index, Some, refl, sym, ◌∙◌, ap, arith, zero-add, mul_comm, mul_assoc, pow-suc, div-one, div-add-mod', mul-add, mul-pos, lit<}
-use Rattle.std.specs.List.{AllByRecursion}
 use Rattle.std.proofs.lemmas.Option.{cond_some}
 use Rattle.std.proofs.lemmas.Nat.{pow_pos, mod-mul-add, mod_below}
 use native.Mathlib.Nat.{pow-zero, add-mul-div_left, div-eq_of_lt, div-div-eq-div-mul, zero-div, zero-mod, mod-one}

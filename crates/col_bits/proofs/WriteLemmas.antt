@@ -3,8 +3,6 @@ use Rattle.std.proofs.Common.{◌≡◌, ℕ, ◌+◌, ◌-◌, ◌*◌, ◌/◌
 use Rattle.std.proofs.lemmas.Nat.{shl-shr, shr_split, pow-add, or_comm, or_lt, or_shifted, mod-pow-add, mod_low, from_le_bytes-to_le_bytes_8, shr_below, mul-add-lt, mod_below, pow_pos, pow_below}
 use native.Mathlib.Nat.{pow-le-pow_right}
 use Rattle.std.specs.Int.{to_le_bytes, w64, div_ceil}
-use Rattle.std.specs.List.{AllByRecursion, All}
-use Rattle.std.proofs.lemmas.List.Elements.{All-from_recursion}
 use Rattle.col_common.specs.Ascending.{AreBelow}
 use Rattle.col_bits.specs.Packed.{number_of}
 use Rattle.col_bits.proofs.PackedLemmas.{number_of-append, pow-pow}
@@ -92,11 +90,8 @@ rest_fits f v w small below over =
     shr_below v (f + w - 64) (64 - f) (subst q e small)
 
 -- a word's bytes are bytes
-word_bytes : (n : ℕ) → AreBelow 256 (to_le_bytes w64 n)
+pub word_bytes : (n : ℕ) → AreBelow 256 (to_le_bytes w64 n)
 word_bytes n = (omega arith, (omega arith, (omega arith, (omega arith, (omega arith, (omega arith, (omega arith, (omega arith, tt))))))))
-
-pub all_word_bytes : (n : ℕ) → AreBelow 256 (to_le_bytes w64 n)
-all_word_bytes n = All-from_recursion (λ d. d < 256) (to_le_bytes w64 n) (word_bytes n)
 
 -- the bytes of the bits that are held
 pub bits_closed : (held f : ℕ) (out : List ℕ) → held < 2 ^ f → f < 64 → number_of 256 (out ++ take (div_ceil f 8) (to_le_bytes w64 held)) ≡ number_of 256 out + held * 2 ^ (8 * length out)

@@ -1,7 +1,7 @@
 //! Packs and reads numbers of one width in bits, the lowest bits first.
 ghost use Rattle.std.specs.Prelude.{◌≡◌, ℕ, ◌+◌, ◌-◌, ◌*◌, ◌/◌, ◌%◌, ◌^◌, ◌<◌, ◌≤◌};
 ghost use Rattle.std.specs.Prelude.{List, length, slice_index};
-ghost use Rattle.std.specs.Prelude.{◌↔◌, ◌++◌, [], true, IsTrue, OnOk, OnErr, take};
+ghost use Rattle.std.specs.Prelude.{◌↔◌, ◌++◌, [], IsTrue, true, OnOk, OnErr, take};
 ghost use Rattle.std.specs.Int.{div_ceil, is_in_range};
 ghost use Rattle.std.specs.Range.{range_inclusive_start, range_inclusive_end};
 ghost use Rattle.col_common.specs.Ascending.{is_rising};

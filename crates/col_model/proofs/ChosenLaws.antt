@@ -1,6 +1,6 @@
 -- Under the chosen codec a list is read back.
 use Rattle.std.proofs.Common.{◌≡◌, ℕ, zero, suc, ◌^◌, ◌<◌, Bool, true, false, List, [], ◌∷◌, length, Option, Some, None, refl, sym, ap, ◌∙◌, cond}
-use Rattle.std.specs.List.{AllByRecursion, list_all}
+use Rattle.std.specs.List.{list_all}
 use Rattle.std.proofs.lemmas.Option.{none-some, same_Some}
 use Rattle.col_common.specs.Ascending.{AreBelow}
 use Rattle.col_model.specs.U64List.{values64, bitpacked_bytes}

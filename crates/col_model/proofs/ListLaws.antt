@@ -1,11 +1,11 @@
 -- Lists: what all items keep, and where items stand.
-use Rattle.std.proofs.Common.{◌≡◌, ℕ, zero, suc, nat_lt, false, lt-ltb, List, [], ◌∷◌, ◌++◌, map, filter_map, length, take, drop, slice_get, Some, refl, sym, ◌∙◌, ap, arith, ◌+◌, sum}
+use Rattle.std.proofs.Common.{◌≡◌, ℕ, zero, suc, ◌<◌, nat_lt, true, false, lt-ltb, List, [], ◌∷◌, ◌++◌, map, filter_map, length, take, drop, slice_get, Some, refl, sym, ◌∙◌, ap, arith, ◌+◌, sum}
 use Rattle.std.specs.List.{AllByRecursion, range_with_len}
-use Rattle.std.proofs.lemmas.Bool.{true≢false}
+use Rattle.std.proofs.lemmas.Bool.{true≢false, and_parts}
 use Rattle.std.proofs.lemmas.List.Sums.{sum_by-cons}
 use Rattle.std.proofs.lemmas.List.{map-id}
 use Rattle.std.proofs.lemmas.List.FromFn.{map-range_with_len_more}
-use Rattle.col_common.specs.Ascending.{differences}
+use Rattle.col_common.specs.Ascending.{is_before, is_ascending, differences}
 use Rattle.col_model.specs.Limits.{cell_count}
 use Rattle.col_model.specs.Table.{Cell}
 
@@ -57,6 +57,17 @@ sum-cons k ks = sum_by-cons (λ k. k) k ks
 pub all-two : {A : Type 0} (P : A → Type 0) (xs ys : List A) → AllByRecursion P xs → AllByRecursion P ys → AllByRecursion P (xs ++ ys)
 all-two P [] ys a b = b
 all-two P (x ∷ xs) ys a b = (a.0, all-two P xs ys a.1 b)
+
+-- an item that is there
+pub item-at : {A : Type 0} (xs : List A) (k : ℕ) → k < length xs → (x : A) × (slice_get xs k ≡ Some x)
+item-at [] k h = absurd (omega arith)
+item-at (x ∷ xs) zero h = (x, refl)
+item-at (x ∷ xs) (suc k) h = item-at xs k (omega arith)
+
+-- byte lists ascend behind the first
+pub ascending-tail : (a : List ℕ) (others : List (List ℕ)) → is_ascending (a ∷ others) ≡ true → is_ascending others ≡ true
+ascending-tail a [] e = refl
+ascending-tail a (b ∷ bs) e = (and_parts (is_before a b) (is_ascending (b ∷ bs)) e).1
 
 -- the cells of one more row
 pub cell_count-cons : (row : List Cell) (rows : List (List Cell)) → cell_count (row ∷ rows) ≡ length row + cell_count rows

@@ -1,6 +1,5 @@
 -- A packed list has the bits of its bytes.
 use Rattle.std.proofs.Common.{◌≡◌, ℕ, ◌+◌, ◌-◌, ◌*◌, ◌/◌, ◌%◌, ◌^◌, ◌<◌, List, length, slice_index, sym, ◌∙◌, ap, arith, lit<, mul_comm}
-use Rattle.std.specs.List.{AllByRecursion}
 use Rattle.std.specs.Int.{bit_at, div_ceil}
 use Rattle.std.proofs.lemmas.Nat.{pow_pos, shr-shr, mul-add-lt}
 use Rattle.std.proofs.lemmas.Option.{cond_some}

@@ -69,8 +69,9 @@ are_merge_words (_ ∷ []) inputs = false
 are_merge_words (merge ∷ out ∷ ins) inputs =
     bytes_eq merge (codes "merge") && (length ins == inputs) && nat_lt inputs (2 ^ 16)
 
--- The outcome while `merge` is the only command: 2 for other words, 21 for a longer script, 20
--- for a bad one, else the first refusal's status, or the table and its report.
+-- The outcome where the words aren't those of `gen`: 2 if they aren't those of `merge` either, 21
+-- for a longer script, 20 for a bad one, else the first refusal's status, or the table and its
+-- report.
 unfoldable pub outcome_of_merge : List (List ℕ) → List (List ℕ) → List ℕ → Outcome
 outcome_of_merge words inputs script =
     let read = script_outcome false inputs (script_of script) in

@@ -11,6 +11,7 @@ use Rattle.col_model.specs.Category.{category_of, only_type, Slot, slot_of, same
 use Rattle.col_model.specs.ColumnType.{ColumnType, is_numerical}
 use Rattle.col_model.specs.ColumnType as types
 use Rattle.col_model.specs.Keys.{Key, key_bytes}
+use Rattle.col_model.proofs.ListLaws.{ascending-tail}
 use Rattle.col_model.proofs.OrderedColumns.{same-slots}
 use Rattle.col_model.proofs.OrderingLaws.{less_of}
 use Rattle.col_model.proofs.SharedTypes.{only-type, own-type}
@@ -35,10 +36,6 @@ behind a [] e = tt
 behind a (b ∷ bs) e =
     let parts = and_parts (is_before a b) (is_ascending (b ∷ bs)) e in
     (parts.0, all_by (λ c f. before-trans a b c parts.0 f) bs (behind b bs parts.1))
-
-ascending-tail : (a : List ℕ) (others : List (List ℕ)) → is_ascending (a ∷ others) ≡ true → is_ascending others ≡ true
-ascending-tail a [] e = refl
-ascending-tail a (b ∷ bs) e = (and_parts (is_before a b) (is_ascending (b ∷ bs)) e).1
 
 -- ---- keys of different slots
 

@@ -3,6 +3,7 @@ use Rattle.std.proofs.Common.{◌≡◌, ℕ, zero, suc, ◌+◌, ◌-◌, Bool,
 use Rattle.std.specs.List.{enumerate_from}
 use Rattle.std.proofs.lemmas.Bool.{and_parts}
 use Rattle.col_common.specs.Ascending.{is_ascending, is_before}
+use Rattle.col_model.proofs.ListLaws.{ascending-tail}
 use Rattle.col_terms.specs.Streams.{OrdTerm, numbered, walk_between, IsWalk}
 use Rattle.col_terms.specs.TermTable.{terms_of}
 use Rattle.col_terms.proofs.TableLemmas.{table_ascending}
@@ -14,14 +15,10 @@ numbered-terms n (t ∷ ts) = ap (λ r. t ∷ r) (numbered-terms (n + 1) ts)
 abbrev texts : List OrdTerm → List (List ℕ)
 texts ps = map (λ (p : OrdTerm). p.1) ps
 
-rest-ascends : (t : List ℕ) (ts : List (List ℕ)) → is_ascending (t ∷ ts) ≡ true → is_ascending ts ≡ true
-rest-ascends t [] e = refl
-rest-ascends t (u ∷ ts) e = (and_parts (is_before t u) (is_ascending (u ∷ ts)) e).1
-
 dropped-ascends : (n : ℕ) (ps : List OrdTerm) → is_ascending (texts ps) ≡ true → is_ascending (texts (drop n ps)) ≡ true
 dropped-ascends zero ps e = e
 dropped-ascends (suc n) [] e = refl
-dropped-ascends (suc n) (p ∷ ps) e = dropped-ascends n ps (rest-ascends p.1 (texts ps) e)
+dropped-ascends (suc n) (p ∷ ps) e = dropped-ascends n ps (ascending-tail p.1 (texts ps) e)
 
 taken-ascends : (n : ℕ) (ps : List OrdTerm) → is_ascending (texts ps) ≡ true → is_ascending (texts (take n ps)) ≡ true
 taken-ascends zero ps e = refl

@@ -1,9 +1,9 @@
-use Rattle.std.proofs.Common.{◌≡◌, ◌<◌, ◌∙◌, ◌++◌, ap, take}
+use Rattle.std.proofs.Common.{◌≡◌, ℕ, ◌<◌, ◌∙◌, ◌++◌, ap, take}
 use Rattle.std.specs.Int.{to_le_bytes, w64, div_ceil}
 use Rattle.col_bits.specs.Packed.{number_of}
 use Rattle.col_bits.specs.Packing.{Held, bits_of}
-use Rattle.std.proofs.lemmas.List.Elements.{All-take}
-use Rattle.col_bits.proofs.WriteLemmas.{bits_closed, all_word_bytes}
+use Rattle.std.proofs.lemmas.List.Elements.{recursion_from_All, All-from_recursion, All-take}
+use Rattle.col_bits.proofs.WriteLemmas.{bits_closed, word_bytes}
 use Rattle.col_bits.proofs.bitpacker.BitPacker.close.Goals as goal
 
 -- what is written
@@ -29,8 +29,9 @@ returns-clause-bytes c =
     let s = c.self.inside in
     let k = div_ceil s.mini_buffer_written 8 in
     let word = to_le_bytes w64 s.mini_buffer in
+    let IsByte : ℕ → Type 0 = λ b. b < 256 in
     record {
       added = take k word;
-      bytes = All-take (λ b. b < 256) k word (all_word_bytes s.mini_buffer);
+      bytes = recursion_from_All IsByte (take k word) (All-take IsByte k word (All-from_recursion IsByte word (word_bytes s.mini_buffer)));
       front = closed_items c;
     }

@@ -2,7 +2,7 @@ use Rattle.std.proofs.Common.{◌≡◌, ◌∙◌, ◌+◌, ◌*◌, ◌%◌, �
 use Rattle.std.specs.Int.{to_le_bytes, w64}
 use Rattle.col_bits.specs.Packed.{number_of}
 use Rattle.col_bits.specs.Packing.{Held, bits_of, count_of}
-use Rattle.col_bits.proofs.WriteLemmas.{held_fits, bits_fit, bits_spill, rest_fits, all_word_bytes}
+use Rattle.col_bits.proofs.WriteLemmas.{held_fits, bits_fit, bits_spill, rest_fits, word_bytes}
 use Rattle.col_bits.proofs.PackingLemmas.{AddsBytes-nil}
 use Rattle.col_bits.proofs.bitpacker.BitPacker.write.Goals as goal
 
@@ -49,6 +49,6 @@ returns-clause-bytes c =
     let word : ℕ = bit_or s.mini_buffer (c.args.val * 2 ^ s.mini_buffer_written % 2 ^ 64) in
     record {
       added = to_le_bytes w64 word;
-      bytes = all_word_bytes word;
+      bytes = word_bytes word;
       front = c.in_ok-extend_from_slice.ensures.items ∙ ap (λ bs. c.args.output.now.items ++ bs) c.to_le_bytes.ensures;
     }
