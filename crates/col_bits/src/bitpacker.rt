@@ -21,6 +21,7 @@ const MAX_SMALL_WIDTH: u32 = 56;
 
 // How many ids are tested before those that were found are appended.
 const ID_BLOCK_LEN: u32 = 1024;
+
 const ID_BLOCK_SIZE: usize = ID_BLOCK_LEN as usize;
 
 /// The width of numbers up to `n`: its binary digits where these are at most 56, else 64.
