@@ -204,7 +204,7 @@ impl MultiValueIndexV2 {
         docs: &[DocId],
         docs_out: &mut Vec<DocId>,
         rows_out: &mut Vec<RowId>,
-    ) -> Result<(), ColumnarError>
+    ) -> Result<(), AllocError>
         ensures { PushesBoth docs_out.old.items docs_out.new.items
             rows_out.old.items rows_out.new.items result
             (docs_of (row_positions (offset_counts self.now) docs.now))
@@ -225,7 +225,7 @@ impl MultiValueIndexV2 {
         docs: &[DocId],
         docs_out: &mut Vec<DocId>,
         rows_out: &mut Vec<RowId>,
-    ) -> Result<(), ColumnarError>
+    ) -> Result<(), AllocError>
         ensures { PushesBoth docs_out.old.items docs_out.new.items
             rows_out.old.items rows_out.new.items result
             (docs_of (row_positions (offset_counts self.now) docs.now))
