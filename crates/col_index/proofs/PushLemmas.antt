@@ -2,8 +2,7 @@
 use Rattle.std.proofs.Common.{◌≡◌, ℕ, ◌+◌, ◌-◌, ◌<◌, ◌≤◌, cond, true, List, [], ◌∷◌, ◌++◌, length, map, flat_map, take, get_or, Result, Ok, Err, IsErrAnd, sym, ap, ◌∙◌, append_assoc, append-nil, arith}
 use Rattle.std.proofs.lemmas.List.{map-append, take_more, flat_map_more}
 use Rattle.std.proofs.lemmas.List.Elements.{filter-append}
-use Rattle.col_common.specs.declared.error.ColumnarError.{ColumnarError}
-use Rattle.col_common.specs.declared.error.ColumnarError.TheVariants as refusals
+use Rattle.std.specs.declared.alloc.AllocError.{AllocError}
 use Rattle.col_model.specs.Index.{multivalued_shape}
 use Rattle.col_model.specs.Positions.{rank, values_in}
 use Rattle.col_index.specs.Offsets.{run, docs_of, positions_of, positions_of_rows, row_positions}
@@ -22,14 +21,9 @@ pub begins-more : (new found front more later : List ℕ) → new ≡ found ++ l
 begins-more new found front more later n e = (more ++ later, n ∙ ap (λ xs. xs ++ later) e ∙ append_assoc front more later)
 
 -- want of memory
-pub pushes-stopped : {docs_old docs_new rows_old rows_new docs rows : List ℕ} (r : Result (Unit {0}) ColumnarError) → IsErrAnd r (λ e. e ≡ refusals.OutOfMemory) → BeginsWith docs_new docs_old → BeginsWith rows_new rows_old → PushesBoth docs_old docs_new rows_old rows_new r docs rows
+pub pushes-stopped : {docs_old docs_new rows_old rows_new docs rows : List ℕ} {Q : AllocError → Type 0} (r : Result (Unit {0}) AllocError) → IsErrAnd r Q → BeginsWith docs_new docs_old → BeginsWith rows_new rows_old → PushesBoth docs_old docs_new rows_old rows_new r docs rows
 pushes-stopped (Ok v) h p q = absurd h
-pushes-stopped (Err e) h p q = record { docs = tt; rows = tt; err = (h, p, q) }
-
--- a refusal that is passed on
-pub pushes-refused : {docs_old docs_new rows_old rows_new docs rows : List ℕ} (r : Result (Unit {0}) ColumnarError) (x : ColumnarError) → IsErrAnd r (λ e. e ≡ x) → x ≡ refusals.OutOfMemory → BeginsWith docs_new docs_old → BeginsWith rows_new rows_old → PushesBoth docs_old docs_new rows_old rows_new r docs rows
-pushes-refused (Ok v) x h o p q = absurd h
-pushes-refused (Err e) x h o p q = record { docs = tt; rows = tt; err = (h ∙ o, p, q) }
+pushes-stopped (Err e) h p q = record { docs = tt; rows = tt; err = (p, q) }
 
 -- ---- a run, one position after another
 

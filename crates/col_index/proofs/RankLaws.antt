@@ -3,7 +3,8 @@ use Rattle.std.proofs.Common.{◌≡◌, ℕ, zero, suc, ◌+◌, ◌<◌, ◌�
 use Rattle.std.specs.List.{AllByRecursion, list_all}
 use Rattle.std.proofs.lemmas.Bool.{and_parts, lt-ltb, le-ltb, ltb-true, le-leb, lt-leb, cases_lt, cond-true, cond-false}
 use Rattle.std.proofs.lemmas.List.Sums.{sum_by-cons, count_by-le-length}
-use Rattle.col_common.specs.Ascending.{is_rising}
+use Rattle.std.proofs.lemmas.List.Elements.{All-from_recursion}
+use Rattle.col_common.specs.Ascending.{is_rising, AreBelow}
 use Rattle.col_model.specs.Index.{RowSet}
 use Rattle.col_model.specs.Positions.{rank, next_row}
 use Rattle.col_index.specs.Search.{IsNarrowed}
@@ -38,6 +39,9 @@ pub all_at : (b : ℕ) (xs : List ℕ) (k : ℕ) → AllByRecursion (λ y. b ≤
 all_at b [] k a h = absurd (omega arith)
 all_at b (x ∷ xs) zero a h = a.0
 all_at b (x ∷ xs) (suc k) a h = all_at b xs k a.1 (omega arith)
+
+pub below_at : (b : ℕ) (xs : List ℕ) (k : ℕ) → AreBelow b xs → k < length xs → get_or xs k 0 < b
+below_at b xs k a h = All-from_recursion (λ x. x < b) xs a k 0 h
 
 -- ---- ranks
 

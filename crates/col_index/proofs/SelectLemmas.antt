@@ -2,6 +2,7 @@
 use Rattle.std.proofs.Common.{◌≡◌, ℕ, ◌+◌, ◌<◌, List, [], ◌∷◌, ◌++◌, length, map, take, drop, set, get_or, slice_get, Some, sym, ap, ◌∙◌, arith}
 use Rattle.std.proofs.lemmas.List.{get_or-drop, drop-drop, drop-set-lt, take_more, take_more_set, map-append}
 use Rattle.col_common.specs.Ascending.{AreBelow}
+use Rattle.col_index.proofs.RankLaws.{below_at}
 
 module _ (rows old xs : List ℕ) (at : ℕ) (h : at < length old) (rest : drop at xs ≡ drop at old) where
   -- what isn't replaced yet is the same
@@ -11,7 +12,7 @@ module _ (rows old xs : List ℕ) (at : ℕ) (h : at < length old) (rest : drop 
       ap (λ k. get_or xs k 0) (sym e) ∙ sym (get_or-drop at xs 0 0) ∙ ap (λ l. get_or l 0 0) rest ∙ get_or-drop at old 0 0 ∙ ap (λ k. get_or old k 0) e
 
   pub rank_below : AreBelow (length rows) old → get_or xs at 0 < length rows
-  rank_below below = let here = below at 0 h in omega (arith, same_at, here)
+  rank_below below = let here = below_at (length rows) old at below h in omega (arith, same_at, here)
 
   pub selected_front : (row : ℕ) → length xs ≡ length old → map Some (take at xs) ≡ map (slice_get rows) (take at old) → slice_get rows (get_or xs at 0) ≡ Some row → map Some (take (at + 1) (set xs at row)) ≡ map (slice_get rows) (take (at + 1) old)
   selected_front row long front read =

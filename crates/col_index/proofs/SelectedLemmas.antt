@@ -1,10 +1,9 @@
 -- Rows of a set that are selected by their ranks.
 use Rattle.std.proofs.Common.{◌≡◌, ℕ, ◌+◌, ◌<◌, ◌≤◌, ◌&&◌, ◌||◌, nat_eq, nat_lt, nat_le, Bool, true, List, [], ◌∷◌, length, map, get_or, Some, refl, sym, ap, ◌∙◌, inl, inr, arith}
-use Rattle.std.specs.List.{AllByRecursion, list_all, list_any, range_with_len, filter, sum, slice_get}
+use Rattle.std.specs.List.{list_all, list_any, range_with_len, filter, sum, slice_get}
 use Rattle.std.proofs.Math.Bool.{and-false}
 use Rattle.std.proofs.lemmas.Bool.{and_parts, and_from, lt-ltb, le-ltb, le-leb, lt-leb, ltb-true, eq-eqb, ne_eqb, cases_lt, cases_order}
 use Rattle.std.proofs.lemmas.Option.{get_or_from_slice_get}
-use Rattle.std.proofs.lemmas.List.Elements.{All-from_recursion}
 use Rattle.col_common.specs.Ascending.{is_rising, AreBelow}
 use Rattle.col_model.specs.Index.{RowSet, set_counts}
 use Rattle.col_model.specs.Positions.{rank, start_of, is_in_row, rows_at}
@@ -20,14 +19,8 @@ abbrev pub rows_of : List ℕ → List ℕ → List ℕ
 rows_of rows ranks = map (λ k. get_or rows k 0) ranks
 
 -- positions below the count of values are ranks
-abbrev AreRanks : List ℕ → List ℕ → Type 0
-AreRanks rows ranks = AreBelow (length rows) ranks
-
-ranks_of : (s : RowSet) → AreRows s → (ranks : List ℕ) → list_all (λ p. nat_lt p (sum (set_counts s))) ranks ≡ true → AreRanks s.rows ranks
-ranks_of s a ranks e = all_below (length s.rows) ranks (ap (λ n. list_all (λ p. nat_lt p n) ranks) (sym (sum-set_counts s a)) ∙ e)
-
 pub ranks_below : (s : RowSet) → AreRows s → (ranks : List ℕ) → list_all (λ p. nat_lt p (sum (set_counts s))) ranks ≡ true → AreBelow (length s.rows) ranks
-ranks_below s a ranks e = All-from_recursion (λ k. k < length s.rows) ranks (ranks_of s a ranks e)
+ranks_below s a ranks e = all_below (length s.rows) ranks (ap (λ n. list_all (λ p. nat_lt p n) ranks) (sym (sum-set_counts s a)) ∙ e)
 
 -- what was selected one by one
 pub selected_each : (rows ranks xs : List ℕ) → map Some xs ≡ map (slice_get rows) ranks → xs ≡ rows_of rows ranks
@@ -42,7 +35,7 @@ selected_each rows (k ∷ ranks) (x ∷ xs) e =
     cc
 
 -- ranks that rise select rows that rise
-selected_rise : (rows ranks : List ℕ) → is_rising rows ≡ true → is_rising ranks ≡ true → AreRanks rows ranks → is_rising (rows_of rows ranks) ≡ true
+selected_rise : (rows ranks : List ℕ) → is_rising rows ≡ true → is_rising ranks ≡ true → AreBelow (length rows) ranks → is_rising (rows_of rows ranks) ≡ true
 selected_rise rows [] r e b = refl
 selected_rise rows (k ∷ []) r e b = refl
 selected_rise rows (j ∷ k ∷ ranks) r e b =
@@ -51,7 +44,7 @@ selected_rise rows (j ∷ k ∷ ranks) r e b =
     let low : get_or rows j 0 < get_or rows k 0 = below_rank rows (get_or rows k 0) j r (omega (arith, here, up)) in
     and_from _ _ (lt-ltb (get_or rows j 0) (get_or rows k 0) low) (selected_rise rows (k ∷ ranks) r (tail_rises j (k ∷ ranks) e) b.1)
 
-selected_below : (rows ranks : List ℕ) (n : ℕ) → list_all (λ r. nat_lt r n) rows ≡ true → AreRanks rows ranks → list_all (λ r. nat_lt r n) (rows_of rows ranks) ≡ true
+selected_below : (rows ranks : List ℕ) (n : ℕ) → list_all (λ r. nat_lt r n) rows ≡ true → AreBelow (length rows) ranks → list_all (λ r. nat_lt r n) (rows_of rows ranks) ≡ true
 selected_below rows [] n e b = refl
 selected_below rows (k ∷ ranks) n e b = and_from _ _ (passes_at (λ r. nat_lt r n) rows k e b.0) (selected_below rows ranks n e b.1)
 
@@ -78,7 +71,7 @@ in_row s a p row h =
       | inr (inr high) ↦ ap (λ b. nat_le (rank s.rows row) p && b) (le-ltb p (rank s.rows (row + 1)) (behind (row + 1) (omega (arith, high)))) ∙ and-false (nat_le (rank s.rows row) p) ∙ sym (ne_eqb (get_or s.rows p 0) row (λ e. omega (arith, e, high)))
     ]
 
-any_in_row : (s : RowSet) → AreRows s → (ranks : List ℕ) (row : ℕ) → AreRanks s.rows ranks → list_any (λ p. is_in_row (set_counts s) p row) ranks ≡ holds (rows_of s.rows ranks) row
+any_in_row : (s : RowSet) → AreRows s → (ranks : List ℕ) (row : ℕ) → AreBelow (length s.rows) ranks → list_any (λ p. is_in_row (set_counts s) p row) ranks ≡ holds (rows_of s.rows ranks) row
 any_in_row s a [] row b = refl
 any_in_row s a (k ∷ ranks) row b =
     ap (λ t. t || list_any (λ p. is_in_row (set_counts s) p row) ranks) (in_row s a k row b.0)
@@ -87,7 +80,7 @@ any_in_row s a (k ∷ ranks) row b =
 -- the rows that have the positions are those of the ranks
 pub rows_at-selected : (s : RowSet) → AreRows s → (ranks : List ℕ) → is_rising ranks ≡ true → list_all (λ p. nat_lt p (sum (set_counts s))) ranks ≡ true → rows_of s.rows ranks ≡ rows_at (set_counts s) ranks
 rows_at-selected s a ranks r e =
-    let b = ranks_of s a ranks e in
+    let b = ranks_below s a ranks e in
     let chosen : RowSet = record { num_rows = s.num_rows; rows = rows_of s.rows ranks } in
     let test : ℕ → Bool = λ row. list_any (λ p. is_in_row (set_counts s) p row) ranks in
     let are : AreRows chosen = and_from _ _ (selected_rise s.rows ranks (rows_rise s a) r b) (selected_below s.rows ranks s.num_rows (rows_below s a) b) in

@@ -4,10 +4,10 @@ use Rattle.std.specs.List.{list_all, starts_with}
 use Rattle.std.proofs.lemmas.Bool.{and_parts, lt-ltb, le-ltb, ltb-true, eqb-true, eq-eqb}
 use Rattle.std.proofs.Math.Bool.{and-true}
 use Rattle.std.proofs.lemmas.Option.{get_or_from_slice_get, slice_get_within}
-use Rattle.std.proofs.lemmas.List.Sums.{AllPass-from_list_all}
 use Rattle.col_common.specs.Ascending.{is_rising, AreBelow}
 use Rattle.col_model.specs.Index.{are_offsets}
 use Rattle.col_index.specs.Offsets.{is_start_list}
+use Rattle.col_index.proofs.SpreadLaws.{all_below}
 
 -- what passes for each passes at a place
 pub passes_at : (test : ℕ → Bool) (xs : List ℕ) (i : ℕ) → list_all test xs ≡ true → i < length xs → test (slice_index xs i) ≡ true
@@ -47,9 +47,7 @@ start-fits n starts i v e g =
 
 -- all are
 pub starts-below : (n : ℕ) (starts : List ℕ) → is_start_list n starts ≡ true → AreBelow (2 ^ 32) starts
-starts-below n starts e =
-    let small = AllPass-from_list_all (λ s. nat_lt s (2 ^ 32)) starts (start_list-parts n starts e).small in
-    λ k d h. ltb-true _ _ (small k d h)
+starts-below n starts e = all_below (2 ^ 32) starts (start_list-parts n starts e).small
 
 -- offsets begin with 0
 pub offsets-zeroth : (starts : List ℕ) → are_offsets starts ≡ true → slice_index starts 0 ≡ 0

@@ -9,6 +9,7 @@ use Rattle.col_index.specs.Offsets.{AreOffsets}
 use Rattle.col_index.specs.Places.{IsPlace}
 use Rattle.col_index.proofs.InRowLemmas.{some-started, end-unstarted}
 use Rattle.col_index.proofs.KeptLemmas.{IsSelected, selected-read}
+use Rattle.col_index.proofs.RankLaws.{below_at}
 use Rattle.col_index.proofs.RowsAtLemmas.{filter-none, after, select-same, select-next}
 
 -- no position
@@ -28,6 +29,9 @@ turned o ps xs kept at position next p t read s = record {
 }
 
 module _ (o : RowOffsets) (a : AreOffsets o) (ps : List ℕ) (at : ℕ) (e : is_rising ps ≡ true) (within : at < length ps) (below : AreBelow (sum (offset_counts o)) ps) where
+  here : get_or ps at 0 < sum (offset_counts o)
+  here = below_at (sum (offset_counts o)) ps at below within
+
   module _ (next : Place) (t : IsTurn o ps at next) where
     ranked : next.at ≡ rank o.starts (get_or ps at 0 + 1)
     ranked = t.place.count ∙ ap (rank o.starts) t.target
@@ -38,7 +42,7 @@ module _ (o : RowOffsets) (a : AreOffsets o) (ps : List ℕ) (at : ℕ) (e : is_
 
     -- the last that does is the start of a row
     pub turn-inside : next.at - 1 < length o.set.rows
-    turn-inside = let end = end-unstarted o a (get_or ps at 0) (below at 0 within) in omega (arith, ranked, turn-some)
+    turn-inside = let end = end-unstarted o a (get_or ps at 0) here in omega (arith, ranked, turn-some)
 
     module _ (place : Place) (p : IsPlace o.starts place) (u : place.target ≡ after at ps) where
       before : place.at ≡ rank o.starts (after at ps)
@@ -46,11 +50,11 @@ module _ (o : RowOffsets) (a : AreOffsets o) (ps : List ℕ) (at : ℕ) (e : is_
 
       -- no further start counts
       pub turn-same : next.at ≡ place.at → rows_at (offset_counts o) (take (at + 1) ps) ≡ rows_at (offset_counts o) (take at ps)
-      turn-same s = select-same o a ps at e within (below at 0 within) (sym ranked ∙ s ∙ before)
+      turn-same s = select-same o a ps at e within here (sym ranked ∙ s ∙ before)
 
       -- a further start counts
       pub turn-next : (next.at ≡ place.at → ⊥) → (row : ℕ) → slice_get o.set.rows (next.at - 1) ≡ Some row → rows_at (offset_counts o) (take (at + 1) ps) ≡ rows_at (offset_counts o) (take at ps) ++ row ∷ []
       turn-next n row read =
-          select-next o a ps at e within (below at 0 within) (λ s. n (ranked ∙ s ∙ sym before))
+          select-next o a ps at e within here (λ s. n (ranked ∙ s ∙ sym before))
           ∙ ap (λ k. rows_at (offset_counts o) (take at ps) ++ get_or o.set.rows (k - 1) 0 ∷ []) (sym ranked)
           ∙ ap (λ r. rows_at (offset_counts o) (take at ps) ++ r ∷ []) (get_or_from_slice_get o.set.rows (next.at - 1) row 0 read)

@@ -13,6 +13,7 @@ use Rattle.col_index.specs.declared.windows.Window.{Window}
 use Rattle.col_index.proofs.CountLaws.{offset_starts}
 use Rattle.col_index.proofs.InRowLemmas.{some-started, end-unstarted}
 use Rattle.col_index.proofs.KeptLemmas.{IsSelected, selected-same, selected-next}
+use Rattle.col_index.proofs.RankLaws.{below_at}
 use Rattle.col_index.proofs.RowsAtLemmas.{after, select-same, select-next}
 
 -- what a window's table says of a position in it
@@ -31,6 +32,9 @@ written counts ps xs kept at row few s = record {
 }
 
 module _ (o : RowOffsets) (a : AreOffsets o) (ps : List ℕ) (at : ℕ) (e : is_rising ps ≡ true) (within : at < length ps) (below : AreBelow (sum (offset_counts o)) ps) where
+  here : get_or ps at 0 < sum (offset_counts o)
+  here = below_at (sum (offset_counts o)) ps at below within
+
   -- how many start offsets are at or before a position
   abbrev pub started_at : ℕ
   started_at = rank o.starts (get_or ps at 0 + 1)
@@ -41,7 +45,7 @@ module _ (o : RowOffsets) (a : AreOffsets o) (ps : List ℕ) (at : ℕ) (e : is_
 
   -- and one more that isn't
   pub started-inside : started_at ≤ length o.set.rows
-  started-inside = end-unstarted o a (get_or ps at 0) (below at 0 within)
+  started-inside = end-unstarted o a (get_or ps at 0) here
 
   pub started-listed : started_at < length o.starts
   started-listed = let long = (offset_starts o a).long in omega (arith, started-inside)
@@ -50,14 +54,14 @@ module _ (o : RowOffsets) (a : AreOffsets o) (ps : List ℕ) (at : ℕ) (e : is_
     -- the row of the position before
     row-same : started ≡ before → IsSelected (offset_counts o) ps (set xs kept row) kept (at + 1)
     row-same q =
-        let same = select-same o a ps at e within (below at 0 within) (sym r ∙ q ∙ b) in
+        let same = select-same o a ps at e within here (sym r ∙ q ∙ b) in
         written (offset_counts o) ps xs kept at row s.few (selected-same (offset_counts o) ps xs kept at s same)
 
     -- another row
     row-next : (started ≡ before → ⊥) → IsSelected (offset_counts o) ps (set xs kept row) (kept + 1) (at + 1)
     row-next n =
         let found : get_or o.set.rows (rank o.starts (get_or ps at 0 + 1) - 1) 0 ≡ row = ap (λ k. get_or o.set.rows (k - 1) 0) (sym r) ∙ get_or_from_slice_get o.set.rows (started - 1) row 0 read in
-        let next = select-next o a ps at e within (below at 0 within) (λ q. n (r ∙ q ∙ sym b)) in
+        let next = select-next o a ps at e within here (λ q. n (r ∙ q ∙ sym b)) in
         let long : at < length xs = omega (arith, s.long, within) in
         selected-next (offset_counts o) ps xs kept at s row long (next ∙ ap (λ x. rows_at (offset_counts o) (take at ps) ++ x ∷ []) found)
 

@@ -1,7 +1,6 @@
 -- Calls that append documents to one list and positions to another.
-use Rattle.std.specs.Prelude.{◌≡◌, ℕ, List, ◌++◌, Result, IfErr, OnOk}
-use Rattle.col_common.specs.declared.error.ColumnarError.{ColumnarError}
-use Rattle.col_common.specs.declared.error.ColumnarError.TheVariants as refusals
+use Rattle.std.specs.Prelude.{◌≡◌, ℕ, List, ◌++◌, Result, OnOk, OnErr}
+use Rattle.std.specs.declared.alloc.AllocError.{AllocError}
 
 -- the list has another one in front
 abbrev pub BeginsWith : List ℕ → List ℕ → Type 0
@@ -9,16 +8,14 @@ BeginsWith xs front = (more : List ℕ) × (xs ≡ front ++ more)
 
 -- it appends to both lists, or, where memory is wanting, to neither
 pub record AppendsBoth (docs_old docs_new rows_old rows_new : List ℕ)
-    (result : Result (Unit {0}) ColumnarError) (more_docs more_rows : List ℕ) : Type 0 where
+    (result : Result (Unit {0}) AllocError) (more_docs more_rows : List ℕ) : Type 0 where
   pub docs : OnOk result (docs_new ≡ docs_old ++ more_docs)
   pub rows : OnOk result (rows_new ≡ rows_old ++ more_rows)
-  pub err : IfErr result (λ e.
-      (e ≡ refusals.OutOfMemory) × (docs_new ≡ docs_old) × (rows_new ≡ rows_old))
+  pub err : OnErr result ((docs_new ≡ docs_old) × (rows_new ≡ rows_old))
 
 -- it appends to both lists, or, where memory is wanting, some items to each
 pub record PushesBoth (docs_old docs_new rows_old rows_new : List ℕ)
-    (result : Result (Unit {0}) ColumnarError) (more_docs more_rows : List ℕ) : Type 0 where
+    (result : Result (Unit {0}) AllocError) (more_docs more_rows : List ℕ) : Type 0 where
   pub docs : OnOk result (docs_new ≡ docs_old ++ more_docs)
   pub rows : OnOk result (rows_new ≡ rows_old ++ more_rows)
-  pub err : IfErr result (λ e.
-      (e ≡ refusals.OutOfMemory) × BeginsWith docs_new docs_old × BeginsWith rows_new rows_old)
+  pub err : OnErr result (BeginsWith docs_new docs_old × BeginsWith rows_new rows_old)

@@ -2,6 +2,7 @@
 -- sections 8 and 11.
 use Rattle.std.specs.Prelude.{ℕ}
 use Rattle.col_model.specs.Table as tables
+use Rattle.col_model.specs.Version.{current_version}
 use Rattle.col_index.specs.declared.cardinality.Cardinality.{Cardinality}
 use Rattle.col_index.specs.declared.cardinality.Cardinality.TheVariants.{Full, Optional, Multivalued}
 use Rattle.col_index.specs.declared.format_version.Version.{Version}
@@ -19,4 +20,4 @@ code_of c = tables.cardinality_code (cardinality_of c)
 
 -- the number of a version
 abbrev pub version_number : Version → ℕ
-version_number V2 = 2
+version_number V2 = current_version

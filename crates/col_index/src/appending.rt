@@ -3,7 +3,8 @@ ghost use Rattle.std.specs.Prelude.{◌-◌, [], ◌∷◌};
 ghost use Rattle.col_index.specs.Appending.{PushesBoth};
 ghost use Rattle.col_index.specs.Offsets.{docs_of, positions_of, run};
 
-use col_common::{ColumnarError, DocId, RowId};
+use col_common::{DocId, RowId};
+use std::alloc::AllocError;
 
 /// Appends a document and the position of one of its values, as far as memory reaches.
 #[inline]
@@ -12,7 +13,7 @@ pub(crate) fn push_pair(
     rows_out: &mut Vec<RowId>,
     doc: DocId,
     row: RowId,
-) -> Result<(), ColumnarError>
+) -> Result<(), AllocError>
     ensures { PushesBoth docs_out.old.items docs_out.new.items
         rows_out.old.items rows_out.new.items result (doc ∷ []) (row ∷ []) }
 {
@@ -29,7 +30,7 @@ pub(crate) fn push_run(
     doc: DocId,
     start: RowId,
     end: RowId,
-) -> Result<(), ColumnarError>
+) -> Result<(), AllocError>
     ensures { PushesBoth docs_out.old.items docs_out.new.items
         rows_out.old.items rows_out.new.items result
         (docs_of (run doc start (end - start))) (positions_of (run doc start (end - start))) }

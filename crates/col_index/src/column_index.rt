@@ -14,7 +14,7 @@ use crate::cardinality::Cardinality;
 use crate::multivalued_index::MultiValueIndex;
 use crate::optional_index::OptionalIndex;
 use col_common::{ColumnarError, DocId, RowId};
-use std::alloc::Global;
+use std::alloc::{AllocError, Global};
 use std::ops::Range;
 
 /// How many values each row of a column has.
@@ -128,7 +128,7 @@ impl ColumnIndex {
         doc_ids: &[DocId],
         doc_ids_out: &mut Vec<DocId>,
         row_ids: &mut Vec<RowId>,
-    ) -> Result<(), ColumnarError>
+    ) -> Result<(), AllocError>
         ensures { AppendsBoth doc_ids_out.old.items doc_ids_out.new.items
             row_ids.old.items row_ids.new.items result
             (docs_of (positions_of_rows (shape_of self.now) doc_ids.now))
@@ -150,7 +150,7 @@ impl ColumnIndex {
         doc_ids: &[DocId],
         doc_ids_out: &mut Vec<DocId>,
         row_ids: &mut Vec<RowId>,
-    ) -> Result<(), ColumnarError>
+    ) -> Result<(), AllocError>
         ensures { PushesBoth doc_ids_out.old.items doc_ids_out.new.items
             row_ids.old.items row_ids.new.items result
             (docs_of (positions_of_rows (shape_of self.now) doc_ids.now))

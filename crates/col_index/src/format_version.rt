@@ -4,6 +4,7 @@ ghost use Rattle.std.specs.Int.{w32, to_le_bytes, from_le_bytes};
 ghost use Rattle.col_model.specs.Version.{is_version};
 
 use col_common::InvalidData;
+use col_model::CURRENT_VERSION as CURRENT_NUMBER;
 use std::fmt;
 
 /// The version of a file.
@@ -23,7 +24,7 @@ impl Version {
         ensures { result ≡ to_le_bytes w32 (version_number self.now) }
     {
         match self {
-            Version::V2 => 2u32.to_le_bytes(),
+            Version::V2 => CURRENT_NUMBER.to_le_bytes(),
         }
     }
 
@@ -32,9 +33,10 @@ impl Version {
         ensures ok { IfOk result (λ version. version_number version ≡ from_le_bytes w32 bytes) }
         ensures invalid_data { IfErr result (λ _. is_version (from_le_bytes w32 bytes) ≡ false) }
     {
-        match u32::from_le_bytes(bytes) {
-            2 => Ok(Version::V2),
-            _ => Err(InvalidData),
+        if u32::from_le_bytes(bytes) == CURRENT_NUMBER {
+            Ok(Version::V2)
+        } else {
+            Err(InvalidData)
         }
     }
 }

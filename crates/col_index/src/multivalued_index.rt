@@ -14,7 +14,7 @@ use crate::non_null_docs::NonNullDocs;
 use col_common::{ColumnarError, DocId, RowId};
 use col_numbers::U64Values;
 use col_values::ColumnValues;
-use std::alloc::Global;
+use std::alloc::{AllocError, Global};
 use std::fmt;
 use std::ops::Range;
 
@@ -135,7 +135,7 @@ impl MultiValueIndex {
         docs: &[DocId],
         docs_out: &mut Vec<DocId>,
         rows_out: &mut Vec<RowId>,
-    ) -> Result<(), ColumnarError>
+    ) -> Result<(), AllocError>
         ensures { PushesBoth docs_out.old.items docs_out.new.items
             rows_out.old.items rows_out.new.items result
             (docs_of (row_positions (counts_of self.now) docs.now))

@@ -18,7 +18,7 @@ use crate::windows::{TABLE_LEN, Window, window_at};
 use col_common::{ColumnarError, DocId, RowId};
 use col_numbers::U64Values;
 use col_values::ColumnValues;
-use std::alloc::Global;
+use std::alloc::{AllocError, Global};
 use std::marker::Model;
 use std::ops::Range;
 
@@ -204,7 +204,7 @@ impl MultiValueIndexV2 {
         docs: &[DocId],
         docs_out: &mut Vec<DocId>,
         rows_out: &mut Vec<RowId>,
-    ) -> Result<(), ColumnarError>
+    ) -> Result<(), AllocError>
         ensures { PushesBoth docs_out.old.items docs_out.new.items
             rows_out.old.items rows_out.new.items result
             (docs_of (row_positions (offset_counts self.now) docs.now))
@@ -225,7 +225,7 @@ impl MultiValueIndexV2 {
         docs: &[DocId],
         docs_out: &mut Vec<DocId>,
         rows_out: &mut Vec<RowId>,
-    ) -> Result<(), ColumnarError>
+    ) -> Result<(), AllocError>
         ensures { PushesBoth docs_out.old.items docs_out.new.items
             rows_out.old.items rows_out.new.items result
             (docs_of (row_positions (offset_counts self.now) docs.now))
@@ -357,13 +357,12 @@ fn push_runs(
     start_offsets: &[RowId],
     rows: &mut Vec<RowId>,
     starts: &mut Vec<RowId>,
-) -> Result<(), ColumnarError>
+) -> Result<(), AllocError>
     requires { AreOldOffsets start_offsets.now }
     ensures rows { OnOk result (rows.new.items ≡ rows.old.items
         ++ rows_with_value (differences start_offsets.now)) }
     ensures starts { OnOk result (starts.new.items ≡ starts.old.items
         ++ starts_of (differences start_offsets.now)) }
-    ensures err { IfErr result (λ e. e ≡ refusals.OutOfMemory) }
 {
     let last = start_offsets.len() - 1;
     for row in 0..last {

@@ -8,7 +8,8 @@ ghost use Rattle.col_index.specs.Appending.{PushesBoth};
 
 use crate::optional_index::OptionalIndex;
 use crate::set::Set;
-use col_common::{ColumnarError, DocId, RowId};
+use col_common::{DocId, RowId};
+use std::alloc::AllocError;
 
 impl OptionalIndex {
     /// How many values stand before a row.
@@ -34,7 +35,7 @@ impl OptionalIndex {
         docs: &[DocId],
         docs_out: &mut Vec<DocId>,
         rows_out: &mut Vec<RowId>,
-    ) -> Result<(), ColumnarError>
+    ) -> Result<(), AllocError>
         ensures { PushesBoth docs_out.old.items docs_out.new.items
             rows_out.old.items rows_out.new.items result
             (docs_of (positions_of_rows (optional_shape (set_counts self.now)) docs.now))

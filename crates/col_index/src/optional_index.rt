@@ -22,7 +22,7 @@ use crate::set::Set;
 use col_common::{ColumnarError, DocId, RowId};
 use col_numbers::{CodecType, U64Values, serialize_and_load_u64_values};
 use col_values::ColumnValues;
-use std::alloc::Global;
+use std::alloc::{AllocError, Global};
 use std::fmt;
 use std::marker::Model;
 use std::ops::Range;
@@ -139,7 +139,7 @@ impl OptionalIndex {
         docs: &[DocId],
         docs_out: &mut Vec<DocId>,
         rows_out: &mut Vec<RowId>,
-    ) -> Result<(), ColumnarError>
+    ) -> Result<(), AllocError>
         ensures { AppendsBoth docs_out.old.items docs_out.new.items
             rows_out.old.items rows_out.new.items result
             (held self.now.rows docs.now) (held_ranks self.now.rows docs.now) }
@@ -344,7 +344,7 @@ impl OptionalIndex {
         docs: &[DocId],
         docs_out: &mut Vec<DocId>,
         rows_out: &mut Vec<RowId>,
-    ) -> Result<(), ColumnarError>
+    ) -> Result<(), AllocError>
         ensures { PushesBoth docs_out.old.items docs_out.new.items
             rows_out.old.items rows_out.new.items result
             (held self.now.rows docs.now) (held_ranks self.now.rows docs.now) }
@@ -364,7 +364,7 @@ impl OptionalIndex {
         docs: &[DocId],
         docs_out: &mut Vec<DocId>,
         rows_out: &mut Vec<RowId>,
-    ) -> Result<(), ColumnarError>
+    ) -> Result<(), AllocError>
         ensures { PushesBoth docs_out.old.items docs_out.new.items
             rows_out.old.items rows_out.new.items result
             (held self.now.rows docs.now) (held_ranks self.now.rows docs.now) }

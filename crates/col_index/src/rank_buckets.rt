@@ -1,7 +1,6 @@
 //! Few rows with ranks for parts of them.
 ghost use Rattle.std.specs.Prelude.{◌≡◌, ◌≤◌, ◌<◌, ◌+◌, ◌*◌, ◌/◌, ◌^◌, true, length, replicate, sum, take, slice_index};
-ghost use Rattle.std.specs.Prelude.{IfOk, IfErr};
-ghost use Rattle.col_common.specs.declared.error.ColumnarError.TheVariants as refusals;
+ghost use Rattle.std.specs.Prelude.{IfOk};
 ghost use Rattle.col_common.specs.Decoding.{Decodes};
 ghost use Rattle.col_common.specs.Ascending.{is_rising};
 ghost use Rattle.col_model.specs.Positions.{rank};
@@ -14,7 +13,7 @@ use crate::search::narrow;
 use col_common::{ColumnarError, RowId};
 use col_numbers::U64Values;
 use col_values::ColumnValues;
-use std::alloc::Global;
+use std::alloc::{AllocError, Global};
 
 /// For parts of 2 ^ shift rows how many rows before each part, and before the end, have a value.
 #[derive(Drop)]
@@ -53,10 +52,9 @@ impl RankBuckets {
     }
 
     /// The same once more.
-    pub fn try_clone(&self, alloc: Global) -> Result<RankBuckets, ColumnarError>
+    pub fn try_clone(&self, alloc: Global) -> Result<RankBuckets, AllocError>
         ensures shift { IfOk result (λ ranks. ranks.shift ≡ self.now.shift) }
         ensures before { IfOk result (λ ranks. ranks.before.items ≡ self.now.before.items) }
-        ensures err { IfErr result (λ e. e ≡ refusals.OutOfMemory) }
     {
         Ok(RankBuckets {
             shift: self.shift,
@@ -110,10 +108,9 @@ fn count_rows(num_rows: RowId, rows: &U64Values, shift: u32, counts: &mut [u32])
 }
 
 // The sum of the counts before each, and of all of them.
-fn sums_before(alloc: Global, counts: &[u32]) -> Result<Vec<u32>, ColumnarError>
+fn sums_before(alloc: Global, counts: &[u32]) -> Result<Vec<u32>, AllocError>
     requires { sum counts.now < 2 ^ 32 }
-    ensures ok { IfOk result (λ before. AreSums counts.now before.items) }
-    ensures err { IfErr result (λ e. e ≡ refusals.OutOfMemory) }
+    ensures { IfOk result (λ before. AreSums counts.now before.items) }
 {
     let mut before = Vec::with_capacity(alloc, counts.len() + 1)?;
     let mut total = 0;

@@ -1,7 +1,6 @@
 //! Rows as bits with ranks.
 ghost use Rattle.std.specs.Prelude.{◌≡◌, ◌≤◌, ◌<◌, ◌*◌, ◌/◌, ◌^◌, true, nat_lt, [], length, replicate};
-ghost use Rattle.std.specs.Prelude.{IfOk, IfErr};
-ghost use Rattle.col_common.specs.declared.error.ColumnarError.TheVariants as refusals;
+ghost use Rattle.std.specs.Prelude.{IfOk};
 ghost use Rattle.col_common.specs.Decoding.{Decodes};
 ghost use Rattle.col_common.specs.Flags.{flag_at};
 ghost use Rattle.col_common.specs.Ascending.{is_rising};
@@ -13,7 +12,7 @@ use crate::rising::rising_row;
 use col_common::{ColumnarError, RowId};
 use col_numbers::U64Values;
 use col_values::ColumnValues;
-use std::alloc::Global;
+use std::alloc::{AllocError, Global};
 
 /// The rows of a word.
 pub const WORD_BITS: u32 = 64;
@@ -59,10 +58,9 @@ impl RankWords {
     }
 
     /// The same once more.
-    pub fn try_clone(&self, alloc: Global) -> Result<RankWords, ColumnarError>
+    pub fn try_clone(&self, alloc: Global) -> Result<RankWords, AllocError>
         ensures words { IfOk result (λ ranks. ranks.words.items ≡ self.now.words.items) }
         ensures before { IfOk result (λ ranks. ranks.before.items ≡ self.now.before.items) }
-        ensures err { IfErr result (λ e. e ≡ refusals.OutOfMemory) }
     {
         Ok(RankWords {
             words: Vec::from_clones(alloc, &self.words)?,
@@ -120,12 +118,11 @@ fn set_rows(num_rows: RowId, rows: &U64Values, words: &mut [u64]) -> bool
 }
 
 // How many bits are set before each word.
-fn count_before(alloc: Global, rows: &U64Values, words: &[u64]) -> Result<Vec<u32>, ColumnarError>
+fn count_before(alloc: Global, rows: &U64Values, words: &[u64]) -> Result<Vec<u32>, AllocError>
     requires rising { is_rising (list_of rows.now) ≡ true }
     requires flags { HasFlags (list_of rows.now) words.now }
-    ensures ok { IfOk result (λ before.
+    ensures { IfOk result (λ before.
         AreCounts (list_of rows.now) 64 (length words.now) before.items) }
-    ensures err { IfErr result (λ e. e ≡ refusals.OutOfMemory) }
 {
     // The rows are fewer than 2 ^ 32.
     let _count = rows.num_vals();

@@ -1,6 +1,5 @@
 //! What an index keeps beside its rows to rank them.
-ghost use Rattle.std.specs.Prelude.{◌≡◌, ◌≤◌, ◌*◌, true, length, IfOk, IfErr};
-ghost use Rattle.col_common.specs.declared.error.ColumnarError.TheVariants as refusals;
+ghost use Rattle.std.specs.Prelude.{◌≡◌, ◌≤◌, ◌*◌, true, length, IfOk};
 ghost use Rattle.col_common.specs.Decoding.{Decodes};
 ghost use Rattle.col_common.specs.Reading.{only_if};
 ghost use Rattle.col_common.specs.Ascending.{is_rising};
@@ -13,7 +12,7 @@ use crate::rank_words::RankWords;
 use col_common::{ColumnarError, RowId};
 use col_numbers::U64Values;
 use col_values::ColumnValues;
-use std::alloc::Global;
+use std::alloc::{AllocError, Global};
 
 /// How many rows there are for each row with a value where these still get bits.
 const MAX_ROWS_APART: u64 = 64;
@@ -51,9 +50,8 @@ impl Ranks {
     }
 
     /// The same once more.
-    pub fn try_clone(&self, alloc: Global) -> Result<Ranks, ColumnarError>
-        ensures ok { IfOk result (λ ranks. AreRanksAlike self.now ranks) }
-        ensures err { IfErr result (λ e. e ≡ refusals.OutOfMemory) }
+    pub fn try_clone(&self, alloc: Global) -> Result<Ranks, AllocError>
+        ensures { IfOk result (λ ranks. AreRanksAlike self.now ranks) }
     {
         Ok(Ranks {
             words: self.words.try_clone(alloc)?,

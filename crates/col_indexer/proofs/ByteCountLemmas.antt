@@ -1,15 +1,15 @@
 -- How many bytes the lists of an index take.
-use Rattle.std.proofs.Common.{◌≡◌, ℕ, zero, suc, ◌+◌, ◌-◌, ◌*◌, ◌/◌, ◌^◌, ◌≤◌, ◌&&◌, Bool, true, false, cond, List, [], ◌∷◌, ◌++◌, length, Option, Some, None, refl, sym, ap, ◌∙◌, inl, inr, arith, length-append, subst, nat_le, nat_lt, unwrap_or}
-use Rattle.std.proofs.lemmas.Bool.{cases_lt, lt-ltb, le-ltb}
+use Rattle.std.proofs.Common.{◌≡◌, ℕ, suc, ◌+◌, ◌-◌, ◌*◌, ◌/◌, ◌^◌, ◌≤◌, ◌&&◌, Bool, true, false, cond, List, [], ◌∷◌, ◌++◌, length, Option, Some, None, refl, sym, ap, ◌∙◌, arith, length-append, subst, nat_le, nat_lt, unwrap_or}
 use Rattle.std.proofs.lemmas.Bool.Decides.{nat_tests}
 use Rattle.std.proofs.lemmas.Option.{same_Some, none-some}
 use Rattle.std.proofs.Math.Nat.{mul-le-mul_left}
 use Rattle.col_bits.proofs.PackedLemmas.{length-digits}
-use Rattle.col_common.specs.VInt.{group_bytes, vint_bytes}
+use Rattle.col_common.specs.VInt.{vint_bytes}
 use Rattle.col_model.specs.Packed.{width, is_width, packed_bytes, number_of}
 use Rattle.col_model.specs.Stats.{Stats, stats_of, steps_of, stats_bytes}
 use Rattle.col_model.specs.U64List.{LinearParams}
 use Rattle.col_model.specs.Codecs.{chosen_codec, chosen_before, is_not_below, estimate, bitpacked_estimate, linear_estimate, bitpacked_body, linear_body, linear_line, params_bytes, packed_len, packed_offsets, line_len, stats_len, steps_above, offsets_from, codec_bytes, block_size}
+use Rattle.col_model.proofs.BlockLaws.{length-group_bytes}
 use Rattle.col_model.proofs.CodecLaws.{is_width-width, linear_line-writable}
 use Rattle.col_model.proofs.LinearLaws.{length-offsets_from}
 use Rattle.std.proofs.lemmas.List.{length-map}
@@ -66,16 +66,8 @@ pub record IsPicked (xs : List ℕ) (codec : ℕ) : Type 0 where
   pub long : length (codec_bytes codec xs) ≡ 1 + bytes
   pub most : bytes ≤ 115 + 8 * length xs
 
-group_bytes-most : (k n : ℕ) → length (group_bytes k n) ≤ k
-unfolding group_bytes
-group_bytes-most zero n = omega arith
-group_bytes-most (suc k) n = elim (cases_lt n 128) [
-  | inl p ↦ rw (lt-ltb n 128 p) (omega arith)
-  | inr p ↦ rw (le-ltb n 128 p) (omega (arith, group_bytes-most k (n / 128)))
-]
-
 pub vint_bytes-most : (n : ℕ) → length (vint_bytes n) ≤ 19
-vint_bytes-most n = group_bytes-most 19 n
+vint_bytes-most n = length-group_bytes 19 n
 
 width-most : (w : ℕ) → is_width w ≡ true → w ≤ 64
 width-most w e = grind (arith, nat_tests)

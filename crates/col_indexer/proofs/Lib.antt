@@ -10,6 +10,7 @@ mod CollectedLemmas
 pub mod ShuffleLemmas
 pub mod ValueCountLemmas
 mod ByteCountLemmas
+mod CheckLemmas
 mod SpellingLemmas
 mod WritingLemmas
 pub mod TightestLemmas

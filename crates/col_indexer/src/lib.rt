@@ -2,6 +2,7 @@
 //! and their start offsets.
 #![tactic(auto)]
 
+mod checks;
 mod merge;
 mod row_ids;
 mod serialize;

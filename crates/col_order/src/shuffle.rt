@@ -8,7 +8,7 @@ ghost use Rattle.col_order.specs.Orders.{Shuffle, AreAlive, address_of, named_ro
 ghost use Rattle.col_order.specs.Orders.{shuffle_refusal, error_of};
 
 use col_common::{BitSet, ColumnarError, RowAddr, RowId};
-use std::alloc::Global;
+use std::alloc::{AllocError, Global};
 use std::marker::Model;
 
 /// The order that takes the rows that it names, in this order. Contracts see the row counts of the
@@ -179,13 +179,12 @@ fn alive_bitsets(
     alloc: Global,
     segment_num_rows: &[RowId],
     addrs: &[RowAddr],
-) -> Result<Vec<BitSet>, ColumnarError>
+) -> Result<Vec<BitSet>, AllocError>
     requires { list_all (has_row segment_num_rows.now) (map address_of addrs.now) ≡ true }
     ensures segments { IfOk result (λ sets. length sets.items ≡ length segment_num_rows.now) }
     ensures alive { let addresses = map address_of addrs.now in
         let s : Shuffle = record { counts = segment_num_rows.now; addresses = addresses } in
         IfOk result (λ sets. AreAlive s sets.items) }
-    ensures err { IfErr result (λ e. e ≡ refusals.OutOfMemory) }
 {
     let mut sets = empty_bitsets(alloc, segment_num_rows)?;
     for addr in addrs {
@@ -195,10 +194,9 @@ fn alive_bitsets(
 }
 
 // For each segment the empty set of its rows.
-fn empty_bitsets(alloc: Global, segment_num_rows: &[RowId]) -> Result<Vec<BitSet>, ColumnarError>
-    ensures ok { IfOk result
+fn empty_bitsets(alloc: Global, segment_num_rows: &[RowId]) -> Result<Vec<BitSet>, AllocError>
+    ensures { IfOk result
         (λ sets. sets.items ≡ map (λ n. replicate n false) segment_num_rows.now) }
-    ensures err { IfErr result (λ e. e ≡ refusals.OutOfMemory) }
 {
     let mut sets = Vec::with_capacity(alloc, segment_num_rows.len())?;
     for num_rows in segment_num_rows {

@@ -19,6 +19,9 @@ const DOCS: [RowId; 2] = [0, 1];
 
 const STARTS: [RowId; 3] = [0, 3, 5];
 
+// Rows that fall.
+const TURNED: [RowId; 2] = [1, 0];
+
 const WRITTEN: [u8; 23] = [
     0x02, 0x82, 0x00, 0x80, 0x81, 0x81, 0x82, 0x02, 0x00, 0x80, 0x81, 0x85, 0x83, 0x58, 0x01, 0x07,
     0, 0, 0, 0, 0, 0, 0,
@@ -50,6 +53,7 @@ fn rows_with_many_values_are_written_with_their_offsets(rt: HostRuntime) -> Resu
     let mut sink = empty_sink(alloc);
     let index = SerializableColumnIndex::Multivalued(two_documents());
     assert_eq!(rt; index.get_cardinality(), Cardinality::Multivalued);
+    assert!(rt; index.is_index());
     assert!(rt; !index.is_past_limit());
     let len = serialize_column_index(alloc, index, &mut sink)?;
     assert_eq!(rt; len, 23);
@@ -68,6 +72,11 @@ fn parts_of_an_index_are_written_as_in_the_whole(rt: HostRuntime) -> Result<(), 
     let mut sink = empty_sink(alloc);
     serialize_optional_index(alloc, &index.non_null_row_ids, index.num_rows, &mut sink)?;
     assert_eq!(rt; sink.bytes(), &WRITTEN[1..=NUM_ROW_BYTES]);
+    let turned = SerializableColumnIndex::Optional(SerializableOptionalIndex {
+        non_null_row_ids: RowIds::Slice(&TURNED),
+        num_rows: 2,
+    });
+    assert!(rt; !turned.is_index());
     Ok(())
 }
 

@@ -1,7 +1,13 @@
-use Rattle.std.proofs.Common.{◌≡◌, ◌-◌, ◌≤◌, ◌++◌, ap, ◌∙◌, arith}
+use Rattle.std.proofs.Common.{◌≡◌, ◌-◌, ◌≤◌, ◌++◌, refl, ap, ◌∙◌, arith}
 use Rattle.col_index.specs.Offsets.{run, docs_of, positions_of}
 use Rattle.col_index.proofs.PushLemmas.{begins-same, begins-more, pushes-stopped, docs-more, positions-more}
 use Rattle.col_index.proofs.appending.push_run.Goals as goal
+
+pub returns-in_err-push : goal.returns-in_err-push
+returns-in_err-push c =
+    pushes-stopped c.from_residual-in_err-push.result c.from_residual-in_err-push.ensures.1
+    (begins-same _ _ _ _ c.in_err-push.ensures.items c.loop-position.invariant.docs)
+    (begins-same _ _ _ _ refl c.loop-position.invariant.rows)
 
 pub returns-in_err-push-2 : goal.returns-in_err-push-2
 returns-in_err-push-2 c =

@@ -3,7 +3,7 @@ use Rattle.col_order.proofs.MarkedLemmas.{marked-none, row_there, length-marked,
 use Rattle.col_order.proofs.shuffle.alive_bitsets.Goals as goal
 
 pub loop-addr-init : goal.loop-addr-init
-loop-addr-init c = marked-none _ _ c.in_ok-sets.ensures.ok
+loop-addr-init c = marked-none _ _ c.in_ok-sets.ensures
 
 pub index_mut-requires : goal.index_mut-requires
 index_mut-requires c =

@@ -5,7 +5,7 @@ use Rattle.col_model.specs.Positions.{rank, values_in}
 use Rattle.col_index.specs.Offsets.{AreOffsets, docs_of, positions_of, run}
 use Rattle.col_index.specs.Places.{IsPlace}
 use Rattle.col_index.specs.Sets.{holds}
-use Rattle.col_index.proofs.PushLemmas.{pushes-refused, visited, visited-free, visited-none}
+use Rattle.col_index.proofs.PushLemmas.{pushes-stopped, visited, visited-free, visited-none}
 use Rattle.col_index.proofs.SetLemmas.{begins_later, only_if-some, only_if-none}
 use Rattle.col_index.proofs.ValueLemmas.{values-free, values-held, held-inside}
 use Rattle.col_index.proofs.multivalued_index_v2.MultiValueIndexV2.push_positions_by.Goals as goal
@@ -42,9 +42,9 @@ range_at-positions-requires c =
 
 pub returns-in_err-push_run : goal.returns-in_err-push_run
 returns-in_err-push_run c =
-    pushes-refused c.from_residual.result c.in_err-push_run.field-0.0 c.from_residual.ensures.1 c.in_err-push_run.ensures.err.0
-    (begins_later _ _ _ _ c.loop-doc.invariant.docs c.in_err-push_run.ensures.err.1)
-    (begins_later _ _ _ _ c.loop-doc.invariant.rows c.in_err-push_run.ensures.err.2)
+    pushes-stopped c.from_residual.result c.from_residual.ensures.1
+    (begins_later _ _ _ _ c.loop-doc.invariant.docs c.in_err-push_run.ensures.err.0)
+    (begins_later _ _ _ _ c.loop-doc.invariant.rows c.in_err-push_run.ensures.err.1)
 
 pub loop-doc-preserved : goal.loop-doc-preserved
 loop-doc-preserved c =

@@ -8,5 +8,5 @@ invariant_of-result c =
     let s = c.self.inside in
     subst (λ rows. AreRankedRows (record { num_rows = s.num_rows; rows = rows }) c.in_ok-try_clone-2.field-0) (sym c.in_ok-try_clone.ensures.ok) (record {
       rows = c.self.invariant.rows;
-      kept = c.in_ok-try_clone-2.ensures.ok (record { num_rows = s.num_rows; rows = list_of s.rows }) c.self.invariant.kept;
+      kept = c.in_ok-try_clone-2.ensures (record { num_rows = s.num_rows; rows = list_of s.rows }) c.self.invariant.kept;
     })

@@ -29,7 +29,7 @@ returns-clause-ranks c =
     let counts = c.count_rows.new.counts in
     let before = c.in_ok-before.before.items in
     let same = take_at counts (drop (length counts) c.in_ok-counts.counts.items) c.in_ok-counts.counts.len (c.count_rows.auto.counts ∙ c.deref_mut.ensures.len) in
-    let sums = subst (λ cs. AreSums cs before) (c.deref.ensures.value ∙ same) c.in_ok-before.ensures.ok in
+    let sums = subst (λ cs. AreSums cs before) (c.deref.ensures.value ∙ same) c.in_ok-before.ensures in
     let ranks = sums-counts rows counts (2 ^ shift) (pow_pos shift) (c.count_rows.ensures.counts c.if-not-count_rows.false) before sums in
     let parts : length counts ≡ n / 2 ^ shift + 1 = omega (arith, c.count_rows.auto.counts, c.deref_mut.ensures.len, c.in_ok-counts.ensures.len) in
     record {

@@ -19,7 +19,7 @@ returns-clause-ranks c =
     subst (λ ws. AreRanks rows ws before) (sym same) (record {
       few = omega (arith, few, c.ranges.num_rows.fits);
       flags = c.set_rows.ensures.flags c.if-not-set_rows.false;
-      counts = subst (λ k. AreCounts rows 64 k before) long c.in_ok-before.ensures.ok;
+      counts = subst (λ k. AreCounts rows 64 k before) long c.in_ok-before.ensures;
     })
 
 pub returns-clause-room : goal.returns-clause-room
