@@ -1,5 +1,5 @@
 //! Lists of values, asked by position.
-ghost use Rattle.std.specs.Prelude.{◌≡◌, ◌+◌, ◌≤◌, ◌<◌, List, take, drop, length, slice_get, map, Some};
+ghost use Rattle.std.specs.Prelude.{◌≡◌, ◌+◌, ◌≤◌, ◌<◌, List, take, drop, length, slice_get, map, Some, true};
 ghost use Rattle.std.specs.List.{All};
 ghost use Rattle.std.specs.Range.{range_inclusive_start, range_inclusive_end};
 ghost use Rattle.col_common.specs.Ascending.{AreBelow, is_rising};
