@@ -1,11 +1,9 @@
 -- Codes that are read, and lookups by codes.
 use Rattle.std.proofs.Common.{◌≡◌, ℕ, ◌+◌, ◌-◌, ◌^◌, ◌<◌, ◌≤◌, ◌==◌, ◌&&◌, Bool, true, false, List, length, map, min, slice_index, slice_get, Option, Some, None, refl, sym, ◌∙◌, ap, subst, inl, inr, arith}
-use Rattle.std.specs.Prelude.{nat_le, option_map, ◌⊎◌}
+use Rattle.std.specs.Prelude.{option_map, ◌⊎◌}
 use Rattle.std.specs.Int.{w64, is_in_range}
 use Rattle.std.specs.List.{list_all}
-use Rattle.std.specs.Ordering.{partial_le}
 use Rattle.std.proofs.lemmas.Bool.{cases_lt, and_parts}
-use Rattle.std.proofs.lemmas.Bool.Decides.{nat_tests}
 use Rattle.std.proofs.lemmas.Option.{slice_get-map, slice_get-get_or, same_Some, none-some, slice_get_past}
 use Rattle.std.proofs.lemmas.List.{length-map}
 use Rattle.std.proofs.lemmas.List.FromFn.{get_or-map-range_with_len}
@@ -93,9 +91,6 @@ code_read f bytes read d w idx code view reader same width_is is h =
     subst (λ (c : ℕ). IsReadAt d idx c) value (subst (λ (x : Coded). IsReadAt x idx (item bytes f.code_width idx)) view (in_reader f bytes idx reader within))
 
 -- ---- lookups
-
-at_most : (a b : ℕ) → partial_le number_cmp a b ≡ nat_le a b
-at_most a b = grind (arith, nat_tests)
 
 -- ids of packed items are positions of the items
 pub ids-hits : (bytes : List ℕ) (w count low high a n : ℕ) → (n ≡ 0) ⊎ (a + n ≤ count) → ids_between bytes w low high a n ≡ hits (is_between number_cmp low high) (items bytes w 0 count) a n

@@ -8,11 +8,11 @@ ghost use Rattle.col_compact.specs.Headers.{codec_of, kind_at};
 
 use col_common::{ColumnarError, InvalidData, Sink, VInt, read_vint, serialize_bytes};
 
-// The code of compact spaces.
-const COMPACT_SPACE_CODE: u8 = 1;
+/// The code of compact spaces.
+pub(crate) const COMPACT_SPACE_CODE: u8 = 1;
 
 /// How numbers of 128 bits are kept.
-#[derive(Clone, Copy, Debug, PartialEq, Eq)]
+#[derive(Clone, Copy, Debug, PartialEq, Eq, PartialOrd, Ord)]
 pub enum U128FastFieldCodecType {
     /// As codes over few ranges.
     CompactSpace,

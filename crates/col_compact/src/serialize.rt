@@ -12,9 +12,6 @@ use col_values::MonotonicallyMappableToU128;
 use std::alloc::Global;
 use std::marker::PhantomData;
 
-/// The byte of the codec.
-pub(crate) const COMPACT_SPACE_CODE: u8 = 1;
-
 /// The numbers of values.
 #[derive(Drop)]
 struct Numbers<'a, T, I> {

@@ -6,6 +6,7 @@ use Rattle.std.specs.Ordering.{is_lt, is_le, is_eq, ordering_index}
 use Rattle.std.specs.List.Sorted.{IsNonDecreasingBy, IsPartitionedBy, IsPartitionPoint}
 use Rattle.std.proofs.lemmas.Bool.{cases_lt, false≢true, true≢false}
 use Rattle.std.proofs.lemmas.List.{take-map, drop-map, length-map}
+use Rattle.col_model.proofs.ListLaws.{filter_run}
 use Rattle.col_file.specs.Runs.{IsRun}
 
 -- ---- what ranks say
@@ -47,26 +48,6 @@ le-lower Greater Equal h e = absurd (omega arith)
 le-lower Greater Greater h e = absurd (false≢true e)
 
 -- ---- the items between two places
-
-module _ {A : Type 0} (p : A → Bool) (d : A) where
-  filter_none : (xs : List A) → ((j : ℕ) → j < length xs → p (get_or xs j d) ≡ false) → filter p xs ≡ []
-  filter_none [] fails = refl
-  filter_none (x ∷ xs) fails = rw (fails 0 (omega arith)) (filter_none xs (λ j h. fails (suc j) (omega arith)))
-
-  filter_front : (xs : List A) (n : ℕ) → n ≤ length xs → ((j : ℕ) → j < n → p (get_or xs j d) ≡ true) → ((j : ℕ) → n ≤ j → j < length xs → p (get_or xs j d) ≡ false) → filter p xs ≡ take n xs
-  filter_front xs zero h passes fails = filter_none xs (λ j k. fails j (omega arith) k)
-  filter_front [] (suc n) h passes fails = absurd (omega arith)
-  filter_front (x ∷ xs) (suc n) h passes fails = rw (passes 0 (omega arith)) (ap (λ ys. x ∷ ys) (filter_front xs n (omega arith) (λ j k. passes (suc j) (omega arith)) (λ j k l. fails (suc j) (omega arith) (omega arith))))
-
-  filter_run : (xs : List A) (start upto : ℕ) → start ≤ upto → upto ≤ length xs → ((j : ℕ) → j < start → p (get_or xs j d) ≡ false) → ((j : ℕ) → start ≤ j → j < upto → p (get_or xs j d) ≡ true) → ((j : ℕ) → upto ≤ j → j < length xs → p (get_or xs j d) ≡ false) → filter p xs ≡ slice_range xs start upto
-  filter_run xs zero upto o h early passes fails =
-      let all : upto - 0 ≡ upto = omega arith in
-      rw all (filter_front xs upto h (λ j k. passes j (omega arith) k) fails)
-  filter_run xs (suc start) zero o h early passes fails = absurd (omega arith)
-  filter_run [] (suc start) (suc upto) o h early passes fails = absurd (omega arith)
-  filter_run (x ∷ xs) (suc start) (suc upto) o h early passes fails =
-      let less : suc upto - suc start ≡ upto - start = omega arith in
-      rw (early 0 (omega arith), less) (filter_run xs start upto (omega arith) (omega arith) (λ j k. early (suc j) (omega arith)) (λ j k l. passes (suc j) (omega arith) (omega arith)) (λ j k l. fails (suc j) (omega arith) (omega arith)))
 
 filter-map : {A B : Type 0} (f : A → B) (test : B → Bool) (xs : List A) → filter test (map f xs) ≡ map f (filter (λ x. test (f x)) xs)
 filter-map f test [] = refl

@@ -1,5 +1,5 @@
 -- Columns that are put one behind another.
-use Rattle.std.proofs.Common.{◌≡◌, ℕ, ◌+◌, ◌^◌, ◌<◌, List, [], ◌∷◌, ◌++◌, length, map, flat_map, Result, Ok, Err, OnOk, OnErr, IfErr, refl, sym, ap, ◌∙◌, append_assoc, append-nil, length-append, subst}
+use Rattle.std.proofs.Common.{◌≡◌, ℕ, ◌+◌, ◌^◌, ◌<◌, List, [], ◌∷◌, ◌++◌, length, map, flat_map, Result, Ok, Err, refl, sym, ap, ◌∙◌, append_assoc, append-nil, length-append, subst}
 use Rattle.std.specs.List.{AllByRecursion}
 use Rattle.std.proofs.lemmas.List.Concat.{flat_map-cons}
 use Rattle.col_common.specs.Outside.{SeenSink}
@@ -15,15 +15,18 @@ use Rattle.col_keys.specs.Put.{Columns, no_columns, with_column, Puts, HavePut}
 -- ---- one column
 
 -- a column whose bytes were written, and that was listed or not
-pub puts-listed : (a b : SeenSink) (old new : Columns) (done : Unit {0}) (result : Result (Unit {0}) ColumnarError) (key : Key) (bytes : List ℕ) → Serializes a b (Ok done) bytes → OnOk result (new ≡ with_column old key (length bytes)) → length bytes < 2 ^ 64 → IfErr result (λ e. e ≡ OutOfMemory) → OnErr result (new ≡ old) → Puts old new a b result key bytes
-puts-listed a b old new done (Ok end) key bytes h listed fits memory kept = record {
+pub puts-listed : (a b : SeenSink) (old new : Columns) (done end : Unit {0}) (key : Key) (bytes : List ℕ) → Serializes a b (Ok done) bytes → new ≡ with_column old key (length bytes) → length bytes < 2 ^ 64 → Puts old new a b (Ok end) key bytes
+puts-listed a b old new done end key bytes h listed fits = record {
   written = serializes-as a b (Ok end) (bytes ++ []) bytes (serializes-then a b b done (Ok end) bytes [] h (serializes-nothing b end)) (append-nil bytes);
   listed = listed;
   fits = fits;
   kept = tt;
 }
-puts-listed a b old new done (Err e) key bytes h listed fits memory kept = record {
-  written = serializes-refused a b b done e bytes bytes bytes h (subst (λ x. Serializes b b (Err x) bytes) (sym memory) (serializes-no_memory b bytes));
+
+-- a column that is written, and isn't listed for want of memory
+pub puts-unlisted : (a b : SeenSink) (old new : Columns) (done : Unit {0}) (key : Key) (bytes : List ℕ) → Serializes a b (Ok done) bytes → new ≡ old → Puts old new a b (Err OutOfMemory) key bytes
+puts-unlisted a b old new done key bytes h kept = record {
+  written = serializes-refused a b b done OutOfMemory bytes bytes bytes h (serializes-no_memory b bytes);
   listed = tt;
   fits = tt;
   kept = kept;

@@ -29,7 +29,8 @@ impl ColumnSerializer<'_> {
     {
         let bytes = self.bytes.as_slice();
         serialize_bytes(sink, bytes)?;
-        columns.list(self.name, self.column_type, bytes.len() as u64)
+        columns.list(self.name, self.column_type, bytes.len() as u64)?;
+        Ok(())
     }
 }
 

@@ -5,12 +5,10 @@ ghost use Rattle.col_model.specs.Version.{version_of, version_bytes};
 
 use col_common::{InvalidData, u32_at};
 use col_index::{CURRENT_VERSION, Version};
+use col_model::MAGIC_BYTES;
 
 /// How many bytes the version and the fixed bytes take.
 pub const VERSION_FOOTER_NUM_BYTES: usize = 8;
-
-// The last bytes of a file.
-const MAGIC_BYTES: [u8; 4] = [0x02, 0x71, 0x77, 0x42];
 
 /// The last bytes of a file that is written.
 pub fn footer() -> [u8; VERSION_FOOTER_NUM_BYTES]

@@ -1,9 +1,8 @@
 //! Writes the columns of a file, and behind them their keys and the footer.
-ghost use Rattle.std.specs.Prelude.{◌≡◌, ◌<◌, ◌+◌, ◌^◌, ◌++◌, [], ℕ, List, length, map, IfSome, IfOk, IfErr, OnOk, OnErr};
+ghost use Rattle.std.specs.Prelude.{◌≡◌, ◌<◌, ◌+◌, ◌^◌, ◌++◌, [], ℕ, List, length, map, IfSome, IfOk, OnOk, OnErr};
 ghost use Rattle.col_common.specs.Outside.{SeenSink};
 ghost use Rattle.col_common.specs.Serializing.{Serializes};
 ghost use Rattle.col_common.specs.VInt.{vint_bytes};
-ghost use Rattle.col_common.specs.declared.error.ColumnarError.TheVariants as refusals;
 ghost use Rattle.col_model.specs.Keys.{Key};
 ghost use Rattle.col_model.specs.Spelling.{keyed_length_bytes, file_bytes};
 ghost use Rattle.col_keys.specs.KeyTables.{key_at};
@@ -104,19 +103,18 @@ impl ColumnarSerializer {
         name: &str,
         column_type: ColumnType,
         num_bytes: u64,
-    ) -> Result<(), ColumnarError>
+    ) -> Result<(), AllocError>
         ensures ok { OnOk result
             (self.new ≡ with_column self.old (key_at name.now column_type) num_bytes) }
         ensures fits { num_bytes < 2 ^ 64 }
-        ensures out_of_memory { IfErr result (λ e. e ≡ refusals.OutOfMemory) }
         ensures kept { OnErr result (self.new ≡ self.old) }
     {
         let Some(num_columns) = self.num_columns.checked_add(1) else {
-            return Err(ColumnarError::OutOfMemory);
+            return Err(AllocError);
         };
         let entry = keyed_length(self.alloc, name, column_type, num_bytes)?;
         if self.table.write_all(entry.as_slice()).is_err() {
-            return Err(ColumnarError::OutOfMemory);
+            return Err(AllocError);
         }
         self.num_columns = num_columns;
         Ok(())

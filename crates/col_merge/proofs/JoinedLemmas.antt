@@ -1,21 +1,22 @@
 -- A joined column is of its slot.
-use Rattle.std.proofs.Common.{◌≡◌, ℕ, ◌+◌, ◌==◌, ◌&&◌, Bool, true, false, cond, not, List, [], ◌∷◌, filter_map, find, length, Some, None, is_none, refl, sym, ◌∙◌, ap, option_map, option_and_then, nat_lt}
-use Rattle.std.specs.Prelude.{Option, Result, Ok, if◌then◌else◌}
+use Rattle.std.proofs.Common.{◌≡◌, ℕ, ◌+◌, ◌==◌, ◌&&◌, Bool, true, false, cond, not, List, [], ◌∷◌, filter_map, find, length, Some, None, refl, sym, ◌∙◌, ap, option_map, option_and_then, nat_lt}
+use Rattle.std.specs.Prelude.{Option, Ok, if◌then◌else◌}
 use Rattle.std.specs.List.{list_all, list_any, enumerate_from, cons_option, AllByRecursion}
 use Rattle.col_common.specs.Reading.{only_if}
 use Rattle.col_model.specs.Category.{category_of, Slot, same_slot}
 use Rattle.col_model.specs.ColumnType.{ColumnType}
 use Rattle.col_model.specs.File.{Part, PartColumn, whole_column}
-use Rattle.col_model.specs.Limits.{is_too_large, is_of_type}
+use Rattle.col_model.specs.Limits.{is_of_type}
 use Rattle.col_model.specs.Lookup.{row_of}
-use Rattle.col_model.specs.Merge.{Required, required_slot, part_slot, whole_column_in, kept_column, kept_columns, required_type, joined_type, shared_type, all_cells, joined_content, has_bad_column, joined_column}
+use Rattle.col_model.specs.Merge.{Required, required_slot, part_slot, whole_column_in, kept_column, kept_columns, required_type, joined_type, shared_type, all_cells, joined_column}
 use Rattle.col_model.specs.Order.{Order}
-use Rattle.col_model.specs.Refusal.{Refusal, ◌>>=◌, refuse_if, invalid_data, too_large, cannot_coerce}
-use Rattle.col_model.specs.Table.{Column, Content}
+use Rattle.col_model.specs.Refusal.{◌>>=◌, cannot_coerce}
+use Rattle.col_model.specs.Table.{Column}
 use Rattle.col_model.proofs.SlotLaws.{column_slot}
-use Rattle.col_model.proofs.RefusalLaws.{bind-ok, refuse_if-ok, same_Ok}
+use Rattle.col_model.proofs.RefusalLaws.{refuse_if-ok, same_Ok}
 use Rattle.col_model.proofs.SharedTypes.{low, high, is_i64, IsIn, some≢none, same-some, shared-type}
 use Rattle.col_model.proofs.JoinedTypes.{category-type_by}
+use Rattle.col_model.proofs.MergedTables.{merged-is}
 use Rattle.col_model.proofs.GistResults.{type-of}
 use Rattle.col_model.proofs.MergedSound.{chosen-is, whole-slot}
 use Rattle.col_model.proofs.OrderedColumns.{same-slots}
@@ -66,25 +67,7 @@ joined-in slot required ds t (Some u) w all e =
 
 -- A joined column has its slot's name and category.
 pub joined-slot : (order : Order) (picked : List (ℕ × ℕ)) (parts : List Part) (required : List Required) (slot : Slot) (c : Column) → joined_column order picked parts required slot ≡ Ok (Some c) → column_slot c ≡ slot
-unfolding joined_column
 joined-slot order picked parts required slot c h =
-    by (is_none (required_type required slot) && (length (kept_columns slot picked parts) == 0))
-    (refuse_if-ok (has_bad_column slot parts) invalid_data (λ _. if is_none (required_type required slot) && (length (kept_columns slot picked parts) == 0) then Ok None else present) (Some c) h)
-  where
-    content : Content
-    content = joined_content order slot picked parts (kept_columns slot picked parts)
-
-    present : Result (Option Column) Refusal
-    present = joined_type (required_type required slot) (kept_columns slot picked parts) >>= λ t. refuse_if (is_too_large t content) too_large >>= λ _. Ok (Some (record { name = slot.name; column_type = t; content = content }))
-
-    column : ColumnType → Column
-    column t = record { name = slot.name; column_type = t; content = joined_content order slot picked parts (kept_columns slot picked parts) }
-
-    by : (b : Bool) → (if b then Ok None else present) ≡ Ok (Some c) → column_slot c ≡ slot
-    by true q = absurd (some≢none c (sym (same_Ok None (Some c) q)))
-    by false q =
-        let rest : ColumnType → Result (Option Column) Refusal = λ t. refuse_if (is_too_large t content) too_large >>= λ _. Ok (Some (column t)) in
-        let step = bind-ok (joined_type (required_type required slot) (kept_columns slot picked parts)) rest (Some c) q in
-        let is = same-some (column step.0) c (same_Ok (Some (column step.0)) (Some c) (refuse_if-ok (is_too_large step.0 content) too_large (λ _. Ok (Some (column step.0))) (Some c) step.2)) in
-        let within = joined-in slot required (kept_columns slot picked parts) step.0 (required_type required slot) refl (kept-in slot picked 0 parts) step.1 in
-        ap column_slot (sym is) ∙ (λ i. record { name = slot.name; category = within i })
+    let merged = merged-is order picked parts required slot c h in
+    let within = joined-in slot required (kept_columns slot picked parts) merged.t (required_type required slot) refl (kept-in slot picked 0 parts) merged.typed in
+    ap column_slot (sym merged.is) ∙ (λ i. record { name = slot.name; category = within i })

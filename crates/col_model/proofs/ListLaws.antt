@@ -1,5 +1,5 @@
 -- Lists: what all items keep, and where items stand.
-use Rattle.std.proofs.Common.{◌≡◌, ℕ, zero, suc, ◌<◌, nat_lt, true, false, lt-ltb, List, [], ◌∷◌, ◌++◌, map, filter_map, length, take, drop, slice_get, Some, refl, sym, ◌∙◌, ap, arith, ◌+◌, sum}
+use Rattle.std.proofs.Common.{◌≡◌, ℕ, zero, suc, ◌-◌, ◌<◌, ◌≤◌, nat_lt, Bool, true, false, lt-ltb, List, [], ◌∷◌, ◌++◌, map, filter, filter_map, length, get_or, take, drop, slice_get, Some, refl, sym, ◌∙◌, ap, arith, ◌+◌, sum}
 use Rattle.std.specs.List.{AllByRecursion, range_with_len}
 use Rattle.std.proofs.lemmas.Bool.{true≢false, and_parts}
 use Rattle.std.proofs.lemmas.List.Sums.{sum_by-cons}
@@ -76,3 +76,24 @@ cell_count-cons row rows = sum_by-cons length row rows
 -- a range with one number more
 pub range-more : (a n : ℕ) → range_with_len a (n + 1) ≡ range_with_len a n ++ (a + n) ∷ []
 range-more a n = sym (map-id _) ∙ map-range_with_len_more (λ k. k) a n (a + n) refl ∙ ap (λ l. l ++ (a + n) ∷ []) (map-id _)
+
+-- the items that pass a test stand between two places
+module _ {A : Type 0} (p : A → Bool) (d : A) where
+  filter_none : (xs : List A) → ((j : ℕ) → j < length xs → p (get_or xs j d) ≡ false) → filter p xs ≡ []
+  filter_none [] fails = refl
+  filter_none (x ∷ xs) fails = rw (fails 0 (omega arith)) (filter_none xs (λ j h. fails (suc j) (omega arith)))
+
+  filter_front : (xs : List A) (n : ℕ) → n ≤ length xs → ((j : ℕ) → j < n → p (get_or xs j d) ≡ true) → ((j : ℕ) → n ≤ j → j < length xs → p (get_or xs j d) ≡ false) → filter p xs ≡ take n xs
+  filter_front xs zero h passes fails = filter_none xs (λ j k. fails j (omega arith) k)
+  filter_front [] (suc n) h passes fails = absurd (omega arith)
+  filter_front (x ∷ xs) (suc n) h passes fails = rw (passes 0 (omega arith)) (ap (λ ys. x ∷ ys) (filter_front xs n (omega arith) (λ j k. passes (suc j) (omega arith)) (λ j k l. fails (suc j) (omega arith) (omega arith))))
+
+  pub filter_run : (xs : List A) (start upto : ℕ) → start ≤ upto → upto ≤ length xs → ((j : ℕ) → j < start → p (get_or xs j d) ≡ false) → ((j : ℕ) → start ≤ j → j < upto → p (get_or xs j d) ≡ true) → ((j : ℕ) → upto ≤ j → j < length xs → p (get_or xs j d) ≡ false) → filter p xs ≡ take (upto - start) (drop start xs)
+  filter_run xs zero upto o h early passes fails =
+      let all : upto - 0 ≡ upto = omega arith in
+      rw all (filter_front xs upto h (λ j k. passes j (omega arith) k) fails)
+  filter_run xs (suc start) zero o h early passes fails = absurd (omega arith)
+  filter_run [] (suc start) (suc upto) o h early passes fails = absurd (omega arith)
+  filter_run (x ∷ xs) (suc start) (suc upto) o h early passes fails =
+      let less : suc upto - suc start ≡ upto - start = omega arith in
+      rw (early 0 (omega arith), less) (filter_run xs start upto (omega arith) (omega arith) (λ j k. early (suc j) (omega arith)) (λ j k l. passes (suc j) (omega arith) (omega arith)) (λ j k l. fails (suc j) (omega arith) (omega arith)))

@@ -9,6 +9,7 @@ mod PlaceLemmas
 mod OrderLemmas
 mod SortLemmas
 pub mod ColumnLemmas
+pub mod DictionaryLemmas
 pub mod TextLemmas
 mod TieLemmas
 pub mod EntryLemmas

@@ -28,13 +28,13 @@ use Rattle.col_model.specs.Sorted.{inserted, sorted_items}
 use Rattle.col_model.specs.Table.{Cell}
 use Rattle.col_model.specs.Table as tables
 use Rattle.col_model.specs.U64List.{joined_lists}
+use Rattle.col_model.proofs.ListLaws.{item-at}
 use Rattle.col_model.proofs.ReadingLaws.{front-append, back-append}
 use Rattle.col_indexer.specs.Counted.{tightest_of}
 use Rattle.col_column.specs.Written.{Stores64}
 use Rattle.col_terms.specs.Building.{ordered, ordinals, is_too_long, counted_bytes, SerializesWithin}
 use Rattle.col_terms.specs.Laws.{OrdinalsAreInOrder, DictionariesAreReadBack, TermsAreThoseGiven}
-use Rattle.col_terms.specs.TermTable.{terms_of, IsTable, dictionary_bytes}
-use Rattle.col_terms.proofs.TableLemmas.{table_length}
+use Rattle.col_terms.specs.TermTable.{dictionary_bytes}
 use Rattle.col_terms.proofs.OrderedLemmas.{permutation-ordered}
 use Rattle.col_indexer.proofs.TightestLemmas.{tightest-counts}
 use Rattle.col_rows.specs.Counted.{SerializesCounted, SerializesColumn}
@@ -42,6 +42,7 @@ use Rattle.col_rows.specs.Rows.{values_at, picked_rows, numbers_in_order, ord_ro
 use Rattle.col_rows.specs.Terms.{ord_by, text_cells, text_content, SerializesBehindTerms}
 use Rattle.col_rows.proofs.RowLemmas.{cut-joined}
 use Rattle.col_rows.proofs.ColumnLemmas.{picked-map, all-values, lengths-map, length-picked}
+use Rattle.col_rows.proofs.DictionaryLemmas.{within, written}
 
 -- ---- how long a dictionary is
 
@@ -49,9 +50,6 @@ total-length : (ts : List (List ℕ)) → IsDistinct bytes_eq ts → dictionary_
 total-length ts d =
     let same = permutation-ordered ts d in
     omega (arith, length_permutation ts (ordered ts) same, sum_by-IsPermutation length ts (ordered ts) same)
-
-pub within : (m : ℕ) → nat_le (2 ^ 32) m ≡ false → m < 2 ^ 32
-within m e = grind arith
 
 pub short-length : (ts : List (List ℕ)) → IsDistinct bytes_eq ts → is_too_long ts ≡ false → (dictionary_length (ordered ts) ≡ 4 + 4 * length ts + sum_by length ts) × (4 + 4 * length ts + sum_by length ts < 2 ^ 32)
 short-length ts d e =
@@ -75,11 +73,6 @@ long-test ts n b a e r d count bytes f g h =
 
 -- ---- the ordinals of terms
 
-some-below : {X : Type 0} (xs : List X) (i : ℕ) → i < length xs → (x : X) × (slice_get xs i ≡ Some x)
-some-below [] i h = absurd (omega arith)
-some-below (y ∷ ys) zero h = (y, refl)
-some-below (y ∷ ys) (suc i) h = some-below ys i (omega arith)
-
 is_below : (i m : ℕ) → nat_lt i m ≡ true → i < m
 is_below i m e = grind arith
 
@@ -88,7 +81,7 @@ ords-below ts [] law e = refl
 ords-below ts (id ∷ ids) law e =
     let parts = and_parts (nat_lt id (length ts)) (are_below (length ts) ids) e in
     let low = is_below id (length ts) parts.0 in
-    let some = some-below ts id low in
+    let some = item-at ts id low in
     let here : ord_by (ordinals ts) id < length (ordered ts) = slice_get_within (ordered ts) (ord_by (ordinals ts) id) some.0 (law.places ts id low ∙ some.1) in
     and_from (nat_lt (ord_by (ordinals ts) id) (length (ordered ts))) (are_below (length (ordered ts)) (map (ord_by (ordinals ts)) ids)) (lt-ltb _ _ here) (ords-below ts ids law parts.1)
 
@@ -259,18 +252,14 @@ text-written old mid new done result t sorts ds docs ids ts known below has fron
 }
 
 pub known-terms : (ts : List (List ℕ)) → OrdinalsAreInOrder → DictionariesAreReadBack → TermsAreThoseGiven → IsDistinct bytes_eq ts → is_too_long ts ≡ false → KnownTerms ts
-unfolding terms_of
 known-terms ts orders back given differ fits =
-    let short : dictionary_length (ordered ts) < 2 ^ 32 = within (dictionary_length (ordered ts)) fits in
-    let read = back (ordered ts) (given.ascend ts) short in
-    let own : terms_of (dictionary_bytes (ordered ts)) ≡ ordered ts = ap (λ o. unwrap_or o []) read in
-    let table : IsTable (dictionary_bytes (ordered ts)) (length (ordered ts)) = record { whole = read ∙ ap Some (sym own); count = ap length (sym own) } in
+    let w = written ts given back fits in
     record {
-      read = read;
-      order = in-order (dictionary_bytes (ordered ts)) (ordered ts) orders read;
+      read = w.read;
+      order = in-order (dictionary_bytes (ordered ts)) (ordered ts) orders w.read;
       given = given;
-      long = table_length (dictionary_bytes (ordered ts)) (length (ordered ts)) table ∙ ap dictionary_length own;
-      short = short;
+      long = w.long;
+      short = w.short;
     }
 
 map-more : (f : ℕ → ℕ) (xs : List ℕ) (x : ℕ) → map f (xs ++ x ∷ []) ≡ map f xs ++ f x ∷ []

@@ -1,42 +1,23 @@
 -- The columns of a file are of different slots.
-use Rattle.std.proofs.Common.{◌≡◌, ℕ, ◌==◌, true, false, cond, List, [], ◌∷◌, map, find, length, Some, sym, ap, ◌∙◌, subst}
-use Rattle.std.specs.Prelude.{Option}
+use Rattle.std.proofs.Common.{◌≡◌, ℕ, ◌==◌, true, false, cond, List, [], ◌∷◌, map, find, Some, sym, ap, ◌∙◌, subst}
 use Rattle.std.specs.List.{AllByRecursion}
 use Rattle.std.specs.Ordering.{is_eq}
 use Rattle.std.proofs.lemmas.Bool.{and_parts}
 use Rattle.std.proofs.lemmas.Cmp.{tied_itself}
-use Rattle.col_common.specs.Reading.{◌>>=◌, only_if, back}
+use Rattle.col_common.specs.Reading.{◌>>=◌}
 use Rattle.col_common.specs.Ascending.{is_ascending}
 use Rattle.col_model.specs.Category.{same_slot}
 use Rattle.col_model.specs.File.{Part, PartColumn, part_column, parts_of}
-use Rattle.col_model.specs.Keys.{Key, key_bytes, are_keys, key_table, Entry, entries_from, total_length, FileKeys, FileFooter, file_footer, keys}
+use Rattle.col_model.specs.Keys.{Key, key_bytes, are_keys, Entry, FileKeys, keys}
 use Rattle.col_model.specs.Merge.{part_slot}
-use Rattle.col_model.proofs.DecodedNumbers.{step-of, if-of}
+use Rattle.col_model.proofs.DecodedNumbers.{step-of}
 use Rattle.col_model.proofs.SharedTypes.{same-some}
 use Rattle.col_model.proofs.SlotLaws.{slots_total}
 use Rattle.col_model.proofs.StatsLaws.{all_by, all_mapped, map-map, all_both}
-use Rattle.col_model.proofs.DecodedTables.{key_table-keys, keys_of_entries}
+use Rattle.col_model.proofs.DecodedTables.{keys-are}
 use Rattle.col_segments.proofs.KeyLemmas.{key_slot, names, AreApart, are-apart}
 
 -- ---- the keys of a file
-
-entries-keyed : (bytes : List ℕ) (found : List (Key × ℕ)) → key_table bytes ≡ Some found → are_keys (map (λ e. e.key) (entries_from 0 found)) ≡ true
-entries-keyed bytes found e = ap are_keys (keys_of_entries 0 found) ∙ key_table-keys bytes found e
-
-are-keyed : (l k : FileKeys) → l ≡ k → are_keys (map (λ e. e.key) l.entries) ≡ true → are_keys (map (λ e. e.key) k.entries) ≡ true
-are-keyed l k same e = subst (λ (k : FileKeys). are_keys (map (λ e. e.key) k.entries) ≡ true) same e
-
-keys-are : (bytes : List ℕ) (k : FileKeys) → keys bytes ≡ Some k → are_keys (map (λ e. e.key) k.entries) ≡ true
-unfolding keys
-keys-are bytes k e =
-    let made : FileFooter → List (Key × ℕ) → FileKeys = λ f found. record { row_count = f.row_count; version = f.version; entries = entries_from 0 found } in
-    let last : FileFooter → List ℕ → List (Key × ℕ) → Option FileKeys = λ f body found. only_if (total_length found == length body) (made f found) in
-    let a = step-of (back 20 bytes) (λ parts. file_footer parts.1 >>= λ f. back f.table_length parts.0 >>= λ body. key_table body.1 >>= last f body.0) k e in
-    let b = step-of (file_footer a.x.1) (λ f. back f.table_length a.x.0 >>= λ body. key_table body.1 >>= last f body.0) k a.rest in
-    let c = step-of (back b.x.table_length a.x.0) (λ body. key_table body.1 >>= last b.x body.0) k b.rest in
-    let d = step-of (key_table c.x.1) (last b.x c.x.0) k c.rest in
-    let whole = if-of (total_length d.x == length c.x.0) (made b.x d.x) k d.rest in
-    are-keyed (made b.x d.x) k whole.1 (entries-keyed c.x.1 d.x d.first)
 
 -- the key of a part's column
 abbrev pub part_key : PartColumn → Key

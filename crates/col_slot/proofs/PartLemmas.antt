@@ -8,6 +8,7 @@ use Rattle.std.proofs.lemmas.List.{length-map}
 use Rattle.std.proofs.lemmas.List.FromFn.{get_or-map-range_with_len}
 use Rattle.std.proofs.lemmas.Option.{none-some, gets, slice_get_cases, slice_get_within}
 use Rattle.col_common.specs.Reading.{only_if}
+use Rattle.col_model.proofs.ListLaws.{item-at}
 use Rattle.col_model.proofs.OrderedColumns.{same-slots}
 use Rattle.col_model.specs.Category.{Slot, category_of, same_slot}
 use Rattle.col_model.specs.Column.{term_cell}
@@ -33,7 +34,7 @@ use Rattle.col_slot.specs.JoinedSlots.{part_seen, AreOpened, AreKept}
 use Rattle.col_slot.specs.Kept.{has_value, keeps, kept_flags, IsCountedBy, IsCountedIn}
 use Rattle.col_slot.specs.Segments.{where_set, kept_of, column_seen, IsIn, HaveRows}
 use Rattle.col_slot.proofs.KeptLemmas.{column-at, counted-at}
-use Rattle.col_slot.proofs.SegmentLemmas.{set-at, length-set, item-at}
+use Rattle.col_slot.proofs.SegmentLemmas.{set-at, length-set}
 
 -- ---- a row has as many cells as the index counts
 

@@ -12,6 +12,7 @@ use Rattle.col_model.specs.Limits.{is_of_type}
 use Rattle.col_model.specs.Merge.{all_cells}
 use Rattle.col_model.specs.Table.{Cell, Content}
 use Rattle.col_model.specs.U64List.{joined_lists}
+use Rattle.col_model.proofs.ListLaws.{item-at}
 use Rattle.col_column.specs.Columns.{row_count, content_seen}
 use Rattle.col_dynamic.specs.Dynamic.{type_of, content_of, dynamic_shape, value_count}
 use Rattle.col_dynamic.specs.declared.dynamic_column.DynamicColumn.{DynamicColumn}
@@ -161,12 +162,6 @@ rows-of counts columns left i n d have h same rows = by (get_or left i d) (next-
 pub ok-then : {A E : Type 0} (r : Result A E) {P Q : A → Type 0} → IfOk r P → ((a : A) → P a → Q a) → IfOk r Q
 ok-then (Ok a) p f = f a p
 ok-then (Err e) p f = tt
-
--- an item that is there
-pub item-at : {A : Type 0} (xs : List A) (k : ℕ) → k < length xs → (x : A) × (slice_get xs k ≡ Some x)
-item-at [] k h = absurd (omega arith)
-item-at (x ∷ xs) zero h = (x, refl)
-item-at (x ∷ xs) (suc k) h = item-at xs k (omega arith)
 
 module _ {V T : Type 0} (list : V → List T) (cell : T → Cell) where
   -- the values of a segment, as a list

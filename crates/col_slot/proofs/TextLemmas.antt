@@ -25,7 +25,7 @@ use Rattle.col_model.specs.Table.{Cell, Cardinality, Column, Content}
 use Rattle.col_model.specs.Table as tables
 use Rattle.col_model.specs.U64List.{joined_lists}
 use Rattle.col_model.specs.Written.{texts_of}
-use Rattle.col_model.proofs.ListLaws.{no-items}
+use Rattle.col_model.proofs.ListLaws.{no-items, item-at}
 use Rattle.col_order.specs.Orders.{counts_of, picks_of}
 use Rattle.col_numbers.specs.NumValues.{num_values_of}
 use Rattle.col_index.specs.Offsets.{cardinality_in}
@@ -47,7 +47,6 @@ use Rattle.col_slot.specs.Segments.{column_seen}
 use Rattle.col_slot.specs.Texts.{text_type, IsTextAs, IsCountedText, AreTexts}
 use Rattle.col_slot.proofs.JoinedLemmas.{row-count-at}
 use Rattle.col_slot.proofs.PartLemmas.{row-count, row-within}
-use Rattle.col_slot.proofs.SegmentLemmas.{item-at}
 
 -- ---- a column that holds nothing in picked rows
 

@@ -19,8 +19,8 @@ use Rattle.col_terms.specs.Streams.{OrdTerm}
 use Rattle.col_term_merge.specs.declared.terms_with_segment_ord.TermsWithSegmentOrd.{TermsWithSegmentOrd}
 use Rattle.col_term_merge.specs.Keys.{key_at, here_of, from_here}
 use Rattle.col_term_merge.specs.Places.{AllStand, places_at}
-use Rattle.col_term_merge.specs.Merging.{SegmentTerm, term_cmp, in_segment, in_order, has_key, terms_left, terms_here, terms_ahead, merged_step, key_of, places_of, is_on_key}
-use Rattle.col_term_merge.specs.Moves.{AreRising, LeftRises, StandsRising, AreReady, AreTaken, AreLater, StandTogether, StandIf, IsLeast, first_key, segments_of, merging_by}
+use Rattle.col_term_merge.specs.Merging.{SegmentTerm, term_cmp, in_segment, in_order, has_key, terms_left, terms_here, terms_ahead, merged_step, key_of, places_of, is_on_key, TermsAscend, LeftAscends}
+use Rattle.col_term_merge.specs.Moves.{StandsAscending, AreReady, AreTaken, AreLater, StandTogether, StandIf, IsLeast, first_key, segments_of, merging_by}
 use Rattle.col_term_merge.proofs.PermutationLemmas.{all-moved, all-parts, all-flat}
 use Rattle.col_term_merge.proofs.SortLemmas.{sorted-moved, sorted-joined, moved-sorted, all-sorted}
 use Rattle.col_term_merge.proofs.KeyLemmas.{term_cmp-total, term_cmp-apart, by_bytes, before-term, other-key, own-key}
@@ -72,31 +72,31 @@ here-has s key e = go s.terms.current e
     go None e = tt
     go (Some p) e = (e, tt)
 
-left-after : (s : TermsWithSegmentOrd) → StandsRising s → AllByRecursion (IsAfter (key_at s.terms)) (in_segment s.segment_ord s.terms.left)
-left-after s h = go s.terms.current s.terms.left h.stands h.rises
+left-after : (s : TermsWithSegmentOrd) → StandsAscending s → AllByRecursion (IsAfter (key_at s.terms)) (in_segment s.segment_ord s.terms.left)
+left-after s h = go s.terms.current s.terms.left h.stands h.ascends
   where
-    go : (c : Option OrdTerm) (ps : List OrdTerm) → is_some c ≡ true → AreRising (from_here c ps) → AllByRecursion (IsAfter (option_map_or (λ (p : OrdTerm). p.1) c [])) (in_segment s.segment_ord ps)
+    go : (c : Option OrdTerm) (ps : List OrdTerm) → is_some c ≡ true → TermsAscend (from_here c ps) → AllByRecursion (IsAfter (option_map_or (λ (p : OrdTerm). p.1) c [])) (in_segment s.segment_ord ps)
     go None ps on up = absurd (true≢false (sym on))
     go (Some p) ps on up = in-segment-all (IsAfter p.1) s.segment_ord ps (left-behind p ps up).0
 
-left-rises : (s : TermsWithSegmentOrd) → StandsRising s → LeftRises s
-left-rises s h = go s.terms.current s.terms.left h.stands h.rises
+left-ascends : (s : TermsWithSegmentOrd) → StandsAscending s → LeftAscends s
+left-ascends s h = go s.terms.current s.terms.left h.stands h.ascends
   where
-    go : (c : Option OrdTerm) (ps : List OrdTerm) → is_some c ≡ true → AreRising (from_here c ps) → AreRising ps
+    go : (c : Option OrdTerm) (ps : List OrdTerm) → is_some c ≡ true → TermsAscend (from_here c ps) → TermsAscend ps
     go None ps on up = absurd (true≢false (sym on))
     go (Some p) ps on up = (left-behind p ps up).1
 
 -- a walk at a later key is ahead by later terms alone
-ahead-after : (key : List ℕ) (s : TermsWithSegmentOrd) → StandsRising s → is_before key (key_at s.terms) ≡ true → AllByRecursion (IsAfter key) (in_segment s.segment_ord (from_here s.terms.current s.terms.left))
-ahead-after key s h e = go s.terms.current s.terms.left h.stands h.rises e
+ahead-after : (key : List ℕ) (s : TermsWithSegmentOrd) → StandsAscending s → is_before key (key_at s.terms) ≡ true → AllByRecursion (IsAfter key) (in_segment s.segment_ord (from_here s.terms.current s.terms.left))
+ahead-after key s h e = go s.terms.current s.terms.left h.stands h.ascends e
   where
-    go : (c : Option OrdTerm) (ps : List OrdTerm) → is_some c ≡ true → AreRising (from_here c ps) → is_before key (option_map_or (λ (p : OrdTerm). p.1) c []) ≡ true → AllByRecursion (IsAfter key) (in_segment s.segment_ord (from_here c ps))
+    go : (c : Option OrdTerm) (ps : List OrdTerm) → is_some c ≡ true → TermsAscend (from_here c ps) → is_before key (option_map_or (λ (p : OrdTerm). p.1) c []) ≡ true → AllByRecursion (IsAfter key) (in_segment s.segment_ord (from_here c ps))
     go None ps on up e = absurd (true≢false (sym on))
     go (Some p) ps on up e =
         let first = less_where (by_bytes key p.1) e in
         (first, in-segment-all (IsAfter key) s.segment_ord ps (all_by (λ (q : OrdTerm) l. nat_list_cmp_total.trans key p.1 q.1 first l) ps (left-behind p ps up).0))
 
-here-some : (at : List TermsWithSegmentOrd) → 0 < length at → AllByRecursion StandsRising at → 0 < length (terms_here at)
+here-some : (at : List TermsWithSegmentOrd) → 0 < length at → AllByRecursion StandsAscending at → 0 < length (terms_here at)
 here-some [] some stand = absurd (omega arith)
 here-some (s ∷ ss) some stand = go s.terms.current stand.0.stands
   where
@@ -106,24 +106,24 @@ here-some (s ∷ ss) some stand = go s.terms.current stand.0.stands
 
 -- ---- a step of the merge
 
-module _ (old at ahead : List TermsWithSegmentOrd) (stand : AllByRecursion StandsRising old) (taken : AreTaken old at ahead) (later : AreLater (first_key at) ahead) where
+module _ (old at ahead : List TermsWithSegmentOrd) (stand : AllByRecursion StandsAscending old) (taken : AreTaken old at ahead) (later : AreLater (first_key at) ahead) where
   abbrev key : List ℕ
   key = first_key at
 
-  pub both-stand : AllByRecursion StandsRising at × AllByRecursion StandsRising ahead
-  both-stand = all-parts StandsRising at ahead (all-moved StandsRising old (at ++ ahead) taken.moved stand)
+  pub both-stand : AllByRecursion StandsAscending at × AllByRecursion StandsAscending ahead
+  both-stand = all-parts StandsAscending at ahead (all-moved StandsAscending old (at ++ ahead) taken.moved stand)
 
   here-all : AllByRecursion (Has key) (terms_here at)
   here-all = all-flat (Has key) (λ (s : TermsWithSegmentOrd). in_segment s.segment_ord (here_of s.terms.current)) at (all_by (λ s e. here-has s key e) at taken.together.keys)
 
   left-all : AllByRecursion (IsAfter key) (terms_left at)
   left-all =
-      let each = all_both StandsRising (λ s. key_at s.terms ≡ key) at both-stand.0 taken.together.keys in
+      let each = all_both StandsAscending (λ s. key_at s.terms ≡ key) at both-stand.0 taken.together.keys in
       all-flat (IsAfter key) (λ (s : TermsWithSegmentOrd). in_segment s.segment_ord s.terms.left) at (all_by (λ s h. subst (λ k. AllByRecursion (IsAfter k) (in_segment s.segment_ord s.terms.left)) h.1 (left-after s h.0)) at each)
 
   ahead-all : AllByRecursion (IsAfter key) (terms_ahead ahead)
   ahead-all =
-      let each = all_both StandsRising (λ s. is_before key (key_at s.terms) ≡ true) ahead both-stand.1 later in
+      let each = all_both StandsAscending (λ s. is_before key (key_at s.terms) ≡ true) ahead both-stand.1 later in
       all-flat (IsAfter key) (λ (s : TermsWithSegmentOrd). in_segment s.segment_ord (from_here s.terms.current s.terms.left)) ahead (all_by (λ s h. ahead-after key s h.0 h.1) ahead each)
 
   rest : List SegmentTerm
@@ -160,13 +160,13 @@ module _ (old at ahead : List TermsWithSegmentOrd) (stand : AllByRecursion Stand
 
   pub still-ready : AreReady at ahead
   still-ready = record {
-    left_rises = all_by (λ s h. left-rises s h) at both-stand.0;
+    left_ascends = all_by (λ s h. left-ascends s h) at both-stand.0;
     stand = both-stand.1;
     heap = taken.heap;
   }
 
   pub all-stand : AllStand at
-  all-stand = all_by (λ s (h : StandsRising s). h.stands) at both-stand.0
+  all-stand = all_by (λ s (h : StandsAscending s). h.stands) at both-stand.0
 
 no-terms : in_order [] ≡ []
 unfolding sorted_items

@@ -19,7 +19,7 @@ use Rattle.col_term_merge.specs.Numbering.{terms_of, term_count, terms_from, ter
 use Rattle.col_term_merge.proofs.SortLemmas.{moved-sorted}
 use Rattle.col_term_merge.proofs.PermutationLemmas.{all-moved}
 use Rattle.col_term_merge.proofs.ItemLemmas.{in-all, in-map, in-filter, in-moved, all-filtered, some-same, item-map, same-lists}
-use Rattle.col_term_merge.proofs.PlaceLemmas.{genuine-all, in-all-terms, keys-ordered, ascend-ordered, ascend-filtered, keys-step, is_other, others-first, rising-terms, rising-filtered, place-dropped, drop-next, length-joined, length-distinct, length-filtered}
+use Rattle.col_term_merge.proofs.PlaceLemmas.{genuine-all, in-all-terms, keys-ordered, never_fall-ordered, never_fall-filtered, keys-step, is_other, others-first, rising-terms, rising-filtered, place-dropped, drop-next, length-joined, length-distinct, length-filtered}
 
 -- ---- walks over the terms of columns
 
@@ -78,7 +78,7 @@ pub numbered-start : (tss : List (List (List ℕ))) (kept : List ℕ → Bool) (
 numbered-start tss kept mapping e =
     let moved = moved-sorted (λ a b. not (is_gt (term_cmp a b))) (terms_from 0 tss) in
     record {
-      ascend = ascend-ordered (terms_from 0 tss);
+      never_fall = never_fall-ordered (terms_from 0 tss);
       genuine = all-moved (λ t. item_at tss (t.segment, t.ord) ≡ Some t.key) (terms_from 0 tss) (in_order (terms_from 0 tss)) moved (genuine-all tss);
       lengths = e;
       rest = ap (filter kept) (sym (keys-ordered tss));
@@ -151,7 +151,7 @@ module _ (tss : List (List (List ℕ))) (kept : List ℕ → Bool) (t : SegmentT
   -- the key is kept
   module _ (keeps : kept t.key ≡ true) where
     rest-is : drop next (kept_terms kept tss) ≡ t.key ∷ filter kept (keys_of left)
-    rest-is = h.rest ∙ ap (filter kept) (keys-step t ts h.ascend) ∙ first
+    rest-is = h.rest ∙ ap (filter kept) (keys-step t ts h.never_fall) ∙ first
       where
         first : filter kept (t.key ∷ keys_of left) ≡ t.key ∷ filter kept (keys_of left)
         first = rw keeps refl
@@ -174,7 +174,7 @@ module _ (tss : List (List (List ℕ))) (kept : List ℕ → Bool) (t : SegmentT
 
     pub numbered-more : AreNumbered tss kept left (next + 1) new
     numbered-more = record {
-      ascend = ascend-filtered (is_other t.key) (t ∷ ts) h.ascend;
+      never_fall = never_fall-filtered (is_other t.key) (t ∷ ts) h.never_fall;
       genuine = all-filtered (λ u. item_at tss (u.segment, u.ord) ≡ Some u.key) (is_other t.key) (t ∷ ts) h.genuine;
       lengths = numbers.lengths ∙ h.lengths;
       rest = drop-next next (kept_terms kept tss) t.key (filter kept (keys_of left)) (rest-is keeps);

@@ -25,7 +25,7 @@ use Rattle.col_terms.specs.Building.{id_of}
 use Rattle.col_terms.specs.Streams.{OrdTerm, numbered}
 use Rattle.col_terms.proofs.WalkLemmas.{numbered-terms}
 use Rattle.col_term_merge.specs.Merging.{SegmentTerm, term_cmp, has_key, in_segment, in_order}
-use Rattle.col_term_merge.specs.Numbering.{terms_from, terms_in_order, keys_of, KeysAscend, item_at, IsIn}
+use Rattle.col_term_merge.specs.Numbering.{terms_from, terms_in_order, keys_of, KeysNeverFall, item_at, IsIn}
 use Rattle.col_term_merge.proofs.SortLemmas.{all-inserted, moved-sorted}
 use Rattle.col_term_merge.proofs.ItemLemmas.{in-left, in-right, in-map, all-filtered}
 use Rattle.col_term_merge.proofs.KeyLemmas.{by_bytes, own-key, key-behind, key-further, key-tied}
@@ -180,24 +180,24 @@ at_most-key t u e = ap is_lt (nat_list_cmp_total.antisymm u.key t.key) ∙ rever
 above-key : (t u : SegmentTerm) → at_most t u ≡ false → NotBefore u t
 above-key t u e = then-at_most (by_bytes t.key u.key) _ e
 
-ascend-inserted : (t : SegmentTerm) (us : List SegmentTerm) → KeysAscend us → KeysAscend (inserted at_most t us)
-ascend-inserted t [] h = (tt, tt)
-ascend-inserted t (u ∷ us) h = go (at_most t u) refl (ascend-inserted t us h.1)
+never_fall-inserted : (t : SegmentTerm) (us : List SegmentTerm) → KeysNeverFall us → KeysNeverFall (inserted at_most t us)
+never_fall-inserted t [] h = (tt, tt)
+never_fall-inserted t (u ∷ us) h = go (at_most t u) refl (never_fall-inserted t us h.1)
   where
-    go : (b : Bool) → at_most t u ≡ b → KeysAscend (inserted at_most t us) → KeysAscend (if b then t ∷ u ∷ us else u ∷ inserted at_most t us)
+    go : (b : Bool) → at_most t u ≡ b → KeysNeverFall (inserted at_most t us) → KeysNeverFall (if b then t ∷ u ∷ us else u ∷ inserted at_most t us)
     go true e rest = let first = at_most-key t u e in ((first, all_by (λ v k. not-before-through t u v first k) us h.0), h)
     go false e rest = (all-inserted at_most (NotBefore u) t us (above-key t u e) h.0, rest)
 
-pub ascend-ordered : (ts : List SegmentTerm) → KeysAscend (in_order ts)
+pub never_fall-ordered : (ts : List SegmentTerm) → KeysNeverFall (in_order ts)
 unfolding sorted_items
-ascend-ordered [] = tt
-ascend-ordered (t ∷ ts) = ascend-inserted t (in_order ts) (ascend-ordered ts)
+never_fall-ordered [] = tt
+never_fall-ordered (t ∷ ts) = never_fall-inserted t (in_order ts) (never_fall-ordered ts)
 
-pub ascend-filtered : (p : SegmentTerm → Bool) (ts : List SegmentTerm) → KeysAscend ts → KeysAscend (filter p ts)
-ascend-filtered p [] h = tt
-ascend-filtered p (t ∷ ts) h = go (p t) refl (ascend-filtered p ts h.1)
+pub never_fall-filtered : (p : SegmentTerm → Bool) (ts : List SegmentTerm) → KeysNeverFall ts → KeysNeverFall (filter p ts)
+never_fall-filtered p [] h = tt
+never_fall-filtered p (t ∷ ts) h = go (p t) refl (never_fall-filtered p ts h.1)
   where
-    go : (b : Bool) → p t ≡ b → KeysAscend (filter p ts) → KeysAscend (filter p (t ∷ ts))
+    go : (b : Bool) → p t ≡ b → KeysNeverFall (filter p ts) → KeysNeverFall (filter p (t ∷ ts))
     go true e rest = rw e (all-filtered (NotBefore t) p ts h.0, rest)
     go false e rest = rw e rest
 
@@ -245,7 +245,7 @@ pub others-first : (t : SegmentTerm) (us : List SegmentTerm) → filter (is_othe
 others-first t us = rw (bytes_eq-same t.key) refl
 
 -- the keys of terms in order: the first one, and those of the terms that differ
-pub keys-step : (t : SegmentTerm) (us : List SegmentTerm) → KeysAscend (t ∷ us) → keys_of (t ∷ us) ≡ t.key ∷ keys_of (filter (is_other t.key) (t ∷ us))
+pub keys-step : (t : SegmentTerm) (us : List SegmentTerm) → KeysNeverFall (t ∷ us) → keys_of (t ∷ us) ≡ t.key ∷ keys_of (filter (is_other t.key) (t ∷ us))
 unfolding IsStrictlySortedBy
 keys-step t us h =
     let rest = filter (is_other t.key) us in

@@ -16,8 +16,8 @@ use Rattle.col_terms.specs.Streams.{TermStream}
 use Rattle.col_terms.specs.Streams as walks
 use Rattle.col_term_merge.specs.declared.terms_with_segment_ord.TermsWithSegmentOrd.{TermsWithSegmentOrd}
 use Rattle.col_term_merge.specs.Keys.{key_at, from_here}
-use Rattle.col_term_merge.specs.Merging.{SegmentTerm, term_cmp, in_segment, in_order, terms_left, terms_ahead}
-use Rattle.col_term_merge.specs.Moves.{AreRising, LeftRises, StandsRising, AreReady, AreTaken, IsBehind, IsFirstAt, first_key, segments_of, stream_cmp}
+use Rattle.col_term_merge.specs.Merging.{SegmentTerm, term_cmp, in_segment, in_order, terms_left, terms_ahead, TermsAscend, LeftAscends}
+use Rattle.col_term_merge.specs.Moves.{StandsAscending, AreReady, AreTaken, IsBehind, IsFirstAt, first_key, segments_of, stream_cmp}
 use Rattle.col_term_merge.proofs.PermutationLemmas.{all-moved, flat-moved}
 use Rattle.col_term_merge.proofs.SortLemmas.{sorted-moved, sorted-behind}
 use Rattle.col_term_merge.proofs.KeyLemmas.{term_cmp-total, term_cmp-apart, by_bytes, behind-key, behind-segment, key-behind, key-further}
@@ -33,13 +33,13 @@ ahead-moved xs ys p = sorted-moved term_cmp term_cmp-total term_cmp-apart (terms
 -- ---- into the heap
 
 -- a walk went a step on, and was put in
-pub put-ready : (s t : TermsWithSegmentOrd) (ahead heap : List TermsWithSegmentOrd) → LeftRises s → t.terms ≡ walks.stepped s.terms.left → is_some t.terms.current ≡ true → AreReady [] ahead
+pub put-ready : (s t : TermsWithSegmentOrd) (ahead heap : List TermsWithSegmentOrd) → LeftAscends s → t.terms ≡ walks.stepped s.terms.left → is_some t.terms.current ≡ true → AreReady [] ahead
     → IsPermutation (t ∷ ahead) heap → (IsHeap stream_cmp ahead → IsHeap stream_cmp heap) → AreReady [] heap
 put-ready s t ahead heap up step on ready p h =
-    let rises = subst AreRising (sym (stepped-ahead s.terms t.terms step on)) up in
+    let ascend = subst TermsAscend (sym (stepped-ahead s.terms t.terms step on)) up in
     record {
-      left_rises = tt;
-      stand = all-moved StandsRising (t ∷ ahead) heap p (record { stands = on; rises = rises }, ready.stand);
+      left_ascends = tt;
+      stand = all-moved StandsAscending (t ∷ ahead) heap p (record { stands = on; ascends = ascend }, ready.stand);
       heap = h ready.heap;
     }
 

@@ -3,43 +3,20 @@ use Rattle.std.proofs.Common.{◌≡◌, ℕ, ◌+◌, ◌<◌, true, List, [], 
 use Rattle.std.specs.List.{AllByRecursion}
 use Rattle.std.specs.List.Sorted.{IsStrictlySortedBy}
 use Rattle.std.specs.declared.cmp.Ordering.TheVariants.{Less}
-use Rattle.std.proofs.lemmas.Bool.{true≢false, and_parts}
-use Rattle.std.proofs.lemmas.Cmp.{nat_list_cmp_total}
+use Rattle.std.proofs.lemmas.Bool.{true≢false}
 use Rattle.std.proofs.lemmas.List.{take_more}
 use Rattle.std.proofs.lemmas.List.Sorted.{IsPermutation-refl, IsPermutation-trans, IsPermutation-append_left, IsPermutation-append_right, IsPermutation-append_comm}
-use Rattle.col_common.specs.Ascending.{is_ascending, is_before}
-use Rattle.col_model.proofs.ListLaws.{all_push}
-use Rattle.col_model.proofs.OrderingLaws.{less_where}
-use Rattle.col_model.proofs.StatsLaws.{all_by, all_mapped}
+use Rattle.col_model.proofs.ListLaws.{all_push, ascending-tail}
+use Rattle.col_model.proofs.StatsLaws.{all_mapped}
 use Rattle.col_terms.specs.Streams.{OrdTerm, TermStream}
 use Rattle.col_terms.specs.Streams as walks
+use Rattle.col_terms.proofs.SearchLemmas.{in_order}
 use Rattle.col_term_merge.specs.declared.terms_with_segment_ord.TermsWithSegmentOrd.{TermsWithSegmentOrd}
 use Rattle.col_term_merge.specs.Keys.{here_of, from_here}
-use Rattle.col_term_merge.specs.Merging.{in_segment, terms_left, terms_here, terms_ahead, LeftAscends}
-use Rattle.col_term_merge.specs.Moves.{AreRising, LeftRises}
+use Rattle.col_term_merge.specs.Merging.{in_segment, terms_left, terms_here, terms_ahead, TermsAscend, LeftAscends}
 use Rattle.col_term_merge.proofs.KeyLemmas.{by_bytes}
 
--- ---- terms that rise
-
-rising-from : (x : List ℕ) (ys : List (List ℕ)) → is_ascending (x ∷ ys) ≡ true → AllByRecursion (λ y. by_bytes x y ≡ Less) ys
-rising-from x [] e = tt
-rising-from x (y ∷ ys) e =
-    let parts = and_parts (is_before x y) (is_ascending (y ∷ ys)) e in
-    let first = less_where (by_bytes x y) parts.0 in
-    (first, all_by (λ z h. nat_list_cmp_total.trans x y z first h) ys (rising-from y ys parts.1))
-
-rising-rest : (x : List ℕ) (ys : List (List ℕ)) → is_ascending (x ∷ ys) ≡ true → is_ascending ys ≡ true
-rising-rest x [] e = refl
-rising-rest x (y ∷ ys) e = (and_parts (is_before x y) (is_ascending (y ∷ ys)) e).1
-
--- what passes the test of neighbours rises
-pub rising : (xs : List (List ℕ)) → is_ascending xs ≡ true → IsStrictlySortedBy by_bytes xs
-unfolding IsStrictlySortedBy
-rising [] e = tt
-rising (x ∷ xs) e = (rising-from x xs e, rising xs (rising-rest x xs e))
-
-pub all-rise : (ss : List TermsWithSegmentOrd) → AllByRecursion LeftAscends ss → AllByRecursion LeftRises ss
-all-rise ss h = all_by (λ (s : TermsWithSegmentOrd) e. rising (map (λ p. p.1) s.terms.left) e) ss h
+-- ---- terms that ascend
 
 -- the terms of one walk more ascend
 pub ascend-more : (ss : List TermsWithSegmentOrd) (n : ℕ) (s : TermsWithSegmentOrd) → n < length ss → s ≡ get_or ss n s → AllByRecursion LeftAscends (take n ss) → LeftAscends s → AllByRecursion LeftAscends (take (n + 1) ss)
@@ -47,9 +24,11 @@ ascend-more ss n s low is all last =
     subst (AllByRecursion LeftAscends) (sym (take_more ss n s low)) (all_push LeftAscends (take n ss) (get_or ss n s) all (subst LeftAscends is last))
 
 -- behind the term where a walk stands there are greater ones
-pub left-behind : (p : OrdTerm) (ps : List OrdTerm) → AreRising (p ∷ ps) → AllByRecursion (λ (q : OrdTerm). by_bytes p.1 q.1 ≡ Less) ps × AreRising ps
+pub left-behind : (p : OrdTerm) (ps : List OrdTerm) → TermsAscend (p ∷ ps) → AllByRecursion (λ (q : OrdTerm). by_bytes p.1 q.1 ≡ Less) ps × TermsAscend ps
 unfolding IsStrictlySortedBy
-left-behind p ps h = (all_mapped (λ k. by_bytes p.1 k ≡ Less) (λ (q : OrdTerm). q.1) ps h.0, h.1)
+left-behind p ps h =
+    let texts : List (List ℕ) = map (λ (q : OrdTerm). q.1) ps in
+    (all_mapped (λ k. by_bytes p.1 k ≡ Less) (λ (q : OrdTerm). q.1) ps (in_order (p.1 ∷ texts) h).0, ascending-tail p.1 texts h)
 
 -- ---- a step of one walk
 

@@ -45,9 +45,13 @@ abbrev pub terms_ahead : List TermsWithSegmentOrd → List SegmentTerm
 terms_ahead ss =
     flat_map (λ s. in_segment s.segment_ord (from_here s.terms.current s.terms.left)) ss
 
--- the terms that a walk has still to give ascend
+-- terms ascend
+abbrev pub TermsAscend : List OrdTerm → Type 0
+TermsAscend ps = is_ascending (map (λ p. p.1) ps) ≡ true
+
+-- those that a walk has still to give ascend
 abbrev pub LeftAscends : TermsWithSegmentOrd → Type 0
-LeftAscends s = is_ascending (map (λ p. p.1) s.terms.left) ≡ true
+LeftAscends s = TermsAscend s.terms.left
 
 -- Terms that are still to come, and those of the key where the merge stands: all that are that
 -- key, by their segments.

@@ -2,16 +2,14 @@
 use Rattle.std.specs.Prelude.{◌≡◌, ℕ, ◌<◌, ◌≤◌, ◌+◌, Bool, true, false, List, [], ◌∷◌, ◌++◌, map, length, is_some, if◌then◌else◌, IsPermutation}
 use Rattle.std.specs.declared.cmp.Ordering.{Ordering}
 use Rattle.std.specs.List.{AllByRecursion}
-use Rattle.std.specs.List.Sorted.{IsStrictlySortedBy}
 use Rattle.std.specs.Ordering.{nat_cmp, is_lt, ordering_then}
 use Rattle.std.specs.Cmp.Lexicographic.{slice_cmp}
 use Rattle.std.specs.BinaryHeap.{IsHeap}
 use Rattle.col_common.specs.Ascending.{is_before, is_never_falling}
-use Rattle.col_terms.specs.Streams.{OrdTerm}
 use Rattle.col_term_merge.specs.declared.terms_with_segment_ord.TermsWithSegmentOrd.{TermsWithSegmentOrd}
 use Rattle.col_term_merge.specs.Keys.{key_at, from_here}
 use Rattle.col_term_merge.specs.Places.{AllStand}
-use Rattle.col_term_merge.specs.Merging.{Merging, in_order, terms_left, terms_here, terms_ahead}
+use Rattle.col_term_merge.specs.Merging.{Merging, in_order, terms_left, terms_here, terms_ahead, TermsAscend, LeftAscends}
 
 -- the order of walks, in which the one with the least key is the greatest, and of these the one of
 -- the first segment
@@ -19,23 +17,15 @@ abbrev pub stream_cmp : TermsWithSegmentOrd → TermsWithSegmentOrd → Ordering
 stream_cmp a b = ordering_then (slice_cmp nat_cmp (key_at b.terms) (key_at a.terms))
     (nat_cmp b.segment_ord a.segment_ord)
 
--- terms strictly ascend
-abbrev pub AreRising : List OrdTerm → Type 0
-AreRising ps = IsStrictlySortedBy (slice_cmp nat_cmp) (map (λ p. p.1) ps)
-
--- those that a walk has still to give
-abbrev pub LeftRises : TermsWithSegmentOrd → Type 0
-LeftRises s = AreRising s.terms.left
-
 -- the walk stands on a term, and from there on terms ascend
-pub record StandsRising (s : TermsWithSegmentOrd) : Type 0 where
+pub record StandsAscending (s : TermsWithSegmentOrd) : Type 0 where
   pub stands : is_some s.terms.current ≡ true
-  pub rises : AreRising (from_here s.terms.current s.terms.left)
+  pub ascends : TermsAscend (from_here s.terms.current s.terms.left)
 
 -- walks that are at the key where a merge stands, and walks ahead of it, in a heap
 pub record AreReady (at ahead : List TermsWithSegmentOrd) : Type 0 where
-  pub left_rises : AllByRecursion LeftRises at
-  pub stand : AllByRecursion StandsRising ahead
+  pub left_ascends : AllByRecursion LeftAscends at
+  pub stand : AllByRecursion StandsAscending ahead
   pub heap : IsHeap stream_cmp ahead
 
 -- the segments of walks

@@ -64,9 +64,9 @@ abbrev pub keys_of : List SegmentTerm → List (List ℕ)
 keys_of ts = distinct_items (slice_cmp nat_cmp) (map (λ t. t.key) ts)
 
 -- no key is before an earlier one
-abbrev pub KeysAscend : List SegmentTerm → Type 0
-KeysAscend [] = Unit {0}
-KeysAscend (t ∷ ts) = AllByRecursion (λ u. is_before u.key t.key ≡ false) ts × KeysAscend ts
+abbrev pub KeysNeverFall : List SegmentTerm → Type 0
+KeysNeverFall [] = Unit {0}
+KeysNeverFall (t ∷ ts) = AllByRecursion (λ u. is_before u.key t.key ≡ false) ts × KeysNeverFall ts
 
 -- the terms that are kept, in order
 abbrev pub kept_terms : (List ℕ → Bool) → List (List (List ℕ)) → List (List ℕ)
@@ -76,7 +76,7 @@ kept_terms kept tss = filter kept (terms_in_order tss)
 -- next kept key gets the next number.
 pub record AreNumbered (tss : List (List (List ℕ))) (kept : List ℕ → Bool)
     (left : List SegmentTerm) (next : ℕ) (mapping : List (List ℕ)) : Type 0 where
-  pub ascend : KeysAscend left
+  pub never_fall : KeysNeverFall left
   pub genuine : AllByRecursion (λ t. item_at tss (t.segment, t.ord) ≡ Some t.key) left
   pub lengths : map length mapping ≡ map length tss
   pub rest : drop next (kept_terms kept tss) ≡ filter kept (keys_of left)

@@ -5,7 +5,7 @@ ghost use Rattle.std.specs.BinaryHeap.{heap_items, heap_len, heap_capacity, IsHe
 ghost use Rattle.std.specs.Vec.{vec_len, vec_capacity};
 ghost use Rattle.col_common.specs.Ascending.{is_never_falling};
 ghost use Rattle.col_term_merge.specs.Merging.{in_order, terms_left, terms_ahead, LeftAscends};
-ghost use Rattle.col_term_merge.specs.Moves.{stream_cmp, AreReady, AreTaken, AreLater, IsLeast, IsFirstAt, LeftRises, first_key};
+ghost use Rattle.col_term_merge.specs.Moves.{stream_cmp, AreReady, AreTaken, AreLater, IsLeast, IsFirstAt, first_key};
 
 use crate::{MatchingSegments, TermsWithSegmentOrd};
 use std::alloc::{AllocError, Global};
@@ -118,7 +118,7 @@ fn go_on<'a>(
 
 // Puts a walk into the heap, a step further, unless it is at its end.
 fn put_behind<'a>(stream: TermsWithSegmentOrd<'a>, heap: &mut BinaryHeap<TermsWithSegmentOrd<'a>>)
-    requires rises { LeftRises stream }
+    requires ascends { LeftAscends stream }
     requires ready { AreReady [] (heap_items heap.old) }
     requires room { heap_len heap.old < heap_capacity heap.old }
     ensures ready { AreReady [] (heap_items heap.new) }

@@ -1,5 +1,5 @@
 -- Terms with a prefix, among ascending terms.
-use Rattle.std.proofs.Common.{◌≡◌, ℕ, zero, suc, ◌+◌, ◌-◌, ◌<◌, ◌≤◌, ◌==◌, Bool, true, false, List, [], ◌∷◌, length, get_or, slice_get, take, drop, filter, Some, refl, sym, ap, ◌∙◌, subst, inl, inr, arith}
+use Rattle.std.proofs.Common.{◌≡◌, ℕ, ◌+◌, ◌-◌, ◌<◌, ◌≤◌, ◌==◌, Bool, true, false, List, [], ◌∷◌, length, get_or, slice_get, take, drop, Some, refl, sym, ap, ◌∙◌, subst, inl, inr, arith}
 use Rattle.std.specs.declared.cmp.Ordering.{Ordering}
 use Rattle.std.specs.declared.cmp.Ordering.TheVariants.{Less, Equal, Greater}
 use Rattle.std.specs.Ordering.{nat_cmp, is_lt, ordering_then}
@@ -12,6 +12,7 @@ use Rattle.col_terms.specs.Lookups.{IsFirstFrom, has_prefix, IsPrefixEnd}
 use Rattle.col_terms.specs.Streams.{OrdTerm, numbered, with_prefix}
 use Rattle.col_terms.proofs.HeadLemmas.{cmp_same}
 use Rattle.col_terms.proofs.SearchLemmas.{middle, pairwise}
+use Rattle.col_model.proofs.ListLaws.{filter_run}
 use Rattle.col_model.proofs.OrderingLaws.{nat_cmp-less, nat_cmp-greater}
 
 -- ---- prefixes and the order
@@ -100,26 +101,6 @@ module _ (ts : List (List ℕ)) (prefix : List ℕ) (start : ℕ) (f : IsFirstFr
         }
 
 -- ---- the terms between both places
-
-module _ {A : Type 0} (p : A → Bool) (d : A) where
-  filter_none : (xs : List A) → ((j : ℕ) → j < length xs → p (get_or xs j d) ≡ false) → filter p xs ≡ []
-  filter_none [] fails = refl
-  filter_none (x ∷ xs) fails = rw (fails 0 (omega arith)) (filter_none xs (λ j h. fails (suc j) (omega arith)))
-
-  filter_front : (xs : List A) (n : ℕ) → n ≤ length xs → ((j : ℕ) → j < n → p (get_or xs j d) ≡ true) → ((j : ℕ) → n ≤ j → j < length xs → p (get_or xs j d) ≡ false) → filter p xs ≡ take n xs
-  filter_front xs zero h passes fails = filter_none xs (λ j k. fails j (omega arith) k)
-  filter_front [] (suc n) h passes fails = absurd (omega arith)
-  filter_front (x ∷ xs) (suc n) h passes fails = rw (passes 0 (omega arith)) (ap (λ ys. x ∷ ys) (filter_front xs n (omega arith) (λ j k. passes (suc j) (omega arith)) (λ j k l. fails (suc j) (omega arith) (omega arith))))
-
-  filter_run : (xs : List A) (start upto : ℕ) → start ≤ upto → upto ≤ length xs → ((j : ℕ) → j < start → p (get_or xs j d) ≡ false) → ((j : ℕ) → start ≤ j → j < upto → p (get_or xs j d) ≡ true) → ((j : ℕ) → upto ≤ j → j < length xs → p (get_or xs j d) ≡ false) → filter p xs ≡ take (upto - start) (drop start xs)
-  filter_run xs zero upto o h early passes fails =
-      let all : upto - 0 ≡ upto = omega arith in
-      rw all (filter_front xs upto h (λ j k. passes j (omega arith) k) fails)
-  filter_run xs (suc start) zero o h early passes fails = absurd (omega arith)
-  filter_run [] (suc start) (suc upto) o h early passes fails = absurd (omega arith)
-  filter_run (x ∷ xs) (suc start) (suc upto) o h early passes fails =
-      let less : suc upto - suc start ≡ upto - start = omega arith in
-      rw (early 0 (omega arith), less) (filter_run xs start upto (omega arith) (omega arith) (λ j k. early (suc j) (omega arith)) (λ j k l. passes (suc j) (omega arith) (omega arith)) (λ j k l. fails (suc j) (omega arith) (omega arith)))
 
 -- the terms with the prefix stand between both places
 pub with_prefix-between : (ts : List (List ℕ)) (prefix : List ℕ) (start upto : ℕ) → IsFirstFrom ts prefix start → IsPrefixEnd ts prefix start upto → take (upto - start) (drop start (numbered ts)) ≡ with_prefix prefix ts

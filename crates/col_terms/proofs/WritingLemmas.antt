@@ -1,7 +1,7 @@
 -- What is written of terms in order is read back.
 use Rattle.std.proofs.Common.{◌≡◌, ℕ, suc, ◌+◌, ◌-◌, ◌^◌, ◌<◌, ◌==◌, ◌&&◌, nat_le, true, List, [], ◌∷◌, ◌++◌, length, map, sum, sum_by, drop, get_or, flat_map, option_map, unwrap_or, Some, refl, sym, ap, ◌∙◌, inl, inr, arith}
 use Rattle.std.specs.Int.{w32, to_le_bytes}
-use Rattle.std.specs.List.{concat, AllByRecursion}
+use Rattle.std.specs.List.{concat}
 use Rattle.std.specs.Ordering.{nat_cmp, ordering_reverse}
 use Rattle.std.specs.Cmp.Lexicographic.{slice_cmp}
 use Rattle.std.proofs.lemmas.Bool.{and_from, le-leb, eq-eqb, cases_order}

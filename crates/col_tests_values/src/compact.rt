@@ -1,10 +1,12 @@
 //! Worked rows.
 use col_common::Buffer;
 use col_compact::{
-    BlankRange, CompactHit, CompactSpace, CompactSpaceCompressor, get_compact_space,
+    BlankRange, CompactHit, CompactSpace, CompactSpaceCompressor, equal_gaps_tie,
+    gaps_always_compare, gaps_are_ordered, get_compact_space, kinds_compare_as_one,
     serialize_column_values_u128,
 };
 use std::alloc::Global;
+use std::cmp::Ordering;
 use std::collections::BTreeSet;
 use std::process::Abort;
 use std::test::Fail;
@@ -87,6 +89,10 @@ fn gaps_come_by_size_and_start_and_have_three_numbers(rt: HostRuntime) -> Result
     assert_eq!(rt; long.blank_size(), 101);
     assert!(rt; short < long);
     assert!(rt; early < short);
+    assert_eq!(rt; gaps_are_ordered(&long, &short), Ordering::Greater);
+    assert_eq!(rt; gaps_always_compare(&early, &short), Some(Ordering::Less));
+    assert!(rt; equal_gaps_tie(&long, &long));
+    kinds_compare_as_one();
     assert!(rt; BlankRange::try_from(7u128..=8).is_err());
     let all = BlankRange::try_from(0..=u128::MAX)?;
     assert_eq!(rt; all.blank_size(), u128::MAX);

@@ -14,6 +14,7 @@ use Rattle.col_model.specs.ColumnType.{ColumnType}
 use Rattle.col_model.specs.Order.{Order, picks}
 use Rattle.col_model.specs.Positions.{picked_counts}
 use Rattle.col_model.specs.Table.{Content}
+use Rattle.col_model.proofs.ListLaws.{item-at}
 use Rattle.col_order.specs.Orders.{counts_of, picks_of}
 use Rattle.col_column.specs.Written.{Refused}
 use Rattle.col_text.specs.Texts.{Texts}
@@ -25,7 +26,6 @@ use Rattle.col_text_merge.specs.Merged.{FitSegments, shapes_of, picked_cells, Me
 use Rattle.col_text_merge.specs.Taking.{AreTold}
 use Rattle.col_text_merge.proofs.OrdinalLemmas.{fit-columns, picks-low}
 use Rattle.col_text_merge.proofs.TermLemmas.{picked-cells}
-use Rattle.col_text_merge.proofs.ContentLemmas.{get-some}
 
 -- Ok added bytes that stand for the column, unless its terms are too long.
 pub record LeavesTexts (long : Bool) (old new : SeenSink) (result : Result (Unit {0}) ColumnarError) (t : ColumnType) (n : ℕ) (content : Content) : Type 0 where
@@ -66,7 +66,7 @@ texts-left false old new result t n content h = record {
 cell-lengths : (columns : List Texts) (ps : List (ℕ × ℕ)) → ((p : ℕ × ℕ) → IsIn p ps → p.0 < length columns) → map length (map (picked_cells columns) ps) ≡ map length (merged_rows (term_columns columns) ps)
 cell-lengths columns [] low = refl
 cell-lengths columns (p ∷ ps) low =
-    let c = get-some columns p.0 (low p (inl refl)) in
+    let c = item-at columns p.0 (low p (inl refl)) in
     let row = ap length (picked-cells columns p c.0 c.1) ∙ length-map (picked_row (term_columns columns) p) (term_cell c.0.terms) in
     ap₂ (λ n ns. n ∷ ns) row (cell-lengths columns ps (λ q i. low q (inr i)))
 

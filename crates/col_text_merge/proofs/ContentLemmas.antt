@@ -1,5 +1,5 @@
 -- What the bytes of a merged column stand for.
-use Rattle.std.proofs.Common.{◌≡◌, ℕ, zero, suc, ◌<◌, ◌^◌, true, List, [], ◌∷◌, ◌++◌, map, length, option_map, Option, Some, slice_get, refl, sym, ap, ap₂, ◌∙◌, inl, inr, arith}
+use Rattle.std.proofs.Common.{◌≡◌, ℕ, ◌<◌, ◌^◌, true, List, [], ◌∷◌, ◌++◌, map, length, option_map, Option, Some, slice_get, refl, sym, ap, ap₂, ◌∙◌, inl, inr, arith}
 use Rattle.std.specs.Prelude.{nat_le}
 use Rattle.std.specs.Int.{w32, to_le_bytes}
 use Rattle.std.specs.List.{AllByRecursion, list_all}
@@ -11,6 +11,7 @@ use Rattle.col_model.specs.Column.{number_rows, term_cell, content_of, column}
 use Rattle.col_model.specs.ColumnType.{ColumnType, has_terms}
 use Rattle.col_model.specs.Limits.{dictionary_length}
 use Rattle.col_model.specs.Order.{Order, stack, shuffle}
+use Rattle.col_model.proofs.ListLaws.{item-at}
 use Rattle.col_order.specs.Orders.{picks_of}
 use Rattle.col_indexer.specs.Merged.{merged_counts, merged_cardinality}
 use Rattle.col_terms.specs.Building.{ordered, ordinals, is_too_long}
@@ -21,10 +22,10 @@ use Rattle.col_term_merge.specs.Numbering.{terms_of, IsIn}
 use Rattle.col_value_merge.specs.Merges.{picked_row, merged_rows}
 use Rattle.col_value_merge.specs.TermColumns.{term_columns, remapped_columns}
 use Rattle.col_rows.proofs.TextLemmas.{term_column-read}
+use Rattle.col_rows.proofs.DictionaryLemmas.{AreWritten}
 use Rattle.col_text_merge.specs.Noting.{Noted, ord_by, ords_by}
 use Rattle.col_text_merge.specs.Merged.{picked_cells, shapes_of, merged_content, has_long_terms}
 use Rattle.col_text_merge.specs.Taking.{AreTold, IsTaken, IsNowhere, AreNoted}
-use Rattle.col_text_merge.proofs.DictionaryLemmas.{AreWritten}
 use Rattle.col_text_merge.proofs.OrdinalLemmas.{picked-remapped, row-turned}
 use Rattle.col_text_merge.proofs.PickLemmas.{picked-there}
 use Rattle.col_text_merge.proofs.TermLemmas.{picked-cells, noted-merged}
@@ -35,12 +36,6 @@ use Rattle.col_text_merge.proofs.TermLemmas.{picked-cells, noted-merged}
 held-taken : (columns : List Texts) (order : Order) (p : ℕ × ℕ) (o : ℕ) → AllByRecursion AreTold columns → IsIn p (picks_of order) → IsIn o (picked_row (term_columns columns) p) → IsTaken columns order (p.0, o)
 held-taken columns (stack counts) p o told there held = picked-there columns (p ∷ []) told (p.0, o) (record { row = p; named = inl refl; segment = refl; held = held })
 held-taken columns (shuffle counts rows) p o told there held = record { row = p; named = there; segment = refl; held = held }
-
--- an item within a list
-pub get-some : {X : Type 0} (xs : List X) (k : ℕ) → k < length xs → (x : X) × (slice_get xs k ≡ Some x)
-get-some [] k l = absurd (omega (arith, l))
-get-some (x ∷ xs) zero l = (x, refl)
-get-some (x ∷ xs) (suc k) l = get-some xs k (omega (arith, l))
 
 module _ (columns : List Texts) (order : Order) (n : Noted) (told : AllByRecursion AreTold columns) (h : AreNoted columns (IsTaken columns order) IsNowhere n) (given : TermsAreThoseGiven) where
   abbrev found : List (List ℕ)
@@ -68,8 +63,8 @@ module _ (columns : List Texts) (order : Order) (n : Noted) (told : AllByRecursi
   rows-are [] among low = (refl, refl)
   rows-are (p ∷ ps) among low =
       let l = low p (inl refl) in
-      let c = get-some columns p.0 l in
-      let ids = get-some n.ids p.0 (omega (arith, l, ids-long)) in
+      let c = item-at columns p.0 l in
+      let ids = item-at n.ids p.0 (omega (arith, l, ids-long)) in
       let row = row-is p (among p (inl refl)) c.0 c.1 l ids.0 ids.1 in
       let rest = rows-are ps (λ q i. among q (inr i)) (λ q i. low q (inr i)) in
       (ap₂ (λ a b. a ∷ b) row.0 rest.0, and_from (are_below (length found) (picked_row (remapped_columns columns maps) p)) (list_all (are_below (length found)) (merged_rows (remapped_columns columns maps) ps)) row.1 rest.1)

@@ -1,12 +1,12 @@
 -- The ordinals of the values of picked rows, by their ids.
 use Rattle.std.proofs.Common.{◌≡◌, ℕ, zero, suc, ◌<◌, List, [], ◌∷◌, ◌++◌, map, length, unwrap_or, option_map, Option, Some, None, slice_get, slice_index, refl, sym, ap, ◌∙◌, subst, inl, inr, arith}
 use Rattle.std.specs.Prelude.{option_and_then}
-use Rattle.std.specs.List.{AllByRecursion}
 use Rattle.std.proofs.lemmas.List.{map-append}
 use Rattle.std.proofs.lemmas.Option.{slice_get-map}
 use Rattle.col_common.specs.Ascending.{AreBelow}
 use Rattle.col_model.specs.Order.{Order, stack, shuffle}
 use Rattle.col_model.specs.U64List.{joined_lists}
+use Rattle.col_model.proofs.ListLaws.{item-at}
 use Rattle.col_order.specs.Orders.{picks_of}
 use Rattle.col_text.specs.Texts.{Texts}
 use Rattle.col_term_merge.specs.Numbering.{item_at, IsIn}
@@ -15,7 +15,6 @@ use Rattle.col_value_merge.specs.TermColumns.{remapped, term_columns, remapped_c
 use Rattle.col_text_merge.specs.Noting.{Noted, ord_by, ords_by}
 use Rattle.col_text_merge.specs.Taking.{Place, AreNoted}
 use Rattle.col_text_merge.specs.Ids.{row_places, places_of, AreIds, HasIds}
-use Rattle.col_text_merge.proofs.ContentLemmas.{get-some}
 use Rattle.col_text_merge.proofs.IdLemmas.{ids-low}
 use Rattle.col_text_merge.proofs.OrdinalLemmas.{picked-remapped}
 
@@ -42,7 +41,7 @@ module _ (columns : List Texts) (ords : List ℕ) (held : List (List (Option ℕ
   rows-ords [] low = refl
   rows-ords (p ∷ rows) low =
       let l = low p (inl refl) in
-      let ids = get-some held p.0 (omega (arith, l, long)) in
+      let ids = item-at held p.0 (omega (arith, l, long)) in
       let at : slice_get (ords_by ords held) p.0 ≡ Some (map (ord_by ords) ids.0) = slice_get-map (map (ord_by ords)) held p.0 ∙ ap (option_map (map (ord_by ords))) ids.1 in
       let first = picked-remapped columns (ords_by ords held) p.0 p.1 (map (ord_by ords) ids.0) at l ∙ row-ords ords held p.0 ids.0 ids.1 (picked_row (term_columns columns) p) in
       let rest = rows-ords rows (λ q i. low q (inr i)) in

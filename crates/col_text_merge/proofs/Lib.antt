@@ -8,7 +8,6 @@ mod RowLemmas
 mod OrdinalLemmas
 mod IdLemmas
 mod IdOrdinalLemmas
-mod DictionaryLemmas
 mod ContentLemmas
 mod WritingLemmas
 pub mod CallerLemmas

@@ -34,11 +34,11 @@ use Rattle.col_value_merge.specs.Laws.{MergedValuesAreRows, IsOrdered, HasPicked
 use Rattle.col_value_merge.proofs.MergedRowLemmas.{length-merged, picks-there}
 use Rattle.col_value_merge.specs.TermColumns.{remapped_columns}
 use Rattle.col_rows.proofs.TextLemmas.{stores-terms}
+use Rattle.col_rows.proofs.DictionaryLemmas.{written}
 use Rattle.col_text_merge.specs.Noting.{Noted, ords_by}
 use Rattle.col_text_merge.specs.Merged.{shapes_of, merged_content, MergesTexts, has_long_terms}
 use Rattle.col_text_merge.specs.Taking.{AreTold, IsTaken, IsNowhere, AreNoted}
 use Rattle.col_text_merge.specs.Writing.{SerializesOrds}
-use Rattle.col_text_merge.proofs.DictionaryLemmas.{written}
 use Rattle.col_text_merge.proofs.ContentLemmas.{long-is, column-is}
 
 -- Ok added bytes that stand for rows of n numbers of this type, with these counts, and how many

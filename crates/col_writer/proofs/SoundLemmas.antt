@@ -1,22 +1,20 @@
 -- The content of sound columns is sound.
-use Rattle.std.proofs.Common.{◌≡◌, List, [], ◌∷◌, ◌++◌, true, T, refl, sym, ap, subst, string_bytes}
+use Rattle.std.proofs.Common.{◌≡◌, List, [], ◌∷◌, ◌++◌, refl, sym, subst, string_bytes}
 use Rattle.std.specs.Prelude.{String, IsTrue}
 use Rattle.std.specs.declared.alloc.Global.{Global}
 use Rattle.std.specs.declared.cmp.Ordering.{Ordering}
 use Rattle.std.specs.declared.cmp.Ordering.TheVariants.{Less, Equal, Greater}
-use Rattle.std.specs.Ordering.{is_lt}
 use Rattle.std.specs.FinMap.{put}
-use Rattle.std.specs.FinMap.Entries.{by_order, is_sorted}
+use Rattle.std.specs.FinMap.Entries.{by_order}
 use Rattle.std.specs.List.{AllByRecursion}
 use Rattle.std.specs.Str.{is_utf8}
-use Rattle.std.proofs.lemmas.Bool.{and_from}
-use Rattle.col_common.specs.Ascending.{all_adjacent}
 use Rattle.col_model.specs.Category.{Category, Slot, slot_cmp}
 use Rattle.col_model.specs.Category as categories
 use Rattle.col_model.specs.Soundness.{IsSoundEntry, IsSoundContent}
 use Rattle.col_model.specs.Written.{Entry, Recorded}
-use Rattle.col_model.proofs.OrderedColumns.{left, right, slot_cmp-antisymmetric}
-use Rattle.col_model.proofs.OrderingLaws.{less_of}
+use Rattle.col_model.proofs.ListLaws.{all-two}
+use Rattle.col_model.proofs.OrderedColumns.{slot_cmp-antisymmetric}
+use Rattle.col_model.proofs.RecordedRuns.{sorted-adjacent}
 use Rattle.col_record.specs.SoundEntries.{IsSoundIn}
 use Rattle.col_writer.specs.Columns.{each_entry}
 use Rattle.col_writer.specs.Contents.{Named, Columns, under, put_all, slotted, content_of}
@@ -43,10 +41,6 @@ leaves-none P xs all is f = f (subst (AreNamed P) (sym is) tt)
 
 -- ---- entries
 
-all-append : {A : Type 0} (P : A → Type 0) (xs ys : List A) → AllByRecursion P xs → AllByRecursion P ys → AllByRecursion P (xs ++ ys)
-all-append P [] ys h g = g
-all-append P (x ∷ xs) ys h g = (h.0, all-append P xs ys h.1 g)
-
 pub own-sound : (c : Category) (es : Named) → AreNamed (IsSoundIn c) es → AllByRecursion IsSoundEntry (under c es)
 own-sound c [] h = tt
 own-sound c (e ∷ es) h = (h.0.1 (string_bytes e.0) h.0.0, own-sound c es h.1)
@@ -71,15 +65,10 @@ sound-put_all (e ∷ es) h = sound-put e.0 e.1 (put_all es) h.0 (sound-put_all e
 
 -- ---- the content
 
-sorted-adjacent : (w : Recorded) → T (is_sorted slot_cmp w) → all_adjacent (λ p q. is_lt (slot_cmp p.0 q.0)) w ≡ true
-sorted-adjacent [] h = refl
-sorted-adjacent (p ∷ []) h = refl
-sorted-adjacent (p ∷ q ∷ w) h = and_from _ _ (ap is_lt (less_of (slot_cmp p.0 q.0) (left _ _ (left _ _ h)))) (sorted-adjacent (q ∷ w) (right _ _ h))
-
 all-sound : (m : Columns) → AllByRecursion IsSoundEntry (under categories.numerical m.numerical) → AllByRecursion IsSoundEntry (under categories.bytes m.bytes) → AllByRecursion IsSoundEntry (under categories.str m.str) → AllByRecursion IsSoundEntry (under categories.bool m.bool) → AllByRecursion IsSoundEntry (under categories.ip m.ip) → AllByRecursion IsSoundEntry (under categories.datetime m.datetime) → AllByRecursion IsSoundEntry (content_of m)
 unfolding content_of slotted
 all-sound m numerical bytes str bool ip datetime =
-    sound-put_all _ (all-append IsSoundEntry _ _ numerical (all-append IsSoundEntry _ _ bytes (all-append IsSoundEntry _ _ str (all-append IsSoundEntry _ _ bool (all-append IsSoundEntry _ _ ip datetime)))))
+    sound-put_all _ (all-two IsSoundEntry _ _ numerical (all-two IsSoundEntry _ _ bytes (all-two IsSoundEntry _ _ str (all-two IsSoundEntry _ _ bool (all-two IsSoundEntry _ _ ip datetime)))))
 
 pub content-sound : (m : Columns) (now : Recorded) → content_of m ≡ now → AllByRecursion IsSoundEntry (under categories.numerical m.numerical) → AllByRecursion IsSoundEntry (under categories.bytes m.bytes) → AllByRecursion IsSoundEntry (under categories.str m.str) → AllByRecursion IsSoundEntry (under categories.bool m.bool) → AllByRecursion IsSoundEntry (under categories.ip m.ip) → AllByRecursion IsSoundEntry (under categories.datetime m.datetime) → IsSoundContent now
 content-sound m now is numerical bytes str bool ip datetime =

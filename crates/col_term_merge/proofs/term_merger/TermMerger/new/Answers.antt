@@ -3,7 +3,6 @@ use Rattle.std.specs.List.{AllByRecursion}
 use Rattle.std.specs.BinaryHeap.{IsHeap}
 use Rattle.col_term_merge.specs.Merging.{LeftAscends}
 use Rattle.col_term_merge.specs.Moves.{AreReady, stream_cmp}
-use Rattle.col_term_merge.proofs.StreamLemmas.{all-rise}
 use Rattle.col_term_merge.proofs.term_merger.TermMerger.new.Goals as goal
 
 pub invariant_of-result : goal.invariant_of-result
@@ -15,7 +14,7 @@ invariant_of-result c =
     let ok = streams.ok in
     record {
       ready = subst (AreReady streams.items) (sym none) (record {
-        left_rises = all-rise streams.items (subst (AllByRecursion LeftAscends) c.deref.ensures.value c.terms_ascend.ensures);
+        left_ascends = subst (AllByRecursion LeftAscends) c.deref.ensures.value c.terms_ascend.ensures;
         stand = tt;
         heap = subst (IsHeap stream_cmp) none c.in_ok-heap.ensures.heap_order;
       });

@@ -1,12 +1,15 @@
 -- The bytes of a dictionary that is written.
-use Rattle.std.proofs.Common.{◌≡◌, ℕ, ◌<◌, ◌^◌, false, List, [], length, unwrap_or, Some, sym, ap, ◌∙◌}
+use Rattle.std.proofs.Common.{◌≡◌, ℕ, ◌<◌, ◌^◌, nat_le, false, List, [], length, unwrap_or, Some, sym, ap, ◌∙◌, arith}
 use Rattle.col_model.specs.Dictionary.{terms}
 use Rattle.col_model.specs.Limits.{dictionary_length}
 use Rattle.col_terms.specs.Building.{ordered, is_too_long}
 use Rattle.col_terms.specs.Laws.{TermsAreThoseGiven, DictionariesAreReadBack}
 use Rattle.col_terms.specs.TermTable.{dictionary_bytes, terms_of, IsTable}
 use Rattle.col_terms.proofs.TableLemmas.{table_length}
-use Rattle.col_rows.proofs.TextLemmas.{within}
+
+-- a number that isn't past 32 bits
+pub within : (m : ℕ) → nat_le (2 ^ 32) m ≡ false → m < 2 ^ 32
+within m e = grind arith
 
 -- the bytes of terms stand for them, and 32 bits count them
 pub record AreWritten (ts : List (List ℕ)) : Type 0 where
