@@ -74,7 +74,8 @@ items-lines_bytes n bs e =
     let same = rw (append-nil, flat_map-map params_bytes block_line bs, length-map bs block_line, ← e) at read in
     rw same refl
 
-length-group_bytes : (k n : ℕ) → length (group_bytes k n) ≤ k
+-- so many groups at most
+pub length-group_bytes : (k n : ℕ) → length (group_bytes k n) ≤ k
 unfolding group_bytes
 length-group_bytes zero n = omega arith
 length-group_bytes (suc k) n =
