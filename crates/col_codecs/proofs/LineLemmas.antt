@@ -4,12 +4,13 @@ use Rattle.std.specs.List.{enumerate_from}
 use Rattle.std.proofs.lemmas.Int.{of_z-to_z}
 use Rattle.std.proofs.lemmas.Option.{get_or_from_slice_get}
 use Rattle.std.proofs.lemmas.Bool.{cases_lt, lt-ltb, le-ltb, eq-eqb, ne_eqb}
-use Rattle.col_common.specs.VInt.{vint_bytes, group_bytes}
+use Rattle.col_common.specs.VInt.{vint_bytes}
 use Rattle.col_common.proofs.VIntLemmas.{vint-vint_bytes}
 use Rattle.col_model.specs.Line.{signed_32, line, line_at}
 use Rattle.col_model.specs.Stats.{least_of}
 use Rattle.col_model.specs.Training.{less_wrapped, heights, trained_slope, trained_line, line_of}
 use Rattle.col_model.proofs.StatsLaws.{map-map}
+use Rattle.col_model.proofs.BlockLaws.{length-group_bytes}
 use Rattle.col_model.proofs.TrainingLaws.{less_wrapped-below}
 use Rattle.col_values.proofs.HitLemmas.{front_value}
 use Rattle.col_codecs.specs.Line.{distance, distances}
@@ -34,18 +35,9 @@ extended_by_casts h r a b p e f g =
 
 -- ---- bytes
 
-group_bytes-bound : (k n : ℕ) → length (group_bytes k n) ≤ k
-unfolding group_bytes
-group_bytes-bound zero n = omega arith
-group_bytes-bound (suc k) n =
-    elim (cases_lt n 128) [
-      | inl p ↦ rw (lt-ltb n 128 p) (omega arith)
-      | inr p ↦ rw (le-ltb n 128 p) (omega (arith, group_bytes-bound k (n / 128)))
-    ]
-
 -- a number takes few bytes
 pub vint_bytes-bound : (n : ℕ) → length (vint_bytes n) ≤ 19
-vint_bytes-bound n = group_bytes-bound 19 n
+vint_bytes-bound n = length-group_bytes 19 n
 
 -- slope and intercept are read back, whatever follows
 pub line_at-bytes : (slope intercept : ℕ) (rest : List ℕ) → slope < 2 ^ 64 → intercept < 2 ^ 64 → line_at (vint_bytes slope ++ vint_bytes intercept ++ rest) ≡ Some ((slope, intercept), rest)

@@ -1,11 +1,10 @@
 -- Blocks of values, and packed lists one behind another.
-use Rattle.std.proofs.Common.{◌≡◌, ℕ, zero, suc, ◌+◌, ◌*◌, ◌/◌, ◌%◌, ◌^◌, ◌<◌, ◌≤◌, List, [], ◌∷◌, ◌++◌, length, take, drop, get_or, slice_set, min, refl, sym, ◌∙◌, ap, arith, suc-add, pow-suc, zero-add, mul_comm, mul_assoc, lit<, length-append, length-drop, length-set, map, add-one, append-nil, subst}
-use Rattle.std.proofs.Math.Seq.{drop-nil}
+use Rattle.std.proofs.Common.{◌≡◌, ℕ, zero, suc, ◌+◌, ◌*◌, ◌/◌, ◌%◌, ◌^◌, ◌<◌, ◌≤◌, List, [], ◌∷◌, ◌++◌, length, take, drop, get_or, slice_set, min, refl, sym, ◌∙◌, ap, arith, suc-add, pow-suc, zero-add, mul_comm, mul_assoc, lit<, length-append, length-drop, length-set, map, add-one, subst}
 use native.Mathlib.Nat.{pow-zero, add-mul-div_left, add-mul-mod_self_left}
 use Rattle.std.specs.List.{AllByRecursion}
 use Rattle.std.specs.Int.{div_ceil}
 use Rattle.std.proofs.lemmas.Nat.{pow_pos, div_below}
-use Rattle.std.proofs.lemmas.List.{take_more, take_more_set, drop_more, take_all}
+use Rattle.std.proofs.lemmas.List.{take_more, take_more_set, drop_more}
 use Rattle.std.proofs.lemmas.List.Elements.{All-get_or, All-from_recursion}
 use Rattle.col_common.specs.Ascending.{AreBelow}
 use Rattle.col_bits.specs.Packed.{number_of, digits, packed_bytes}
@@ -85,17 +84,6 @@ pub replaced-push : (f : ℕ → ℕ) (xs ys : List ℕ) (n y : ℕ) → ys ≡ 
 replaced-push f xs ys n y e h is =
     let next = next-as_it_was f xs ys n e h in
     ap (slice_set ys n) (is ∙ ap f next.1) ∙ ap (λ zs. slice_set zs n (f (get_or xs n 0))) e ∙ replaced-set f xs n next.0 ∙ ap (replaced f xs) (sym (add-one n))
-
--- all are
-pub replaced-all : (f : ℕ → ℕ) (xs ys : List ℕ) (n : ℕ) → ys ≡ replaced f xs n → length ys ≤ n → length ys ≡ length xs → ys ≡ map f xs
-replaced-all f xs ys n e h long =
-    let whole : length xs ≤ n = omega (arith, long) in
-    e ∙ ap (λ zs. map f zs ++ drop n xs) (take_all n xs whole) ∙ ap (λ zs. map f xs ++ zs) (none n xs whole) ∙ append-nil (map f xs)
-  where
-    none : (n : ℕ) (xs : List ℕ) → length xs ≤ n → drop n xs ≡ []
-    none n [] h = drop-nil n
-    none zero (x ∷ xs) h = absurd (omega arith)
-    none (suc n) (x ∷ xs) h = none n xs (omega arith)
 
 -- ---- bytes
 

@@ -39,9 +39,9 @@ no_block =
 abbrev pub block_of : List Block → ℕ → Block
 block_of bs k = slice_index_or bs k no_block
 
--- the step of item i: that of block i / 512 at i % 512
+-- the step of item i: that at its place of its block
 abbrev pub step_of : List Block → List ℕ → ℕ → ℕ
-step_of bs bytes i = step_in (block_of bs (i / 512)) bytes (i % 512)
+step_of bs bytes i = step_in (block_of bs (i / block_size)) bytes (i % block_size)
 
 -- the steps of the first n items
 unfoldable pub steps_in : List Block → List ℕ → ℕ → List ℕ
@@ -65,8 +65,8 @@ pub record ArePlaced (n : ℕ) (bs : List Block) (bytes : List ℕ) : Type 0 whe
       (block_of bs k).start ≡ block_start n (map block_params bs) k
   pub within : AreWithin bs bytes
 
--- there is a block for each 512 items, each begins within the bytes, and the statistics are the
--- items' own
+-- there are as many blocks as the items need, each begins within the bytes, and the statistics are
+-- the items' own
 pub record IsReader (s : Stats) (bs : List Block) (bytes : List ℕ) : Type 0 where
   pub count : length bs ≡ block_count s.count
   pub within : AreWithin bs bytes

@@ -1,6 +1,6 @@
 //! Numbers by position with the bounds of their blocks: the pass that finds the bounds, and the
 //! lookup that passes over blocks by them.
-ghost use Rattle.std.specs.Prelude.{◌≡◌, ◌<◌, ◌≤◌, ◌+◌, ◌-◌, ◌%◌, ◌^◌, ◌++◌, ℕ, length, map, slice_index_or, IfOk, IfErr, OnOk};
+ghost use Rattle.std.specs.Prelude.{◌≡◌, ◌<◌, ◌≤◌, ◌+◌, ◌-◌, ◌%◌, ◌^◌, ◌++◌, ℕ, length, map, slice_index_or, IfOk, OnOk};
 ghost use Rattle.std.specs.Int.{is_in_range};
 ghost use Rattle.std.specs.List.{range_with_len};
 ghost use Rattle.col_common.specs.Replacing.{Replaces};
@@ -109,13 +109,12 @@ pub fn read_bounds<I: BoundedItems>(
     alloc: Global,
     items: &I,
     count: u32,
-) -> Result<(ColumnStats, Vec<Bounds>), ColumnarError>
+) -> Result<(ColumnStats, Vec<Bounds>), AllocError>
     requires whole { I.IsWhole items.now }
     requires within { count ≤ I.count items.now }
     ensures stats { IfOk result (λ r.
         stats_seen r.0 ≡ stats_of (map (I.item items.now) (range_with_len 0 count))) }
     ensures bounds { IfOk result (λ r. Enclose r.1.items (I.item items.now) count) }
-    ensures out_of_memory { IfErr result (λ e. e ≡ ColumnarError.OutOfMemory) }
 {
     let mut bounds = Vec::with_capacity(alloc, count.div_ceil(BOUNDED_LEN) as usize)?;
     let mut collector = StatsCollector::default();

@@ -13,7 +13,7 @@ use Rattle.col_model.specs.Index.{full_shape, shape}
 use Rattle.col_model.specs.Table.{number}
 use Rattle.col_model.specs.Written.{is_past_ties}
 use Rattle.col_values.specs.Codes.{i64_code, is_i64}
-use Rattle.col_values.specs.CodeLaws.{i64_laws}
+use Rattle.col_model.proofs.CodeLaws.{i64_laws}
 use Rattle.col_column.specs.Columns.{rows_by, content_seen}
 use Rattle.col_column.specs.Opened.{counted_rows}
 use Rattle.col_column.specs.Written.{tie_column_bytes}

@@ -27,7 +27,7 @@ use Rattle.col_model.specs.Table.{Cell, Content}
 use Rattle.col_order.specs.Orders.{counts_of, picks_of}
 use Rattle.col_types.specs.Cells.{unsigned_cell}
 use Rattle.col_types.specs.Stored.{IsStoredAs}
-use Rattle.col_types.specs.StoredLaws.{addresses_stored}
+use Rattle.col_model.proofs.StoredLaws.{addresses_stored}
 use Rattle.col_value_merge.proofs.MergedCellLemmas.{merged-counts}
 use Rattle.col_value_merge.proofs.MergedRowLemmas.{merged-rows, length-merged, picks-there}
 use Rattle.col_value_merge.specs.Laws.{IsOrdered}

@@ -6,7 +6,7 @@ use Rattle.col_model.specs.Table.{number, full}
 use Rattle.col_model.specs.Recording.{recorded, content_after_all}
 use Rattle.col_model.specs.Refusal.{Refusal, ◌>>=◌}
 use Rattle.col_model.specs.SortOrder.{sort_order}
-use Rattle.col_model.specs.Codes.{exact, next, after_last, code_hit, ranges_before}
+use Rattle.col_model.specs.CodeHits.{exact, next, after_last, code_hit, ranges_before}
 use Rattle.col_model.specs.AddressList.{AddressFooter, code_count, address_footer_at, address_footer, ranges_at, header_at}
 use Rattle.col_common.specs.VInt.{vint_bytes}
 use Rattle.col_model.specs.Index.{counts, offset_counts_v1}

@@ -30,7 +30,7 @@ use Rattle.col_model.specs.Script.{line_spelled_by, script_of}
 use Rattle.col_model.specs.Report.{report_of}
 use Rattle.col_model.specs.Outcome.{outcome_of_merge, outcome}
 use Rattle.col_model.specs.GenScript.{gen_script}
-use Rattle.col_model.specs.Codes.{hit_from}
+use Rattle.col_model.specs.CodeHits.{hit_from}
 use Rattle.col_model.specs.SortOrder.{sort_order}
 use Rattle.col_model.specs.Spelling.{column_bytes, keyed_length_bytes, key_table_bytes, footer_bytes, file_bytes}
 

@@ -8,6 +8,7 @@ use Rattle.col_bits.specs.Packed.{packed_bytes, width, binary_digits}
 use Rattle.col_model.specs.Stats.{Stats, stats_of, steps_of, stats_bytes, least_of, greatest_of}
 use Rattle.col_model.specs.Line.{line}
 use Rattle.col_model.specs.Training.{less_wrapped, line_of}
+pub use Rattle.col_model.specs.U64List.{block_size}
 use Rattle.col_model.specs.U64List.{LinearParams, joined_lists}
 
 -- how far an item at its position lies above a line, modulo 2 ^ 64
@@ -37,10 +38,6 @@ deviation l p = less_wrapped (p.1 + half_space) (line l.0 l.1 p.0)
 -- the deviations of a list from a line
 abbrev pub deviations : ℕ × ℕ → List ℕ → List ℕ
 deviations l xs = map (deviation l) (enumerate_from 0 xs)
-
--- how many items a line is trained on, and how many a block has
-abbrev pub block_size : ℕ
-block_size = 512
 
 -- The line of a list under Linear: trained on the first 512 items, and raised by the least
 -- deviation; the width is that of the greatest deviation less the least.

@@ -42,18 +42,21 @@ linear_values s bytes = do
   offsets ← packed l.1 l.0.offset_width s.count
   Some (map (above_line l.0) (enumerate_from 0 offsets))
 
+-- how many items a block has, and how many a line is trained on
+abbrev pub block_size : ℕ
+block_size = 512
+
 -- how many of n items stand in the first block
 abbrev pub block_len : ℕ → ℕ
-block_len n = min n 512
+block_len n = min n block_size
 
--- what the blocks stand for: n items in blocks of 512, each with its line, and each beginning at
--- a byte
+-- what the blocks stand for: n items in blocks, each with its line, and each beginning at a byte
 unfoldable pub blocks : ℕ → List LinearParams → List ℕ → Option (List (List ℕ) × List ℕ)
 blocks n [] bytes = Some ([], bytes)
 blocks n (l ∷ ls) bytes = do
   part ← front (div_ceil (block_len n * l.offset_width) 8) bytes
   offsets ← packed part.0 l.offset_width (block_len n)
-  rest ← blocks (n - 512) ls part.1
+  rest ← blocks (n - block_size) ls part.1
   Some (map (above_line l) (enumerate_from 0 offsets) ∷ rest.0, rest.1)
 
 -- one list after another
@@ -61,12 +64,12 @@ abbrev pub joined_lists : {A : Type 0} → List (List A) → List A
 joined_lists [] = []
 joined_lists (xs ∷ xss) = xs ++ joined_lists xss
 
--- Codec 2, BlockwiseLinear: blocks of 512 items, then a line for each block, then the length of
+-- Codec 2, BlockwiseLinear: blocks of items, then a line for each block, then the length of
 -- the lines. An item is the least plus the divisor times its block's line and offset.
 unfoldable pub blockwise_values : Stats → List ℕ → Option (List ℕ)
 blockwise_values s bytes = do
   parts ← parts_by_second w64 bytes
-  lines ← items params_at (div_ceil s.count 512) parts.1 >>= nothing_left
+  lines ← items params_at (div_ceil s.count block_size) parts.1 >>= nothing_left
   values ← blocks s.count lines parts.0 >>= nothing_left
   Some (map (λ k. (s.least + s.divisor * k) % 2 ^ 64) (joined_lists values))
 

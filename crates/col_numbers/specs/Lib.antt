@@ -1,8 +1,7 @@
+pub use Rattle.col_model.specs.Coercions
 pub mod CodecTypes
 pub mod Estimators
 pub mod Readers
 pub mod Views
-pub mod Coercions
-pub mod CoercionLaws
 pub mod NumValues
 pub mod Written

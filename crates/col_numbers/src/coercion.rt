@@ -1,7 +1,7 @@
 //! Maps between the numerical types, and between the halves of the numbers of 64 bits.
 ghost use Rattle.std.specs.Prelude.{◌≡◌, pos, nat_abs};
 ghost use Rattle.col_numbers.specs.Coercions.{fits_i64, fits_u64, is_in_half, moved, moved_back};
-ghost use Rattle.col_numbers.specs.CoercionLaws.{i64_to_u64_laws, u64_to_i64_laws, moved_laws};
+ghost use Rattle.col_model.proofs.CoercionLaws.{i64_to_u64_laws, u64_to_i64_laws, moved_laws};
 
 use col_values::StrictlyMonotonicFn;
 

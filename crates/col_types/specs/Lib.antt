@@ -1,8 +1,6 @@
+pub use Rattle.col_model.specs.Cells
+pub use Rattle.col_model.specs.Stored
 pub mod Kinds
 pub mod Numbers
-pub mod Cells
-pub mod CellLaws
-pub mod Stored
-pub mod StoredLaws
 pub mod Usage
 pub mod Laws

@@ -4,7 +4,7 @@ ghost use Rattle.col_model.specs.ColumnType as types;
 ghost use Rattle.col_model.specs.Table.{Cell, number};
 ghost use Rattle.col_types.specs.Kinds.{kind_of};
 ghost use Rattle.col_types.specs.Cells.{AreCells, unsigned_cell, bool_cell};
-ghost use Rattle.col_types.specs.CellLaws.{unsigned_cells, signed_cells, bool_cells};
+ghost use Rattle.col_model.proofs.CellLaws.{unsigned_cells, signed_cells, bool_cells};
 
 use crate::ColumnType;
 use col_common::{DateTime, Ipv6Addr};

@@ -4,7 +4,7 @@ ghost use Rattle.std.proofs.Common.{rules};
 ghost use Rattle.col_model.specs.U64List.{values64};
 ghost use Rattle.col_model.specs.AddressList.{values128};
 ghost use Rattle.col_types.specs.Stored.{IsStoredAs, DefaultIsZero};
-ghost use Rattle.col_types.specs.StoredLaws.{unsigned_stored, signed_stored, times_stored, bool_stored, addresses_stored};
+ghost use Rattle.col_model.proofs.StoredLaws.{unsigned_stored, signed_stored, times_stored, bool_stored, addresses_stored};
 
 use crate::HasAssociatedColumnType;
 use col_common::{DateTime, Ipv6Addr};

@@ -1,6 +1,5 @@
+pub use Rattle.col_model.specs.Codes
 pub mod Values
 pub mod Bounds
 pub mod Monotonic
-pub mod Codes
 pub mod Laws
-pub mod CodeLaws

@@ -1,7 +1,7 @@
 //! The map from the values of a type to their numbers, and back.
 ghost use Rattle.std.specs.Prelude.{◌≡◌, ℕ, ◌&&◌, ◌^◌, refl};
 ghost use Rattle.col_values.specs.Codes.{is_below};
-ghost use Rattle.col_values.specs.CodeLaws.{to_internal_laws, inverter_laws, onto_laws};
+ghost use Rattle.col_model.proofs.CodeLaws.{to_internal_laws, inverter_laws, onto_laws};
 
 use crate::{MonotonicallyMappableToU64, MonotonicallyMappableToU128, StrictlyMonotonicFn};
 use std::marker::PhantomData;

@@ -2,7 +2,7 @@
 ghost use Rattle.std.specs.Prelude.{◌≡◌, ℕ, ◌^◌, Bool, true};
 ghost use Rattle.col_values.specs.Monotonic.{Passes};
 ghost use Rattle.col_values.specs.Codes.{IsCoded, is_below};
-ghost use Rattle.col_values.specs.CodeLaws.{number_laws};
+ghost use Rattle.col_model.proofs.CodeLaws.{number_laws};
 
 use col_common::Ipv6Addr;
 

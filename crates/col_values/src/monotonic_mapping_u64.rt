@@ -5,7 +5,7 @@ ghost use Rattle.col_model.specs.Images.{is_image_of_bool, is_image_of_u32};
 ghost use Rattle.col_values.specs.Monotonic.{Passes, IsAtLeast, IsAtMostOf};
 ghost use Rattle.col_values.specs.Laws.{ImagesReachDown};
 ghost use Rattle.col_values.specs.Codes.{IsCoded, number_cmp, is_below, bool_code, bool_value, i64_code, is_i64};
-ghost use Rattle.col_values.specs.CodeLaws.{number_laws, u32_laws, bool_laws, i64_laws};
+ghost use Rattle.col_model.proofs.CodeLaws.{number_laws, u32_laws, bool_laws, i64_laws};
 
 use col_common::DateTime;
 

@@ -8,7 +8,7 @@ use Rattle.col_model.specs.AddressList.{values128}
 use Rattle.col_model.specs.Column.{column}
 use Rattle.col_model.specs.ColumnType as types
 use Rattle.col_types.specs.Cells.{unsigned_cell}
-use Rattle.col_types.specs.StoredLaws.{addresses_stored}
+use Rattle.col_model.proofs.StoredLaws.{addresses_stored}
 use Rattle.col_column.specs.Columns.{content_seen}
 use Rattle.col_column.specs.IpValues.{ip_values_of, HasExactBounds}
 use Rattle.col_column.specs.Opened.{indexed_by}

@@ -1,5 +1,4 @@
 use Rattle.std.proofs.Common.{◌∙◌}
-use Rattle.std.proofs.lemmas.List.Elements.{recursion_from_All}
 use Rattle.col_codecs.specs.ColumnStats.{stats_seen}
 use Rattle.col_codecs.proofs.BitpackedLemmas.{at-read}
 use Rattle.col_codecs.proofs.bitpacked.BitpackedReaderColumnValuesU64.get_vals_opt.Goals as goal
@@ -7,10 +6,10 @@ use Rattle.col_codecs.proofs.bitpacked.BitpackedReaderColumnValuesU64.get_vals_o
 pub find_vals-requires-clause-fit : goal.find_vals-requires-clause-fit
 find_vals-requires-clause-fit c =
     let r = c.self.inside in
-    (at-read (stats_seen r.stats) r.data c.as_slice.result.now c.args.self.now r.bit_unpacker c.args.indexes.now c.self.view_is c.self.invariant.0 c.as_slice.ensures (recursion_from_All _ _ c.requires.below)).0
+    (at-read (stats_seen r.stats) r.data c.as_slice.result.now c.args.self.now r.bit_unpacker c.args.indexes.now c.self.view_is c.self.invariant.0 c.as_slice.ensures c.requires.below).0
 
 pub returns : goal.returns
 returns c =
     let r = c.self.inside in
     c.find_vals.ensures
-    ∙ (at-read (stats_seen r.stats) r.data c.as_slice.result.now c.args.self.now r.bit_unpacker c.args.indexes.now c.self.view_is c.self.invariant.0 c.as_slice.ensures (recursion_from_All _ _ c.requires.below)).1
+    ∙ (at-read (stats_seen r.stats) r.data c.as_slice.result.now c.args.self.now r.bit_unpacker c.args.indexes.now c.self.view_is c.self.invariant.0 c.as_slice.ensures c.requires.below).1

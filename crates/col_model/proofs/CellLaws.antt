@@ -5,8 +5,8 @@ use Rattle.std.proofs.lemmas.Bool.Decides.{nat_tests}
 use Rattle.std.proofs.lemmas.Int.{ints}
 use Rattle.col_model.specs.Table.{number}
 use Rattle.col_model.specs.Lookup.{is_at_most}
-use Rattle.col_values.specs.Codes.{number_cmp}
-use Rattle.col_types.specs.Cells.{AreCells, unsigned_cell, bool_cell}
+use Rattle.col_model.specs.Codes.{number_cmp}
+use Rattle.col_model.specs.Cells.{AreCells, unsigned_cell, bool_cell}
 
 -- numbers without a sign
 pub unsigned_cells : AreCells number_cmp unsigned_cell

@@ -6,8 +6,8 @@ use Rattle.std.proofs.lemmas.Int.{ints}
 use Rattle.std.specs.declared.cmp.Ordering.{Ordering}
 use Rattle.col_model.specs.Column.{signed_of}
 use Rattle.col_model.specs.Images.{is_image_of_bool, is_image_of_u32}
-use Rattle.col_values.specs.Monotonic.{Passes, IsMonotonic}
-use Rattle.col_values.specs.Codes.{IsCoded, number_cmp, is_below, bool_code, bool_value, i64_code, is_i64}
+use Rattle.col_model.specs.Monotonic.{Passes, IsMonotonic}
+use Rattle.col_model.specs.Codes.{IsCoded, number_cmp, is_below, bool_code, bool_value, i64_code, is_i64}
 
 below : (limit n : ℕ) → is_below limit n ≡ true → n < limit
 below limit n h = grind (arith, nat_tests)

@@ -7,10 +7,10 @@ use Rattle.col_model.specs.Images.{is_image_of_bool}
 use Rattle.col_model.specs.U64List.{values64}
 use Rattle.col_model.specs.AddressList.{values128}
 use Rattle.col_model.specs.Table.{number}
-use Rattle.col_values.specs.Codes.{bool_value}
-use Rattle.col_values.specs.CodeLaws.{bool_laws}
-use Rattle.col_types.specs.Cells.{unsigned_cell, bool_cell}
-use Rattle.col_types.specs.Stored.{IsStoredAs}
+use Rattle.col_model.specs.Codes.{bool_value}
+use Rattle.col_model.proofs.CodeLaws.{bool_laws}
+use Rattle.col_model.specs.Cells.{unsigned_cell, bool_cell}
+use Rattle.col_model.specs.Stored.{IsStoredAs}
 
 -- u64, each number itself
 pub unsigned_stored : IsStoredAs values64 types.u64 unsigned_cell (λ n. n) (λ _. true)

@@ -3,9 +3,9 @@ use Rattle.std.proofs.Common.{◌≡◌, ℕ, ℤ, pos, negsuc, nat_abs, Bool, t
 use Rattle.std.specs.Ordering.{int_cmp}
 use Rattle.std.proofs.lemmas.Bool.Decides.{nat_tests}
 use Rattle.std.proofs.lemmas.Int.{ints}
-use Rattle.col_values.specs.Monotonic.{Passes, IsMonotonic}
-use Rattle.col_values.specs.Codes.{number_cmp}
-use Rattle.col_numbers.specs.Coercions.{fits_i64, fits_u64, is_in_half, moved, moved_back}
+use Rattle.col_model.specs.Monotonic.{Passes, IsMonotonic}
+use Rattle.col_model.specs.Codes.{number_cmp}
+use Rattle.col_model.specs.Coercions.{fits_i64, fits_u64, is_in_half, moved, moved_back}
 
 i64_compares : (x y : ℤ) → Passes fits_u64 x → Passes fits_u64 y →
     number_cmp (nat_abs x) (nat_abs y) ≡ Some (int_cmp x y)

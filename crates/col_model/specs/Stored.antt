@@ -4,7 +4,7 @@ use Rattle.std.specs.Prelude.{◌≡◌, ℕ, pos, Bool, false, List, Option}
 use Rattle.col_model.specs.ColumnType.{ColumnType, has_terms}
 use Rattle.col_model.specs.Table.{Cell, number}
 use Rattle.col_model.specs.Column.{number_cell, is_stored, stored_numbers}
-use Rattle.col_values.specs.Monotonic.{Passes}
+use Rattle.col_model.specs.Monotonic.{Passes}
 
 -- A column of this type has no terms; its bytes are a list as `list` reads it, of the numbers that
 -- stand for a value; the cell of a number is that of its value.

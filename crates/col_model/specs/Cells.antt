@@ -4,7 +4,7 @@ use Rattle.std.specs.Ordering.{partial_le}
 use Rattle.std.specs.declared.cmp.Ordering.{Ordering}
 use Rattle.col_model.specs.Table.{Cell, number}
 use Rattle.col_model.specs.Lookup.{is_at_most}
-use Rattle.col_values.specs.Codes.{bool_code}
+use Rattle.col_model.specs.Codes.{bool_code}
 
 -- Cells compare as the values that they stand for.
 pub record AreCells {T : Type 0} (partial_cmp : T → T → Option Ordering) (cell : T → Cell) :
