@@ -1,5 +1,5 @@
 -- Rows against their low bits.
-use Rattle.std.proofs.Common.{◌≡◌, ℕ, ◌+◌, ◌-◌, ◌*◌, ◌/◌, ◌%◌, ◌^◌, ◌<◌, ◌≤◌, true, false, nat_eq, List, length, slice_index, Some, None, refl, sym, ap, ◌∙◌, inl, inr, arith}
+use Rattle.std.proofs.Common.{◌≡◌, ℕ, ◌+◌, ◌-◌, ◌*◌, ◌/◌, ◌%◌, ◌^◌, ◌<◌, ◌≤◌, true, false, nat_eq, List, length, slice_index, Some, None, sym, ap, ◌∙◌, inl, inr, arith}
 use native.Mathlib.Nat.{div-div-eq-div-mul}
 use Rattle.std.proofs.lemmas.Bool.{cases_eq, cases_lt, eq-eqb, ne_eqb}
 use Rattle.std.proofs.lemmas.Nat.{div-add-mod', pow_pos, pow-add}
@@ -7,7 +7,6 @@ use Rattle.std.proofs.lemmas.Option.{slice_get-get_or}
 use Rattle.col_common.specs.Ascending.{is_rising}
 use Rattle.col_common.specs.Reading.{only_if}
 use Rattle.col_model.specs.Positions.{rank}
-use Rattle.col_index.specs.Search.{IsNarrowed}
 use Rattle.col_index.specs.Sets.{holds}
 use Rattle.col_index.specs.RowLows.{AreLows, IsClose, IsPartOf}
 use Rattle.col_index.proofs.RankLaws.{below_rank, from_rank, rank-le-length}

@@ -21,8 +21,8 @@ use col_values::ColumnValues;
 use std::alloc::Global;
 use std::ops::Range;
 
-/// For parts of 2 ^ shift rows how many rows before each part, and before the end, have a value, and
-/// the low bits of those rows, where they tell the rows of a part apart.
+/// For parts of 2 ^ shift rows how many rows before each part, and before the end, have a value;
+/// and the low bits of those rows, where they tell the rows of a part apart.
 #[derive(Drop)]
 pub struct RankBuckets {
     pub shift: u32,
