@@ -27,6 +27,7 @@ mod KeptLemmas
 mod TurnLemmas
 mod OldStartLemmas
 mod PartLemmas
+mod LowLemmas
 mod RankWordLemmas
 mod RankedLemmas
 mod WindowLemmas

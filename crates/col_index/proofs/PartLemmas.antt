@@ -45,6 +45,14 @@ before_part m part x some h = div_below x m part some (omega (arith, mul_comm m 
 from_part : (m part x : ℕ) → 0 < m → m * part ≤ x → part ≤ x / m
 from_part m part x some h = le-div part x m some (omega (arith, mul_comm m part))
 
+-- a number of a part
+pub in_part : (m part x : ℕ) → 0 < m → m * part ≤ x → x < m * (part + 1) → x / m ≡ part
+in_part m part x some from upto = omega (arith, from_part m part x some from, before_part m (part + 1) x some upto)
+
+-- a number lies before the next part
+pub part_end : (m x : ℕ) → 0 < m → x < m * (x / m + 1)
+part_end m x some = omega (arith, behind m (x / m), lt-div-mul-add {a = x} {b = m} some, mul_comm m (x / m))
+
 -- no part is behind that of a later row
 pub part_le : (m row n : ℕ) → 0 < m → row ≤ n → row / m ≤ n / m
 part_le m row n some h = le-div (row / m) n m some (omega (arith, div-mul-le_self row m))
@@ -108,7 +116,7 @@ pub part_narrowed : (rows : List ℕ) (m row low high : ℕ) → 0 < m → is_ri
 part_narrowed rows m row low high some e at_low at_high =
     let part : ℕ = row / m in
     let start : m * part ≤ row = mul-div-le row m in
-    let end : row < m * (part + 1) = omega (arith, behind m part, lt-div-mul-add {a = row} {b = m} some, mul_comm m part) in
+    let end : row < m * (part + 1) = part_end m row some in
     let next = behind m part in
     record {
       ordered = omega (arith, at_low, at_high, rank-monotone rows (m * part) (m * (part + 1)) (omega (arith, next)));

@@ -3,6 +3,7 @@ pub mod Appending
 pub mod Search
 pub mod Places
 pub mod Ranks
+pub mod RowLows
 pub mod RankedRows
 pub mod Versions
 pub mod Offsets

@@ -17,6 +17,7 @@ mod rank_buckets;
 mod rank_words;
 mod ranks;
 mod rising;
+mod row_lows;
 mod search;
 mod select_cursor;
 mod set;

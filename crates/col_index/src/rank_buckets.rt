@@ -2,24 +2,31 @@
 ghost use Rattle.std.specs.Prelude.{◌≡◌, ◌≤◌, ◌<◌, ◌+◌, ◌*◌, ◌/◌, ◌^◌, true, length, replicate, sum, take, slice_index};
 ghost use Rattle.std.specs.Prelude.{IfOk};
 ghost use Rattle.col_common.specs.Decoding.{Decodes};
+ghost use Rattle.col_common.specs.Reading.{only_if};
 ghost use Rattle.col_common.specs.Ascending.{is_rising};
 ghost use Rattle.col_model.specs.Positions.{rank};
 ghost use Rattle.col_numbers.specs.Readers.{list_of};
-ghost use Rattle.col_index.specs.Sets.{is_row_list, set_by};
+ghost use Rattle.col_index.specs.Sets.{holds, is_row_list, set_by};
 ghost use Rattle.col_index.specs.Ranks.{AreBuckets, AreCounts, ArePartCounts, AreSums};
+ghost use Rattle.col_index.specs.RowLows.{KeepsLows};
+ghost use Rattle.col_index.specs.Search.{IsNarrowed};
 
 use crate::rising::rising_row;
-use crate::search::narrow;
+use crate::row_lows::{LOW_BITS, lows_of, rank_by_lows, rank_by_lows_if_exists};
+use crate::search::{is_listed_at, narrow};
 use col_common::{ColumnarError, RowId};
 use col_numbers::U64Values;
 use col_values::ColumnValues;
 use std::alloc::{AllocError, Global};
+use std::ops::Range;
 
-/// For parts of 2 ^ shift rows how many rows before each part, and before the end, have a value.
+/// For parts of 2 ^ shift rows how many rows before each part, and before the end, have a value;
+/// and the low bits of those rows, where they tell the rows of a part apart.
 #[derive(Drop)]
 pub struct RankBuckets {
     pub shift: u32,
     pub before: Vec<u32>,
+    pub lows: Vec<u16>,
 }
 
 impl RankBuckets {
@@ -28,6 +35,7 @@ impl RankBuckets {
         RankBuckets {
             shift: 0,
             before: Vec::new(alloc),
+            lows: Vec::new(alloc),
         }
     }
 
@@ -41,6 +49,8 @@ impl RankBuckets {
             result (set_by num_rows (list_of rows.now)) }
         ensures ranks { IfOk result (λ ranks.
             AreBuckets (list_of rows.now) num_rows ranks.shift ranks.before.items) }
+        ensures lows { IfOk result (λ ranks.
+            KeepsLows (list_of rows.now) ranks.shift ranks.lows.items) }
     {
         let shift = part_shift(num_rows, rows.num_vals());
         let mut counts = vec![in alloc; 0; (num_rows >> shift) as usize + 1]?;
@@ -48,36 +58,89 @@ impl RankBuckets {
             return Err(ColumnarError::InvalidData);
         }
         let before = sums_before(alloc, &counts)?;
-        Ok(RankBuckets { shift, before })
+        let lows = lows_of(alloc, rows, shift)?;
+        Ok(RankBuckets {
+            shift,
+            before,
+            lows,
+        })
     }
 
     /// The same once more.
     pub fn try_clone(&self, alloc: Global) -> Result<RankBuckets, AllocError>
         ensures shift { IfOk result (λ ranks. ranks.shift ≡ self.now.shift) }
         ensures before { IfOk result (λ ranks. ranks.before.items ≡ self.now.before.items) }
+        ensures lows { IfOk result (λ ranks. ranks.lows.items ≡ self.now.lows.items) }
     {
         Ok(RankBuckets {
             shift: self.shift,
             before: Vec::from_clones(alloc, &self.before)?,
+            lows: Vec::from_clones(alloc, &self.lows)?,
         })
     }
 
+    // How many rows before the part of a row have a value, and before the next part.
+    #[inline(always)]
+    fn part_of(&self, num_rows: RowId, rows: &U64Values, row: RowId) -> Range<u32>
+        requires buckets { AreBuckets (list_of rows.now) num_rows
+            self.now.shift self.now.before.items }
+        requires row { row < num_rows }
+        ensures start { let rows_apart = 2 ^ self.now.shift in
+            result.start ≡ rank (list_of rows.now) (rows_apart * (row / rows_apart)) }
+        ensures end { let rows_apart = 2 ^ self.now.shift in
+            result.end ≡ rank (list_of rows.now) (rows_apart * (row / rows_apart + 1)) }
+    {
+        let part = (row >> self.shift) as usize;
+        self.before[part]..self.before[part + 1]
+    }
+
     /// How many rows before a row have a value, by the list of those that have one.
+    #[inline(always)]
     pub fn rank(&self, num_rows: RowId, rows: &U64Values, row: RowId) -> RowId
         requires rising { is_rising (list_of rows.now) ≡ true }
         requires buckets { AreBuckets (list_of rows.now) num_rows
             self.now.shift self.now.before.items }
+        requires lows { KeepsLows (list_of rows.now) self.now.shift self.now.lows.items }
         requires row { row < num_rows }
         ensures { result ≡ rank (list_of rows.now) row }
     {
-        let part = (row >> self.shift) as usize;
-        narrow(
-            rows,
-            self.before[part],
-            self.before[part + 1],
-            u64::from(row),
-        )
+        let part = self.part_of(num_rows, rows, row);
+        if self.shift > LOW_BITS {
+            return narrow(rows, part.start, part.end, u64::from(row));
+        }
+        rank_by_lows(rows, &self.lows, part.start, part.end, row)
     }
+
+    /// The rank of a row that has a value, by their list.
+    #[inline(always)]
+    pub fn rank_if_exists(&self, num_rows: RowId, rows: &U64Values, row: RowId) -> Option<RowId>
+        requires rising { is_rising (list_of rows.now) ≡ true }
+        requires buckets { AreBuckets (list_of rows.now) num_rows
+            self.now.shift self.now.before.items }
+        requires lows { KeepsLows (list_of rows.now) self.now.shift self.now.lows.items }
+        requires row { row < num_rows }
+        ensures { result ≡ only_if (holds (list_of rows.now) row) (rank (list_of rows.now) row) }
+    {
+        let part = self.part_of(num_rows, rows, row);
+        if self.shift > LOW_BITS {
+            return narrow_if_exists(rows, part.start, part.end, row);
+        }
+        rank_by_lows_if_exists(rows, &self.lows, part.start, part.end, row)
+    }
+}
+
+// The rank of a row that has a value, by halves between two places.
+#[inline(never)]
+fn narrow_if_exists(rows: &U64Values, low: u32, high: u32, row: RowId) -> Option<RowId>
+    requires rising { is_rising (list_of rows.now) ≡ true }
+    requires narrowed { IsNarrowed (list_of rows.now) row low high }
+    ensures { result ≡ only_if (holds (list_of rows.now) row) (rank (list_of rows.now) row) }
+{
+    let rank = narrow(rows, low, high, u64::from(row));
+    if is_listed_at(rows, rank, row) {
+        return Some(rank);
+    }
+    None
 }
 
 // A shift with about two of the rows that have a value in each part.

@@ -9,6 +9,7 @@ ghost use Rattle.col_index.specs.Sets.{holds, set_by};
 
 use crate::rank_buckets::RankBuckets;
 use crate::rank_words::RankWords;
+use crate::search::is_listed_at;
 use col_common::{ColumnarError, RowId};
 use col_numbers::U64Values;
 use col_values::ColumnValues;
@@ -104,11 +105,26 @@ impl Ranks {
             }
             return None;
         }
-        let rank = self.rank_by_parts(num_rows, rows, row);
-        if is_listed_at(rows, rank, row) {
-            return Some(rank);
+        self.rank_by_parts_if_exists(num_rows, rows, row)
+    }
+
+    // The same for a row without a bit.
+    #[inline(always)]
+    fn rank_by_parts_if_exists(
+        &self,
+        num_rows: RowId,
+        rows: &U64Values,
+        row: RowId,
+    ) -> Option<RowId>
+        requires ranked { AreRankedRows (record { num_rows = num_rows; rows = list_of rows.now })
+            self.now }
+        requires row { 64 * length self.now.words.words.items ≤ row }
+        ensures { result ≡ only_if (holds (list_of rows.now) row) (rank (list_of rows.now) row) }
+    {
+        if row >= num_rows {
+            return None;
         }
-        None
+        self.buckets.rank_if_exists(num_rows, rows, row)
     }
 
     /// Whether the row with a rank has a value.
@@ -124,14 +140,4 @@ impl Ranks {
         }
         is_listed_at(rows, at, row)
     }
-}
-
-// Whether a row is the one with its rank in a list.
-#[inline(never)]
-fn is_listed_at(rows: &U64Values, at: u32, row: RowId) -> bool
-    requires rising { is_rising (list_of rows.now) ≡ true }
-    requires at { at ≡ rank (list_of rows.now) row }
-    ensures { result ≡ holds (list_of rows.now) row }
-{
-    at < rows.num_vals() && rows.get_val(at) == u64::from(row)
 }

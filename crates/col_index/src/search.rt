@@ -4,7 +4,9 @@ ghost use Rattle.col_common.specs.Ascending.{is_rising};
 ghost use Rattle.col_model.specs.Positions.{rank};
 ghost use Rattle.col_numbers.specs.Readers.{list_of};
 ghost use Rattle.col_index.specs.Search.{IsNarrowed};
+ghost use Rattle.col_index.specs.Sets.{holds};
 
+use col_common::RowId;
 use col_numbers::U64Values;
 use col_values::ColumnValues;
 
@@ -27,6 +29,16 @@ pub fn narrow(values: &U64Values, low: u32, high: u32, target: u64) -> u32
         }
     }
     low
+}
+
+/// Whether a row is the one with its rank in a list.
+#[inline(never)]
+pub fn is_listed_at(rows: &U64Values, at: u32, row: RowId) -> bool
+    requires rising { is_rising (list_of rows.now) ≡ true }
+    requires at { at ≡ rank (list_of rows.now) row }
+    ensures { result ≡ holds (list_of rows.now) row }
+{
+    at < rows.num_vals() && rows.get_val(at) == u64::from(row)
 }
 
 /// How many numbers of a rising list are below a target.

@@ -3,7 +3,7 @@ use Rattle.std.proofs.lemmas.Bool.{le-ltb}
 use Rattle.col_numbers.specs.Readers.{list_of}
 use Rattle.col_index.proofs.RangeLemmas.{past-free}
 use Rattle.col_index.proofs.SetLemmas.{holds_compared}
-use Rattle.col_index.proofs.ranks.is_listed_at.Goals as goal
+use Rattle.col_index.proofs.search.is_listed_at.Goals as goal
 
 pub returns-then-at-num_vals : goal.returns-then-at-num_vals
 returns-then-at-num_vals c =
