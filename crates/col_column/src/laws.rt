@@ -1,4 +1,4 @@
-//! Laws about columns, each the contract of a call that does nothing.
+//! Laws about columns, each the contract of a public call.
 ghost use Rattle.std.specs.Prelude.{◌≡◌, ◌<◌, length};
 ghost use Rattle.col_column.specs.Columns.{rows_in, row_at, docs_in};
 ghost use Rattle.col_column.specs.Laws.{LookupsAreThoseOfCells};

@@ -1,7 +1,6 @@
 //! Writes the bytes of columns.
 ghost use Rattle.std.specs.Prelude.{◌≡◌, ◌<◌, ◌^◌, ◌++◌, [], false, true, length, map, slice_get, Some, OnOk};
 ghost use Rattle.std.specs.Int.{w64, to_le_bytes};
-ghost use Rattle.std.specs.List.{AllByRecursion};
 ghost use Rattle.col_common.specs.Ascending.{AreBelow};
 ghost use Rattle.col_common.specs.Serializing.{Serializes, Stopped};
 ghost use Rattle.col_common.specs.Walks.{int_range};

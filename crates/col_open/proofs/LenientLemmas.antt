@@ -1,20 +1,20 @@
 -- Columns of numbers in place of columns of any type.
-use Rattle.std.proofs.Common.{◌≡◌, ℕ, ◌<◌, ◌==◌, ◌&&◌, nat_lt, get_or, option_map, Result, Err, Bool, true, false, List, [], length, map, sum, Option, Some, None, Ok, refl, sym, ap, ◌∙◌, subst}
+use Rattle.std.proofs.Common.{◌≡◌, ℕ, ◌==◌, ◌&&◌, nat_lt, option_map, Result, Err, Bool, true, false, List, [], length, map, sum, Option, Some, None, Ok, refl, sym, ap, ◌∙◌, subst}
+use Rattle.std.specs.Prelude.{IfOk, if◌then◌else◌}
 use Rattle.std.specs.Int.{w32, w64}
-use Rattle.std.specs.List.{All, list_all}
-use Rattle.std.proofs.lemmas.Bool.{eqb-true, false≢true, ltb-true}
+use Rattle.std.specs.List.{list_all}
+use Rattle.std.proofs.lemmas.Bool.{eqb-true, false≢true}
 use Rattle.std.proofs.lemmas.List.{length-map}
-use Rattle.std.proofs.lemmas.List.Sums.{AllPass-from_list_all}
 use Rattle.std.proofs.lemmas.Option.{same_Some}
 use Rattle.col_common.specs.Decoding.{Refuses, Decodes}
 use Rattle.col_common.specs.Reading.{◌>>=◌, only_if, parts_by_first}
 use Rattle.col_common.specs.declared.error.ColumnarError.{ColumnarError}
 use Rattle.col_common.proofs.DecodingLemmas.{refuses-as}
 use Rattle.col_column.specs.Columns.{Seen, IsCounted, counts_by, rows_by, content_seen}
-use Rattle.col_column.specs.Opened.{counted_rows}
+use Rattle.col_column.specs.Opened.{counted_rows, codes_behind}
 use Rattle.col_compact.specs.Coded.{Coded, numbers_of}
 use Rattle.col_index.specs.Offsets.{cardinality_in}
-use Rattle.col_common.specs.Ascending.{are_below, AreBelow}
+use Rattle.col_common.specs.Ascending.{are_below}
 use Rattle.col_model.specs.AddressList.{coded_number}
 use Rattle.col_model.specs.Column.{number_rows, term_column, number_cell, content_of, column}
 use Rattle.col_model.specs.ColumnType.{ColumnType, has_terms, same_type}
@@ -30,11 +30,11 @@ use Rattle.col_text.specs.Texts.{texts_content}
 use Rattle.col_column.proofs.SerializeRowLemmas.{sum-counts_by}
 use Rattle.col_column.proofs.CellLemmas.{cut-map}
 use Rattle.col_column.proofs.OpenSeenLemmas.{all-pass}
-use Rattle.col_text.proofs.OpenTextLemmas.{all-cut, all-rows, texts-as-bytes}
+use Rattle.col_text.proofs.OpenTextLemmas.{all-cut, all-rows, texts-as-bytes, ordinals-below}
 use Rattle.col_dynamic.proofs.CoercionLemmas.{maps}
 use Rattle.col_open.specs.Contents.{DecodesTo}
-use Rattle.col_open.specs.Lenient.{IsInPlaceOf, seen_as}
-use Rattle.col_open.specs.LenientValues.{lenient_cell}
+use Rattle.col_open.specs.Lenient.{IsInPlaceOf, codes_spelled, seen_as}
+use Rattle.col_open.specs.LenientValues.{lenient_cell, are_codes, codes_of}
 use Rattle.col_open.specs.declared.lenient.LenientValues.{LenientValues}
 use Rattle.col_open.specs.declared.lenient.LenientValues.TheVariants.{Num, Compact}
 use Rattle.col_open.proofs.DecodesLemmas.{decodes-to}
@@ -206,9 +206,6 @@ module _ (bytes : List ℕ) (version rows : ℕ) where
         xs : List ℕ
         xs = num_values_of c.values
 
-        below : (k : ℕ) → are_below k xs ≡ true → AreBelow k xs
-        below k e i d within = ltb-true (get_or xs i d) k (AllPass-from_list_all (λ n. nat_lt n k) xs e i d within)
-
         at : (o : Option (List (List ℕ))) → terms a ≡ o → option_map length o ≡ Some count → DecodesTo (IsInPlaceOf types.bytes) r (column bytes types.bytes version rows)
         at None is n = cc
         at (Some found) is n =
@@ -216,10 +213,20 @@ module _ (bytes : List ℕ) (version rows : ℕ) where
             let long : length found ≡ count = same_Some (length found) count n in
             made-behind (IsInPlaceOf types.bytes) (seen_as c) content (column bytes types.bytes version rows) (are_below count xs)
             (with_rows found is c counted e ∙ ap (λ k. only_if (are_below k xs) content) long)
-            (λ t. record { cells = refl; ordinals = λ h. below (length found) (ap (λ k. are_below k xs) long ∙ t); codes = refl })
+            (λ t. record { cells = refl; ordinals = λ h. ordinals-below (length found) xs (sym (ap (λ k. are_below k xs) long ∙ t)); codes = refl })
             r h
 
 -- ---- codes
+
+-- numbers in place of a column of another type are no codes
+pub no_codes : (t : ColumnType) → same_type t types.ip ≡ false → (bytes : List ℕ) (r : Result (Seen LenientValues) ColumnarError) (o : Option Content) → DecodesTo (IsInPlaceOf t) r o → IfOk r (λ c. codes_of c.values ≡ codes_spelled t bytes)
+no_codes t other bytes (Ok c) None h = absurd h
+no_codes t other bytes (Ok c) (Some content) h = none c.values (h.codes ∙ other) ∙ sym (ap (λ b. if b then codes_behind bytes else None) other)
+  where
+    none : (v : LenientValues) → are_codes v ≡ false → codes_of v ≡ None
+    none (Num v) e = refl
+    none (Compact d) e = absurd (false≢true (sym e))
+no_codes t other bytes (Err e) o h = tt
 
 -- numbers behind codes have the cells of their codes
 in_codes : (s : Shape) (d : Coded) → content_seen [] (number_cell types.ip) s (numbers_of d) ≡ content_seen [] (lenient_cell types.ip [] (Compact d)) s d.codes

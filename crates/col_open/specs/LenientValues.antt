@@ -1,5 +1,6 @@
 -- What the numbers mean that stand for a column's values.
-use Rattle.std.specs.Prelude.{◌≡◌, ℕ, Bool, true, false, List}
+use Rattle.std.specs.Prelude.{◌≡◌, ℕ, Bool, true, false, List, Option, Some, None}
+use Rattle.col_compact.specs.Coded.{Coded}
 use Rattle.col_model.specs.AddressList.{coded_number}
 use Rattle.col_model.specs.Column.{number_cell, term_cell}
 use Rattle.col_model.specs.ColumnType.{ColumnType}
@@ -25,6 +26,11 @@ IsLow (Compact d) n = n ≡ least_of d.codes
 abbrev pub IsHigh : LenientValues → ℕ → Type 0
 IsHigh (Num v) n = numbers.IsHigh number_cmp (λ x. x ≡ 0) v n
 IsHigh (Compact d) n = n ≡ greatest_of d.codes
+
+-- the codes, with their ranges, where they are codes of addresses
+abbrev pub codes_of : LenientValues → Option Coded
+codes_of (Num v) = None
+codes_of (Compact d) = Some d
 
 -- they are codes of addresses
 abbrev pub are_codes : LenientValues → Bool

@@ -1,9 +1,9 @@
 //! Opens columns of any type as columns of numbers.
-ghost use Rattle.std.specs.Prelude.{◌≡◌, length, option_map};
-ghost use Rattle.std.specs.Int.{w32, from_le_bytes};
+ghost use Rattle.std.specs.Prelude.{◌≡◌, length, option_map, IfOk};
 ghost use Rattle.col_common.specs.Decoding.{Decodes};
-ghost use Rattle.col_common.specs.Reading.{only_if, parts_by_first};
+ghost use Rattle.col_common.specs.Reading.{only_if};
 ghost use Rattle.col_column.specs.Columns.{IsCounted};
+ghost use Rattle.col_column.specs.Opened.{codes_behind};
 ghost use Rattle.col_index.specs.Versions.{version_number};
 ghost use Rattle.col_model.specs.Column.{column};
 ghost use Rattle.col_model.specs.ColumnType as types;
@@ -12,24 +12,27 @@ ghost use Rattle.col_model.specs.Dictionary.{terms};
 ghost use Rattle.col_numbers.specs.NumValues.{num_values_of};
 ghost use Rattle.col_types.specs.Kinds.{kind_of};
 ghost use Rattle.col_open.specs.Contents.{DecodesTo};
-ghost use Rattle.col_open.specs.Lenient.{IsInPlaceOf, seen_as};
+ghost use Rattle.col_open.specs.Lenient.{IsInPlaceOf, codes_spelled, seen_as};
+ghost use Rattle.col_open.specs.LenientValues.{codes_of};
 
 use crate::lenient::{LenientColumn, LenientValues};
 use bytes::Bytes;
 use col_column::{Column, NumColumn, open_term_ords};
-use col_common::{ColumnarError, RowId, U32_NUM_BYTES};
+use col_common::{ColumnarError, RowId};
 use col_dynamic::{ColumnType, open_column_u128_as_compact_u64};
 use col_index::Version;
 use col_numbers::NumValues;
 use col_terms::Dictionary;
+use col_text::cut_dictionary;
 use col_values::ColumnValues;
 use std::alloc::Global;
 
 // What each number of a column of flags is below.
 const FLAGS_END: u64 = 2;
 
-/// Reads a column of so many rows of a type as one of numbers. It answers InvalidData exactly where
-/// the bytes are no column of that type, version and row count.
+/// Reads a column of so many rows of a type as one of numbers; codes of addresses are those that
+/// stand in the bytes. It answers InvalidData exactly where the bytes are no column of that type,
+/// version and row count.
 pub fn open_column_u64_lenient(
     alloc: Global,
     column_type: ColumnType,
@@ -37,8 +40,10 @@ pub fn open_column_u64_lenient(
     format_version: Version,
     num_rows: RowId,
 ) -> Result<LenientColumn, ColumnarError>
-    ensures { DecodesTo (IsInPlaceOf (kind_of column_type)) result
+    ensures column { DecodesTo (IsInPlaceOf (kind_of column_type)) result
         (column bytes (kind_of column_type) (version_number format_version) num_rows) }
+    ensures codes { IfOk result
+        (λ c. codes_of c.values ≡ codes_spelled (kind_of column_type) bytes) }
 {
     match column_type {
         ColumnType::I64 => open_i64(alloc, bytes, format_version, num_rows),
@@ -136,8 +141,9 @@ fn open_ip_addr(
     format_version: Version,
     num_rows: RowId,
 ) -> Result<LenientColumn, ColumnarError>
-    ensures { DecodesTo (IsInPlaceOf types.ip) result
+    ensures column { DecodesTo (IsInPlaceOf types.ip) result
         (column bytes types.ip (version_number format_version) num_rows) }
+    ensures codes { IfOk result (λ c. codes_of c.values ≡ codes_behind bytes) }
 {
     let codes = open_column_u128_as_compact_u64(alloc, bytes, format_version, num_rows)?;
     let (index, values) = codes.into_parts();
@@ -178,30 +184,4 @@ fn count_terms(bytes: Bytes) -> Result<u64, ColumnarError>
 {
     let dictionary = Dictionary::from_bytes(bytes)?;
     Ok(dictionary.num_terms() as u64)
-}
-
-// The dictionary and the bytes behind it, behind which the dictionary's length stands.
-#[tactic(auto, unfolding(col_common::specs::Reading::parts_by_first))]
-fn cut_dictionary(bytes: Bytes) -> Result<(Bytes, Bytes), ColumnarError>
-    ensures { Decodes (λ p. (p.0, p.1)) result (parts_by_first w32 bytes) }
-{
-    let mut parts = bytes;
-    if parts.len() < U32_NUM_BYTES {
-        return Err(ColumnarError::InvalidData);
-    }
-    let first_len = parts.split_off(parts.len() - U32_NUM_BYTES)?;
-    let first_len = dictionary_len(first_len.as_slice()) as usize;
-    if first_len > parts.len() {
-        return Err(ColumnarError::InvalidData);
-    }
-    let first = parts.split_to(first_len)?;
-    Ok((first, parts))
-}
-
-// The number that four bytes spell, the lowest first.
-fn dictionary_len(bytes: &[u8]) -> u32
-    requires { length bytes.now ≡ U32_NUM_BYTES }
-    ensures { result ≡ from_le_bytes w32 bytes.now }
-{
-    u32::from_le_bytes([bytes[0], bytes[1], bytes[2], bytes[3]])
 }

@@ -5,7 +5,7 @@ use Rattle.std.specs.List.{list_all, last_or, range_with_len}
 use Rattle.std.proofs.lemmas.Bool.{and_parts, and_from}
 use Rattle.std.proofs.lemmas.List.Sums.{sum_by-cons}
 use Rattle.std.proofs.lemmas.List.FromFn.{length-map-range_with_len}
-use Rattle.col_common.specs.Ascending.{is_never_falling, is_rising}
+use Rattle.col_common.specs.Ascending.{is_never_falling, is_rising, are_below}
 use Rattle.col_model.specs.Table.{Cardinality, full, optional, multivalued}
 use Rattle.col_index.proofs.RankLaws.{tail_rises}
 use Rattle.col_rows.proofs.DocumentLemmas.{last_or-found}
@@ -24,7 +24,7 @@ last-greatest x (y ∷ ys) e =
     let low : x ≤ r.0 = omega (arith, r.2) in
     (r.0, r.1, low, and_from (nat_le x r.0) _ (le-leb _ _ low) r.3)
 
-raised : (l n : ℕ) (docs : List ℕ) → l < n → list_all (λ d. nat_le d l) docs ≡ true → list_all (λ d. nat_lt d n) docs ≡ true
+raised : (l n : ℕ) (docs : List ℕ) → l < n → list_all (λ d. nat_le d l) docs ≡ true → are_below n docs ≡ true
 raised l n [] h e = refl
 raised l n (d ∷ docs) h e =
     let parts = and_parts (nat_le d l) (list_all (λ x. nat_le x l) docs) e in
@@ -32,7 +32,7 @@ raised l n (d ∷ docs) h e =
     let below : d < n = omega arith in
     and_from (nat_lt d n) _ (lt-ltb _ _ below) (raised l n docs h parts.1)
 
-below_rows : (n : ℕ) (docs : List ℕ) → is_never_falling docs ≡ true → list_all (λ d. nat_lt d (rows_up_to n docs)) docs ≡ true
+below_rows : (n : ℕ) (docs : List ℕ) → is_never_falling docs ≡ true → are_below (rows_up_to n docs) docs ≡ true
 below_rows n [] e = refl
 below_rows n (x ∷ xs) e =
     let r = last-greatest x xs e in
@@ -93,10 +93,10 @@ counts-none a zero = refl
 counts-none a (suc n) = let rest = counts-none (a + 1) n in omega (arith, rest, sum_by-cons (λ x. x) 0 (counts_in (a + 1) n []))
 
 -- the counts of all rows are as many as the documents
-sum-counts : (n : ℕ) (docs : List ℕ) → list_all (λ d. nat_lt d n) docs ≡ true → sum (counts_in 0 n docs) ≡ length docs
+sum-counts : (n : ℕ) (docs : List ℕ) → are_below n docs ≡ true → sum (counts_in 0 n docs) ≡ length docs
 sum-counts n [] e = counts-none 0 n
 sum-counts n (d ∷ docs) e =
-    let parts = and_parts (nat_lt d n) (list_all (λ x. nat_lt x n) docs) e in
+    let parts = and_parts (nat_lt d n) (are_below n docs) e in
     let less : d < 0 + n = grind arith in
     let rest = sum-counts n docs parts.1 in
     let hit = one_hit 0 n d (omega arith) less in
@@ -170,12 +170,12 @@ twice x y zs e =
     let second = sum_by-cons (λ z. cond (z == x) 1 0) y zs ∙ ap (λ t. cond t 1 0 + count_by (λ z. z == x) zs) b in
     omega (arith, first, second)
 
-few-rises : (n : ℕ) (docs : List ℕ) → is_never_falling docs ≡ true → list_all (λ d. nat_lt d n) docs ≡ true → ((row : ℕ) → row < n → count_by (λ z. z == row) docs ≤ 1) → is_rising docs ≡ true
+few-rises : (n : ℕ) (docs : List ℕ) → is_never_falling docs ≡ true → are_below n docs ≡ true → ((row : ℕ) → row < n → count_by (λ z. z == row) docs ≤ 1) → is_rising docs ≡ true
 few-rises n [] fall below few = refl
 few-rises n (x ∷ []) fall below few = refl
 few-rises n (x ∷ y ∷ zs) fall below few =
     let parts = and_parts (nat_le x y) (is_never_falling (y ∷ zs)) fall in
-    let here = and_parts (nat_lt x n) (list_all (λ d. nat_lt d n) (y ∷ zs)) below in
+    let here = and_parts (nat_lt x n) (are_below n (y ∷ zs)) below in
     let low : x < n = grind arith in
     let apart : x ≡ y → ⊥ = λ e. omega (arith, twice x y zs e, few x low) in
     let up : x ≤ y = grind arith in

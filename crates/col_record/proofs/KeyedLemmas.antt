@@ -1,7 +1,7 @@
 -- Records beside keys that compare as their cells.
 use Rattle.std.proofs.Common.{◌≡◌, ◌<◌, ◌≤◌, ℕ, zero, suc, ◌+◌, ◌^◌, List, [], ◌∷◌, length, map, get_or, Bool, true, false, cond, Option, Some, None, Result, Ok, Err, refl, sym, ◌∙◌, ap, subst, arith, le-leb}
 use Rattle.std.specs.Prelude.{ℤ, pos, ◌+ℤ◌, int_le, nat_le, nat_lt, ◌==◌, ◌||◌, not, slice_get, filter, unwrap_or, ⊤}
-use Rattle.std.specs.List.{list_any, list_all, zip, range_with_len}
+use Rattle.std.specs.List.{list_any, zip, range_with_len}
 use Rattle.std.specs.declared.cmp.Ordering.TheVariants.{Less}
 use Rattle.std.specs.Ordering.{nat_cmp, is_gt, ordering_reverse}
 use Rattle.std.specs.Cmp.{tied_itself}
@@ -13,7 +13,7 @@ use Rattle.std.proofs.lemmas.Int.{ints}
 use Rattle.std.proofs.lemmas.List.{length-map}
 use Rattle.std.proofs.lemmas.Option.{get_or_from_slice_get, slice_get_within, slice_get-get_or, unwrap_or-slice_get}
 use Rattle.col_common.specs.declared.error.ColumnarError.{ColumnarError}
-use Rattle.col_common.specs.Ascending.{is_ascending}
+use Rattle.col_common.specs.Ascending.{is_ascending, are_below}
 use Rattle.col_model.specs.ColumnType.{ColumnType}
 use Rattle.col_model.specs.ColumnType as types
 use Rattle.col_model.specs.Table.{Cell, number, text}
@@ -203,11 +203,11 @@ pub text-laws : (ts : List (List ℕ)) → is_ascending ts ≡ true → CompareA
 text-laws ts up = record { above = text-above ts; compares = text-compares ts up }
 
 -- each id has the place of its term
-pub texts-keyed : (t : ColumnType) (terms : List (List ℕ)) (ps : List (ℕ × ℕ)) → TermsAreThoseGiven → list_all (λ id. nat_lt id (length terms)) (ids_of ps) ≡ true → AreKeyed (IsTextKey (ordered terms)) (records_of t text (texts_by_id terms ps)) (zip (docs_of ps) (text_keys (ordinals terms) (map (λ p. p.1) ps)))
+pub texts-keyed : (t : ColumnType) (terms : List (List ℕ)) (ps : List (ℕ × ℕ)) → TermsAreThoseGiven → are_below (length terms) (ids_of ps) ≡ true → AreKeyed (IsTextKey (ordered terms)) (records_of t text (texts_by_id terms ps)) (zip (docs_of ps) (text_keys (ordinals terms) (map (λ p. p.1) ps)))
 unfolding AreKeyed records_of texts_by_id text_keys IsTextKey
 texts-keyed t terms [] given known = tt
 texts-keyed t terms (p ∷ ps) given known =
-    let parts = and_parts (nat_lt p.1 (length terms)) (list_all (λ id. nat_lt id (length terms)) (ids_of ps)) known in
+    let parts = and_parts (nat_lt p.1 (length terms)) (are_below (length terms) (ids_of ps)) known in
     let below : p.1 < length terms = grind arith in
     let place = given.places terms p.1 below in
     let within : slice_get (ordinals terms) p.1 ≡ Some (get_or (ordinals terms) p.1 0) = slice_get-get_or (ordinals terms) p.1 0 (omega (arith, below, given.count terms)) in
@@ -232,13 +232,13 @@ gives-times view result ps docs codes keys n reversed ds cs ks g =
     gives-keyed view result IsNumberKey number-laws (records_of types.datetime time_cell ps) (zip (docs_of ps) (time_keys (map (λ p. p.1) ps))) n reversed (times-keyed ps)
     (subst (λ z. Gives view result (docs_after z n reversed)) (λ i. zip (ds i) ((ks ∙ ap time_keys cs) i)) g)
 
-pub gives-texts : {V : Type 0} (view : V → List ℕ) (result : Result V ColumnarError) (t : ColumnType) (terms : List (List ℕ)) (ps : List (ℕ × ℕ)) (docs ids keys ords : List ℕ) (now : List (ℕ × List ℕ)) (n : ℕ) (reversed : Bool) → TermsAreThoseGiven → list_all (λ id. nat_lt id (length terms)) (ids_of ps) ≡ true → texts_by_id terms ps ≡ now → docs ≡ docs_of ps → ids ≡ map (λ p. p.1) ps → ords ≡ ordinals terms → keys ≡ text_keys ords ids → Gives view result (docs_after (zip docs keys) n reversed) → Gives view result (sorted_docs (records_of t text now) n reversed)
+pub gives-texts : {V : Type 0} (view : V → List ℕ) (result : Result V ColumnarError) (t : ColumnType) (terms : List (List ℕ)) (ps : List (ℕ × ℕ)) (docs ids keys ords : List ℕ) (now : List (ℕ × List ℕ)) (n : ℕ) (reversed : Bool) → TermsAreThoseGiven → are_below (length terms) (ids_of ps) ≡ true → texts_by_id terms ps ≡ now → docs ≡ docs_of ps → ids ≡ map (λ p. p.1) ps → ords ≡ ordinals terms → keys ≡ text_keys ords ids → Gives view result (docs_after (zip docs keys) n reversed) → Gives view result (sorted_docs (records_of t text now) n reversed)
 gives-texts view result t terms ps docs ids keys ords now n reversed given known is ds cs os ks g =
     subst (λ r. Gives view result (sorted_docs (records_of t text r) n reversed)) is
     (gives-keyed view result (IsTextKey (ordered terms)) (text-laws (ordered terms) (given.ascend terms)) (records_of t text (texts_by_id terms ps)) (zip (docs_of ps) (text_keys (ordinals terms) (map (λ p. p.1) ps))) n reversed (texts-keyed t terms ps given known)
     (subst (λ z. Gives view result (docs_after z n reversed)) (λ i. zip (ds i) ((ks ∙ (λ j. text_keys (os j) (cs j))) i)) g))
 
 -- each id has an ordinal
-pub known-ids : (terms : List (List ℕ)) (ps : List (ℕ × ℕ)) (ids ords : List ℕ) → TermsAreThoseGiven → list_all (λ id. nat_lt id (length terms)) (ids_of ps) ≡ true → ids ≡ map (λ p. p.1) ps → ords ≡ ordinals terms → list_all (λ id. nat_lt id (length ords)) ids ≡ true
+pub known-ids : (terms : List (List ℕ)) (ps : List (ℕ × ℕ)) (ids ords : List ℕ) → TermsAreThoseGiven → are_below (length terms) (ids_of ps) ≡ true → ids ≡ map (λ p. p.1) ps → ords ≡ ordinals terms → are_below (length ords) ids ≡ true
 known-ids terms ps ids ords given known cs os =
-    (λ i. list_all (λ id. nat_lt id ((ap length os ∙ given.count terms) i)) (cs i)) ∙ known
+    (λ i. are_below ((ap length os ∙ given.count terms) i) (cs i)) ∙ known

@@ -11,6 +11,7 @@ use Rattle.std.proofs.lemmas.Bool.{and_parts, and_from}
 use Rattle.std.proofs.lemmas.Cmp.{nat_cmp_total}
 use Rattle.std.proofs.lemmas.List.Sorted.{IsPermutation-map, list_any-IsPermutation}
 use Rattle.std.proofs.lemmas.Map.Keys.{IsDistinct-head, IsDistinct-tail, IsDistinct-cons, IsDistinct-IsPermutation}
+use Rattle.col_common.specs.Ascending.{are_below}
 use Rattle.col_model.specs.Sorted.{sorted_items, inserted}
 use Rattle.col_model.proofs.DistinctLaws.{has, keyed, rises, same_rising}
 use Rattle.col_rows.specs.Documents.{all_from}
@@ -184,22 +185,22 @@ uncoded (y ∷ ys) e =
     let back : (y.0 * 2 ^ 32 + y.1) % 2 ^ 32 ≡ y.1 = omega (arith, small) in
     λ i. back i ∷ uncoded ys parts.1 i
 
-uncoded-docs : (f : ℕ → ℕ) (zs : List ℕ) → list_all (λ z. nat_lt z (2 ^ 32)) zs ≡ true → map (λ c. c % 2 ^ 32) (map (with_number f) zs) ≡ zs
+uncoded-docs : (f : ℕ → ℕ) (zs : List ℕ) → are_below (2 ^ 32) zs ≡ true → map (λ c. c % 2 ^ 32) (map (with_number f) zs) ≡ zs
 unfolding code
 uncoded-docs f [] e = refl
 uncoded-docs f (z ∷ zs) e =
-    let parts = and_parts (nat_lt z (2 ^ 32)) (list_all (λ z. nat_lt z (2 ^ 32)) zs) e in
+    let parts = and_parts (nat_lt z (2 ^ 32)) (are_below (2 ^ 32) zs) e in
     let small : z < 2 ^ 32 = grind arith in
     let back : (f z * 2 ^ 32 + z) % 2 ^ 32 ≡ z = omega (arith, small) in
     λ i. back i ∷ uncoded-docs f zs parts.1 i
 
-range-fits : (a n : ℕ) → a + n ≤ 2 ^ 32 → list_all (λ z. nat_lt z (2 ^ 32)) (range_with_len a n) ≡ true
+range-fits : (a n : ℕ) → a + n ≤ 2 ^ 32 → are_below (2 ^ 32) (range_with_len a n) ≡ true
 range-fits a zero h = refl
 range-fits a (suc n) h = let small : a < 2 ^ 32 = omega arith in and_from _ _ (lt-ltb _ _ small) (range-fits (a + 1) n (omega arith))
 
-pairs-fit : (f : ℕ → ℕ) (zs : List ℕ) → list_all (λ z. nat_lt z (2 ^ 32)) zs ≡ true → list_all (λ (p : ℕ × ℕ). nat_lt p.1 (2 ^ 32)) (map (λ d. (f d, d)) zs) ≡ true
+pairs-fit : (f : ℕ → ℕ) (zs : List ℕ) → are_below (2 ^ 32) zs ≡ true → list_all (λ (p : ℕ × ℕ). nat_lt p.1 (2 ^ 32)) (map (λ d. (f d, d)) zs) ≡ true
 pairs-fit f [] e = refl
-pairs-fit f (z ∷ zs) e = let parts = and_parts (nat_lt z (2 ^ 32)) (list_all (λ z. nat_lt z (2 ^ 32)) zs) e in and_from _ _ parts.0 (pairs-fit f zs parts.1)
+pairs-fit f (z ∷ zs) e = let parts = and_parts (nat_lt z (2 ^ 32)) (are_below (2 ^ 32) zs) e in and_from _ _ parts.0 (pairs-fit f zs parts.1)
 
 docs-pairs : (f : ℕ → ℕ) (zs : List ℕ) → map (λ (p : ℕ × ℕ). p.1) (map (λ d. (f d, d)) zs) ≡ zs
 docs-pairs f [] = refl

@@ -5,6 +5,7 @@ use Rattle.std.specs.List.{list_all, AllByRecursion}
 use Rattle.std.proofs.lemmas.Bool.{and_parts, and_from}
 use Rattle.std.proofs.lemmas.Int.{ints}
 use Rattle.std.proofs.lemmas.Option.{same_Some}
+use Rattle.col_common.specs.Ascending.{AreBelow}
 use Rattle.col_model.specs.ColumnType.{ColumnType, is_numerical, has_terms}
 use Rattle.col_model.specs.ColumnType as types
 use Rattle.col_model.specs.Category.{category_of, category_place}
@@ -20,7 +21,7 @@ use Rattle.col_types.specs.declared.numerical_type.NumericalType.TheVariants as 
 use Rattle.col_record.specs.Columns.{records_of, forced_type_of, plain_entry}
 use Rattle.col_record.specs.Compatible.{forced_of}
 use Rattle.col_record.specs.Numerical.{numerical_records, numerical_entry, IsSummary, AreNumbers}
-use Rattle.col_record.specs.SoundEntries.{IsSoundIn, AreSoundTexts, Fit}
+use Rattle.col_record.specs.SoundEntries.{IsSoundIn, AreSoundTexts}
 use Rattle.col_record.specs.Texts.{Texts}
 use Rattle.col_record.specs.Values.{stored_number, unsigned_of, time_cell}
 use Rattle.col_record.specs.declared.plain_column_writer.PlainColumnWriter.{PlainColumnWriter}
@@ -28,7 +29,7 @@ use Rattle.col_record.specs.declared.compatible_types.CompatibleNumericalTypes.{
 use Rattle.col_record.specs.declared.compatible_types.CompatibleNumericalTypes.TheVariants.{Dynamic, StaticType}
 
 -- the items of a list that is read by places
-pub fit-all : (limit : ℕ) (xs : List ℕ) → ((k : ℕ) → slice_index xs k < limit) → Fit limit xs
+pub fit-all : (limit : ℕ) (xs : List ℕ) → ((k : ℕ) → slice_index xs k < limit) → AreBelow limit xs
 fit-all limit [] f = tt
 fit-all limit (x ∷ xs) f = (f 0, fit-all limit xs (λ k. f (suc k)))
 
@@ -102,11 +103,11 @@ signed-in code h =
 pub bools-sound : (w : PlainColumnWriter Bool) → IsSoundIn categories.bool (plain_entry types.bool bool_cell w)
 bools-sound w = plain-sound types.bool bool_cell (λ _. Unit {0}) (λ b _. bool-of-type b) w (all-any _)
 
-pub addresses-sound : (w : PlainColumnWriter ℕ) (ns : List ℕ) → ns ≡ map (λ p. p.1) w.column → Fit (2 ^ 128) ns → IsSoundIn categories.ip (plain_entry types.ip unsigned_cell w)
-addresses-sound w ns is fit = plain-sound types.ip unsigned_cell (λ n. n < 2 ^ 128) ip-of-type w (subst (Fit (2 ^ 128)) is fit)
+pub addresses-sound : (w : PlainColumnWriter ℕ) (ns : List ℕ) → ns ≡ map (λ p. p.1) w.column → AreBelow (2 ^ 128) ns → IsSoundIn categories.ip (plain_entry types.ip unsigned_cell w)
+addresses-sound w ns is fit = plain-sound types.ip unsigned_cell (λ n. n < 2 ^ 128) ip-of-type w (subst (AreBelow (2 ^ 128)) is fit)
 
-pub times-sound : (w : PlainColumnWriter ℕ) (ns : List ℕ) → ns ≡ map (λ p. p.1) w.column → Fit (2 ^ 64) ns → IsSoundIn categories.datetime (plain_entry types.datetime time_cell w)
-times-sound w ns is fit = plain-sound types.datetime time_cell (λ n. n < 2 ^ 64) signed-in w (subst (Fit (2 ^ 64)) is fit)
+pub times-sound : (w : PlainColumnWriter ℕ) (ns : List ℕ) → ns ≡ map (λ p. p.1) w.column → AreBelow (2 ^ 64) ns → IsSoundIn categories.datetime (plain_entry types.datetime time_cell w)
+times-sound w ns is fit = plain-sound types.datetime time_cell (λ n. n < 2 ^ 64) signed-in w (subst (AreBelow (2 ^ 64)) is fit)
 
 -- ---- numbers
 
@@ -152,7 +153,7 @@ held-u64 types.datetime code e h a = cc
 
 -- the records of numbers that pass a test, by which each is of the forced type
 numbers-sound : (forced : Option ColumnType) (test : ColumnType × ℤ → Bool) → ((t : ColumnType) (code : ℕ) → is_numerical t ≡ true → code < 2 ^ 64 → test (t, stored_number t code) ≡ true → is_of_forced forced (number (stored_number t code)) ≡ true)
-    → (ts : List ColumnType) (ps : List (ℕ × ℕ)) → length ts ≡ length ps → list_all is_numerical ts ≡ true → Fit (2 ^ 64) (map (λ p. p.1) ps) → list_all test (filter_map recorded_number (numerical_records ts ps)) ≡ true → list_all (is_sound_record categories.numerical forced) (numerical_records ts ps) ≡ true
+    → (ts : List ColumnType) (ps : List (ℕ × ℕ)) → length ts ≡ length ps → list_all is_numerical ts ≡ true → AreBelow (2 ^ 64) (map (λ p. p.1) ps) → list_all test (filter_map recorded_number (numerical_records ts ps)) ≡ true → list_all (is_sound_record categories.numerical forced) (numerical_records ts ps) ≡ true
 unfolding numerical_records
 numbers-sound forced test f [] [] e h fit a = refl
 numbers-sound forced test f [] (p ∷ ps) e h fit a = absurd (omega arith)
@@ -168,7 +169,7 @@ passes : {A : Type 0} (xs : List A) → list_all (λ _. true) xs ≡ true
 passes [] = refl
 passes (x ∷ xs) = passes xs
 
-records-held : (a : CompatibleNumericalTypes) (ts : List ColumnType) (ps : List (ℕ × ℕ)) → length ts ≡ length ps → list_all is_numerical ts ≡ true → Fit (2 ^ 64) (map (λ p. p.1) ps) → IsSummary a (numerical_records ts ps) → list_all (is_sound_record categories.numerical (forced_of a)) (numerical_records ts ps) ≡ true
+records-held : (a : CompatibleNumericalTypes) (ts : List ColumnType) (ps : List (ℕ × ℕ)) → length ts ≡ length ps → list_all is_numerical ts ≡ true → AreBelow (2 ^ 64) (map (λ p. p.1) ps) → IsSummary a (numerical_records ts ps) → list_all (is_sound_record categories.numerical (forced_of a)) (numerical_records ts ps) ≡ true
 unfolding IsSummary
 records-held (Dynamic i u) ts ps e h fit s = numbers-sound None (λ _. true) (λ t code n k p. refl) ts ps e h fit (passes (filter_map recorded_number (numerical_records ts ps)))
 records-held (StaticType kinds.I64) ts ps e h fit s = numbers-sound (Some types.i64) accepts_i64 held-i64 ts ps e h fit s
@@ -179,10 +180,10 @@ forced-numerical (Dynamic i u) t e = cc
 forced-numerical (StaticType kinds.I64) t e = ap category_of (sym (same_Some types.i64 t e))
 forced-numerical (StaticType kinds.U64) t e = ap category_of (sym (same_Some types.u64 t e))
 
-pub entry-sound : (a : CompatibleNumericalTypes) (ts : List ColumnType) (ps : List (ℕ × ℕ)) (start : Option ℤ) (now : Entry) (codes : List ℕ) → AreNumbers a ts ps start → numerical_entry a ts ps start ≡ now → list_all is_numerical ts ≡ true → codes ≡ map (λ p. p.1) ps → Fit (2 ^ 64) codes → IsSoundIn categories.numerical now
+pub entry-sound : (a : CompatibleNumericalTypes) (ts : List ColumnType) (ps : List (ℕ × ℕ)) (start : Option ℤ) (now : Entry) (codes : List ℕ) → AreNumbers a ts ps start → numerical_entry a ts ps start ≡ now → list_all is_numerical ts ≡ true → codes ≡ map (λ p. p.1) ps → AreBelow (2 ^ 64) codes → IsSoundIn categories.numerical now
 entry-sound a ts ps start now codes h is kinds are fit = subst (IsSoundIn categories.numerical) is (λ name utf8. record {
   name = utf8;
-  records = records-held a ts ps h.many kinds (subst (Fit (2 ^ 64)) are fit) h.summary;
+  records = records-held a ts ps h.many kinds (subst (AreBelow (2 ^ 64)) are fit) h.summary;
   forced = λ t e. forced-numerical a t e;
   tie_start = λ z e. refl;
 })

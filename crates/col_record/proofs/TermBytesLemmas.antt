@@ -1,13 +1,14 @@
 -- The bytes of the distinct texts of a column.
 use Rattle.std.proofs.Common.{◌≡◌, ◌<◌, ℕ, zero, suc, ◌+◌, ◌-◌, ◌^◌, List, [], ◌∷◌, length, map, Bool, true, false, Some, refl, sym, ◌∙◌, ap, arith}
 use Rattle.std.specs.Prelude.{nat_lt, nat_eq, ◌&&◌, ◌||◌, min, sum_by, bytes_eq}
-use Rattle.std.specs.List.{list_all, list_any, IsDistinct}
+use Rattle.std.specs.List.{list_any, IsDistinct}
 use Rattle.std.specs.Ordering.{nat_cmp, eq_by_cmp}
 use Rattle.std.specs.Cmp.Lexicographic.{slice_cmp}
 use Rattle.std.specs.FinMap.{nat_cmp-IsAntisymmetric, slice_cmp-IsAntisymmetric}
 use Rattle.std.proofs.lemmas.Bool.{and_parts, or_parts, or_left, or_right}
 use Rattle.std.proofs.lemmas.Cmp.{nat_list_cmp_total}
 use Rattle.std.proofs.lemmas.List.Sorted.{sum_by-IsPermutation}
+use Rattle.col_common.specs.Ascending.{are_below}
 use Rattle.col_model.specs.Sorted.{distinct_items}
 use Rattle.col_model.proofs.DistinctLaws.{same_distinct}
 use Rattle.col_model.proofs.TestLaws.{both-ways}
@@ -30,10 +31,10 @@ term-among p (t ∷ terms) zero h e = or_left (p t) (list_any p terms) e
 term-among p (t ∷ terms) (suc k) h e = or_right (p t) (list_any p terms) (term-among p terms k (omega arith) e)
 
 -- texts of ids are terms
-texts-are-terms : (p : List ℕ → Bool) (terms : List (List ℕ)) (ids : List ℕ) → list_all (λ id. nat_lt id (length terms)) ids ≡ true → list_any p (map (term_of terms) ids) ≡ true → list_any p terms ≡ true
+texts-are-terms : (p : List ℕ → Bool) (terms : List (List ℕ)) (ids : List ℕ) → are_below (length terms) ids ≡ true → list_any p (map (term_of terms) ids) ≡ true → list_any p terms ≡ true
 texts-are-terms p terms [] known e = cc
 texts-are-terms p terms (id ∷ ids) known e =
-    let parts = and_parts (nat_lt id (length terms)) (list_all (λ id. nat_lt id (length terms)) ids) known in
+    let parts = and_parts (nat_lt id (length terms)) (are_below (length terms) ids) known in
     by (p (term_of terms id)) refl (grind arith) e (texts-are-terms p terms ids parts.1)
   where
     by : (b : Bool) → p (term_of terms id) ≡ b → id < length terms → (b || list_any p (map (term_of terms) ids)) ≡ true → (list_any p (map (term_of terms) ids) ≡ true → list_any p terms ≡ true) → list_any p terms ≡ true

@@ -1,7 +1,7 @@
 -- Texts of a column, by the ids of their terms.
 use Rattle.std.proofs.Common.{◌≡◌, ◌<◌, ◌≤◌, ◌⊎◌, ℕ, suc, ◌+◌, ◌-◌, ◌^◌, List, [], ◌∷◌, ◌++◌, length, Bool, true, false, cond, Option, Result, Ok, Err, unwrap_or, refl, sym, ◌∙◌, ap, subst, arith, inl, inr, length-append, lt-ltb, le-leb, ⊎_elim}
 use Rattle.std.specs.Prelude.{nat_lt, nat_le, nat_eq, ◌&&◌, ◌||◌, not, slice_get, bytes_eq, OnOk, ⊤}
-use Rattle.std.specs.List.{list_all, list_any, IsDistinct}
+use Rattle.std.specs.List.{list_any, IsDistinct}
 use Rattle.std.proofs.lemmas.Map.Keys.{IsDistinct-push}
 use Rattle.std.proofs.lemmas.Cmp.{nat_list_eq_equiv}
 use Rattle.std.proofs.lemmas.Bool.{and_parts, and_from}
@@ -9,6 +9,7 @@ use Rattle.std.proofs.lemmas.List.Folds.{list_all-append, list_any-append}
 use Rattle.std.proofs.lemmas.Map.Steps.{le-length_from_below}
 use Rattle.std.proofs.lemmas.Option.{slice_get_within}
 use Rattle.std.proofs.lemmas.List.{length-map}
+use Rattle.col_common.specs.Ascending.{are_below}
 use Rattle.col_common.specs.declared.error.ColumnarError.{ColumnarError}
 use Rattle.col_common.specs.declared.error.ColumnarError.TheVariants as answers
 use Rattle.col_model.specs.Refusal.{Refusal, ◌>>=◌, refuse_if, doc_order, too_large}
@@ -64,11 +65,11 @@ not_past terms t few = let b : nat_le (2 ^ 32 - 1) (length terms) ≡ false = gr
     none false = refl
 
 -- terms keep their ids
-kept_terms : (old new : List (List ℕ)) (ps : List (ℕ × ℕ)) → ((k : ℕ) → k < length old → slice_get new k ≡ slice_get old k) → list_all (λ id. nat_lt id (length old)) (ids_of ps) ≡ true → texts_by_id new ps ≡ texts_by_id old ps
+kept_terms : (old new : List (List ℕ)) (ps : List (ℕ × ℕ)) → ((k : ℕ) → k < length old → slice_get new k ≡ slice_get old k) → are_below (length old) (ids_of ps) ≡ true → texts_by_id new ps ≡ texts_by_id old ps
 unfolding texts_by_id
 kept_terms old new [] stays known = refl
 kept_terms old new (p ∷ ps) stays known =
-    let parts = and_parts (nat_lt p.1 (length old)) (list_all (λ id. nat_lt id (length old)) (ids_of ps)) known in
+    let parts = and_parts (nat_lt p.1 (length old)) (are_below (length old) (ids_of ps)) known in
     let below : p.1 < length old = grind arith in
     λ i. (p.0, unwrap_or (stays p.1 below i) []) ∷ kept_terms old new ps stays parts.1 i
 
@@ -85,11 +86,11 @@ grown old t = by (is_known old t)
     by true = (omega arith, omega arith, λ h. absurd (omega arith))
     by false = (omega (arith, length-append old (t ∷ [])), omega (arith, length-append old (t ∷ [])), λ h. refl)
 
-all-raised : (m n : ℕ) (ids : List ℕ) → m ≤ n → list_all (λ id. nat_lt id m) ids ≡ true → list_all (λ id. nat_lt id n) ids ≡ true
+all-raised : (m n : ℕ) (ids : List ℕ) → m ≤ n → are_below m ids ≡ true → are_below n ids ≡ true
 all-raised m n [] h e = refl
 all-raised m n (id ∷ ids) h e =
-    let parts = and_parts (nat_lt id m) (list_all (λ id. nat_lt id m) ids) e in
-    and_from (nat_lt id n) (list_all (λ id. nat_lt id n) ids) (grind arith) (all-raised m n ids h parts.1)
+    let parts = and_parts (nat_lt id m) (are_below m ids) e in
+    and_from (nat_lt id n) (are_below n ids) (grind arith) (all-raised m n ids h parts.1)
 
 -- the place of a term that isn't there
 no_place : (t : List ℕ) (old : List (List ℕ)) → is_known old t ≡ false → id_of old t ≡ length old
@@ -122,7 +123,7 @@ ids-with old new ps d id t h a =
     let last : nat_lt id (length new) ≡ true = grind arith in
     record {
       differ = subst (IsDistinct bytes_eq) (sym a.terms) (still-differ old t h.differ);
-      known = ap (list_all (λ k. nat_lt k (length new))) all_ids ∙ list_all-append (λ k. nat_lt k (length new)) (ids_of ps) (id ∷ [])
+      known = ap (are_below (length new)) all_ids ∙ list_all-append (λ k. nat_lt k (length new)) (ids_of ps) (id ∷ [])
           ∙ and_from _ _ (all-raised (length old) (length new) (ids_of ps) more h.known) (and_from _ _ last refl);
       used = λ k lt. ap (list_any (nat_eq k)) all_ids ∙ list_any-append (nat_eq k) (ids_of ps) (id ∷ []) ∙ by k lt (nat_lt k (length old)) refl;
     }
@@ -180,4 +181,4 @@ pub no_texts-again : (terms : List (List ℕ)) (ps : List (ℕ × ℕ)) → term
 unfolding texts_by_id
 no_texts-again terms ps e f =
     let none : ids_of ps ≡ [] = ap ids_of f in
-    (ap (λ r. texts_by_id terms r) f, record { differ = subst (IsDistinct bytes_eq) (sym e) (none-differ tt); known = ap (list_all (λ id. nat_lt id (length terms))) none; used = λ id h. absurd (omega (arith, ap length e)) })
+    (ap (λ r. texts_by_id terms r) f, record { differ = subst (IsDistinct bytes_eq) (sym e) (none-differ tt); known = ap (are_below (length terms)) none; used = λ id h. absurd (omega (arith, ap length e)) })

@@ -1,8 +1,6 @@
 -- Columns whose entries are sound.
-use Rattle.std.specs.Prelude.{◌≡◌, ℕ, ◌<◌, IsTrue, true, List}
-use Rattle.std.specs.List.{AllByRecursion}
+use Rattle.std.specs.Prelude.{◌≡◌, ℕ, IsTrue, true, List}
 use Rattle.std.specs.Str.{is_utf8}
-use Rattle.col_common.specs.Ascending.{AreBelow}
 use Rattle.col_model.specs.ColumnType.{ColumnType, has_terms}
 use Rattle.col_model.specs.Category.{Category, category_of}
 use Rattle.col_model.specs.Soundness.{IsSoundEntry}
@@ -19,7 +17,3 @@ IsSoundIn c e = (name : List ℕ) → IsTrue (is_utf8 name)
 abbrev pub AreSoundTexts : Texts → Type 0
 AreSoundTexts texts = (t : ColumnType) → has_terms t ≡ true
     → IsSoundIn (category_of t) (text_entry t texts)
-
--- each number is below a limit
-abbrev pub Fit : ℕ → List ℕ → Type 0
-Fit limit numbers = AreBelow limit numbers

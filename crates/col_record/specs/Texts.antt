@@ -1,6 +1,7 @@
 -- Texts of a column.
-use Rattle.std.specs.Prelude.{◌≡◌, ◌<◌, nat_lt, nat_eq, ℕ, Bool, true, false, List, [], map, length, slice_get, unwrap_or, bytes_eq}
-use Rattle.std.specs.List.{list_all, list_any, IsDistinct}
+use Rattle.std.specs.Prelude.{◌≡◌, ◌<◌, nat_eq, ℕ, Bool, true, false, List, [], map, length, slice_get, unwrap_or, bytes_eq}
+use Rattle.std.specs.List.{list_any, IsDistinct}
+use Rattle.col_common.specs.Ascending.{are_below}
 
 -- texts beside their documents, in order of recording; whether the type was asked for; whether the
 -- texts of a row are sorted
@@ -28,7 +29,7 @@ ids_of ps = map (λ p. p.1) ps
 -- each id has a term, each term has an id, and no term is there twice
 pub record AreIds (terms : List (List ℕ)) (ps : List (ℕ × ℕ)) : Type 0 where
   pub differ : IsDistinct bytes_eq terms
-  pub known : list_all (λ id. nat_lt id (length terms)) (ids_of ps) ≡ true
+  pub known : are_below (length terms) (ids_of ps) ≡ true
   pub used : (id : ℕ) → id < length terms → list_any (nat_eq id) (ids_of ps) ≡ true
 
 -- terms and ids of which these are the texts

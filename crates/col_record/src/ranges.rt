@@ -1,19 +1,19 @@
 //! That numbers are as wide as their types.
 ghost use Rattle.std.specs.Prelude.{◌<◌, ◌^◌};
-ghost use Rattle.col_record.specs.SoundEntries.{Fit};
+ghost use Rattle.col_common.specs.Ascending.{AreBelow};
 
 use col_common::Ipv6Addr;
 
 // That each code fits 64 bits.
 pub(crate) fn codes_fit(codes: &[u64])
-    ensures { Fit (2 ^ 64) codes.now }
+    ensures { AreBelow (2 ^ 64) codes.now }
 {
     let _ = codes;
 }
 
 // That each address fits 128 bits. They are walked, since a list of them doesn't tell it.
 pub(crate) fn addresses_fit(addresses: &[Ipv6Addr])
-    ensures { Fit (2 ^ 128) addresses.now }
+    ensures { AreBelow (2 ^ 128) addresses.now }
 {
     for address in addresses {
         address_fits(*address);

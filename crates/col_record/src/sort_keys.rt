@@ -1,6 +1,6 @@
 //! Values as keys, by which documents are put in order.
-ghost use Rattle.std.specs.Prelude.{◌≡◌, ◌<◌, ℕ, List, Some, true, nat_lt, length, slice_get};
-ghost use Rattle.std.specs.List.{list_all};
+ghost use Rattle.std.specs.Prelude.{◌≡◌, ◌<◌, ℕ, List, Some, true, length, slice_get};
+ghost use Rattle.col_common.specs.Ascending.{are_below};
 ghost use Rattle.col_types.specs.Kinds.{numerical_kind_of};
 ghost use Rattle.col_record.specs.Sorting.{number_key, number_keys, time_keys, text_keys};
 
@@ -128,8 +128,8 @@ pub(crate) struct TextKeys<'a> {
 }
 
 impl<'a> Model for TextKeys<'a> {
-    ghost use Rattle.std.specs.Prelude.{◌≡◌, List, ℕ, nat_lt, true, length};
-    ghost use Rattle.std.specs.List.{list_all};
+    ghost use Rattle.std.specs.Prelude.{◌≡◌, List, ℕ, true, length};
+    ghost use Rattle.col_common.specs.Ascending.{are_below};
     ghost use Rattle.col_record.specs.Sorting.{text_keys};
 
     ghost Value = { List ℕ };
@@ -137,12 +137,12 @@ impl<'a> Model for TextKeys<'a> {
     ghost view = { λ k. text_keys k.mapping.now k.ids.now };
 
     ghost invariant = { λ k.
-        list_all (λ id. nat_lt id (length k.mapping.now)) k.ids.now ≡ true };
+        are_below (length k.mapping.now) k.ids.now ≡ true };
 }
 
 impl<'a> TextKeys<'a> {
     pub(crate) fn new(ids: &'a [u32], mapping: &'a TermIdMapping) -> TextKeys<'a>
-        requires { list_all (λ id. nat_lt id (length mapping.now)) ids.now ≡ true }
+        requires { are_below (length mapping.now) ids.now ≡ true }
         ensures { result ≡ text_keys mapping.now ids.now }
     {
         TextKeys { ids, mapping }
@@ -159,7 +159,7 @@ impl<'a> SortKeys for TextKeys<'a> {
 
 // The key of the text at a place.
 fn text_key_at(mapping: &TermIdMapping, ids: &[u32], place: usize) -> u128
-    requires known { list_all (λ id. nat_lt id (length mapping.now)) ids.now ≡ true }
+    requires known { are_below (length mapping.now) ids.now ≡ true }
     requires within { place < length ids.now }
     ensures key { slice_get (text_keys mapping.now ids.now) place ≡ Some result }
     ensures above { 0 < result }

@@ -1,6 +1,5 @@
 //! Widths, packed lists whose bytes are worked out by hand, and lookups in them.
 ghost use Rattle.std.specs.Prelude.{◌<◌, ◌^◌, IsTrue};
-ghost use Rattle.std.specs.List.{AllByRecursion};
 ghost use Rattle.col_common.specs.Ascending.{AreBelow};
 ghost use Rattle.col_bits.specs.Packed.{is_width};
 

@@ -1,5 +1,8 @@
 //! A lookup whose steps are counted in a ledger of its own.
-ghost use Rattle.std.specs.Prelude.{◌≡◌, ◌≤◌, ◌+◌, ◌<◌};
+ghost use Rattle.std.specs.Prelude.{◌≡◌, ◌≤◌, ◌+◌, ◌-◌, ◌^◌, ◌<◌};
+ghost use Rattle.col_common.specs.Replacing.{Replaces};
+ghost use Rattle.col_values.specs.Codes.{number_cmp};
+ghost use Rattle.col_values.specs.Values.{hits_between};
 
 use col_codecs::BitpackedReader;
 use col_common::{ColumnarError, Steps};
@@ -11,7 +14,10 @@ pub fn look_up(
     list: &BitpackedReader,
     values: (u64, u64),
     hits: &mut Vec<u32>,
-) -> Result<(), ColumnarError> {
+) -> Result<(), ColumnarError>
+    ensures { Replaces result hits.new.items
+        (hits_between number_cmp list.now values.0 values.1 0 (2 ^ 32 - 1)) }
+{
     look_up_from_no_step::<Brand>(list, values, hits, Blank::new(1))
 }
 
@@ -24,6 +30,8 @@ fn look_up_from_no_step<L: Ledger>(
     requires name { blank.name ≡ L.name }
     requires parts { blank.parts ≡ L.parts }
     requires some { 0 < blank.parts }
+    ensures { Replaces result hits.new.items
+        (hits_between number_cmp list.now values.0 values.1 0 (2 ^ 32 - 1)) }
 {
     look_up_in_two_steps(list, values, hits, &mut Steps::<L>::new(blank))
 }
@@ -35,7 +43,9 @@ fn look_up_in_two_steps<L: Ledger>(
     hits: &mut Vec<u32>,
     steps: &mut Steps<L>,
 ) -> Result<(), ColumnarError>
-    ensures { steps.new ≤ steps.old + 2 }
+    ensures ok { Replaces result hits.new.items
+        (hits_between number_cmp list.now values.0 values.1 0 (2 ^ 32 - 1)) }
+    ensures steps { steps.new ≤ steps.old + 2 }
 {
     list.get_row_ids_counted(values.0..=values.1, 0..u32::MAX, hits, steps)
 }

@@ -3,6 +3,7 @@
 
 #[cfg(test)]
 mod compact;
+pub mod counting;
 #[cfg(test)]
 mod terms;
 #[cfg(test)]

@@ -1,16 +1,16 @@
 -- The bytes of columns of terms, part by part.
-use Rattle.std.proofs.Common.{◌≡◌, ℕ, ◌<◌, ◌&&◌, nat_lt, Bool, true, List, [], ◌∷◌, length, sum, take, drop, get_or, unwrap_or, Some, None, option_map, refl, sym, ap, ◌∙◌, subst, arith}
+use Rattle.std.proofs.Common.{◌≡◌, ℕ, ◌&&◌, nat_lt, Bool, true, List, [], ◌∷◌, length, sum, take, drop, unwrap_or, Some, None, option_map, refl, sym, ap, ◌∙◌, subst, arith}
 use Rattle.std.specs.Int.{w32}
-use Rattle.std.specs.List.{All, list_all}
-use Rattle.std.proofs.lemmas.Bool.{ltb-true}
+use Rattle.std.specs.List.{list_all}
+use Rattle.std.proofs.lemmas.Bool.{ltb-true, and_parts}
 use Rattle.std.proofs.lemmas.Bool.Decides.{nat_tests}
 use Rattle.std.proofs.lemmas.List.{length-drop, take-append-drop}
 use Rattle.std.proofs.lemmas.List.Folds.{list_all-append}
-use Rattle.std.proofs.lemmas.List.Sums.{sum_by-cons, AllPass-from_list_all}
+use Rattle.std.proofs.lemmas.List.Sums.{sum_by-cons}
 use Rattle.col_column.specs.Columns.{Seen, IsCounted, counts_by, rows_by}
 use Rattle.col_column.specs.Opened.{counted_rows}
 use Rattle.col_common.specs.Reading.{only_if, parts_by_first}
-use Rattle.col_common.specs.Ascending.{is_ascending, AreBelow}
+use Rattle.col_common.specs.Ascending.{is_ascending, AreBelow, are_below}
 use Rattle.col_model.specs.Column.{number_rows, term_column, column}
 use Rattle.col_model.specs.ColumnType as types
 use Rattle.col_model.specs.Dictionary.{cut, terms}
@@ -63,7 +63,7 @@ module _ (bytes : List ℕ) (version rows : ℕ) where
       without_rows e = rw (parts, are, e) refl
 
       -- Ordinals that are read, behind the terms: the column's index counts them, and a test tells whether all are below the count of terms.
-      pub with_rows : (s : Shape) (v : NumValues ℕ) (c : Seen (NumValues ℕ)) (below : Bool) → record { shape = s; values = v } ≡ c → IsCounted s (length (num_values_of v)) → number_rows b types.bytes version rows ≡ Some (counted_rows c.shape (num_values_of c.values)) → below ≡ list_all (λ n. nat_lt n (length found)) (num_values_of c.values) → column bytes types.bytes version rows ≡ only_if below (texts_content (record { terms = found; ords = c }))
+      pub with_rows : (s : Shape) (v : NumValues ℕ) (c : Seen (NumValues ℕ)) (below : Bool) → record { shape = s; values = v } ≡ c → IsCounted s (length (num_values_of v)) → number_rows b types.bytes version rows ≡ Some (counted_rows c.shape (num_values_of c.values)) → below ≡ are_below (length found) (num_values_of c.values) → column bytes types.bytes version rows ≡ only_if below (texts_content (record { terms = found; ords = c }))
       unfolding column term_column
       with_rows s v c below is counted e tested =
           let same = subst (λ (c : Seen (NumValues ℕ)). IsCounted c.shape (length (num_values_of c.values))) is counted in
@@ -78,8 +78,10 @@ terms-ascend bytes ts e =
     let same : terms_of bytes ≡ ts = ap (λ o. unwrap_or o []) e in
     ap is_ascending (sym same) ∙ table_ascending bytes (length ts) (table_counted bytes (length ts) (sym (ap (option_map length) e)))
 
-pub ordinals-below : (k : ℕ) (xs : List ℕ) → true ≡ list_all (λ n. nat_lt n k) xs → AreBelow k xs
-ordinals-below k xs e i d within = ltb-true (get_or xs i d) k (AllPass-from_list_all (λ n. nat_lt n k) xs (sym e) i d within)
+-- numbers that pass the test are below the bound
+pub ordinals-below : (k : ℕ) (xs : List ℕ) → true ≡ are_below k xs → AreBelow k xs
+ordinals-below k [] e = tt
+ordinals-below k (x ∷ xs) e = let parts = and_parts (nat_lt x k) (are_below k xs) (sym e) in (ltb-true x k parts.0, ordinals-below k xs (sym parts.1))
 
 -- numbers are below what the greatest one is below
 pub below_greatest : (greatest n k : ℕ) → IsAtMost number_cmp n greatest → nat_lt greatest k ≡ true → nat_lt n k ≡ true

@@ -3,7 +3,7 @@ use Rattle.std.proofs.Common.{◌≡◌, ℕ, zero, suc, ◌-◌, ◌<◌, ◌�
 use Rattle.std.specs.List.{All, AllByRecursion, list_any, range_with_len}
 use Rattle.std.proofs.lemmas.Bool.Decides.{nat_tests}
 use Rattle.std.proofs.lemmas.List.{length-map}
-use Rattle.std.proofs.lemmas.List.Elements.{All-take, All-drop, filter_agree, recursion_from_All}
+use Rattle.std.proofs.lemmas.List.Elements.{All-take, All-drop, filter_agree, recursion_from_All, All-from_recursion}
 use Rattle.std.proofs.lemmas.List.Folds.{list_any_none}
 use Rattle.std.proofs.Math.Bool.{and-false}
 use Rattle.col_column.proofs.RowLemmas.{row_at-cut}
@@ -82,7 +82,7 @@ module _ (c : Texts) (are : AreOrdinals c.terms c.ords) (low high : List ℕ) (f
   all-tested : (test : ℕ → Bool) → ((n : ℕ) → test n ≡ tested n) → All (λ n. test n ≡ lookup.is_between (text low) (text high) (term_cell c.terms n)) (num_values_of c.ords.values)
   all-tested test same k d within =
       let n = get_or (num_values_of c.ords.values) k d in
-      let below : n < length c.terms = are.below k d within in
+      let below : n < length c.terms = All-from_recursion (λ n. n < length c.terms) (num_values_of c.ords.values) are.below k d within in
       same n ∙ sym (ap₂ (λ a b. a && b) (starts n below) (ends n below))
 
   by_test : (test : ℕ → Bool) → ((n : ℕ) → test n ≡ tested n) → docs_passing test (rows_in num_values_of c.ords) from to ≡ lookup.docs_between (texts_content c) (text low) (text high) from to

@@ -1,6 +1,5 @@
 -- Columns of terms: a dictionary, and a column of ordinals.
 use Rattle.std.specs.Prelude.{◌≡◌, ◌⊎◌, ℕ, ◌<◌, nat_le, nat_lt, Bool, true, false, List, [], length, String, string_bytes, Option, Some, None, Result, Ok, Err}
-use Rattle.std.specs.List.{All}
 use Rattle.std.specs.Str.{IsUtf8}
 use Rattle.std.specs.declared.alloc.Global.{Global}
 use Rattle.col_common.specs.declared.error.ColumnarError.{ColumnarError}

@@ -1,5 +1,5 @@
 //! Columns of terms: a dictionary, and a column of the ordinals of terms in it.
-ghost use Rattle.std.specs.Prelude.{◌≡◌, ◌<◌, [], nat_lt, length, slice_get, unwrap_or, IfOk, IfErr, OnOk};
+ghost use Rattle.std.specs.Prelude.{◌≡◌, ◌<◌, [], nat_lt, true, length, slice_get, unwrap_or, IfOk, IfErr, OnOk};
 ghost use Rattle.std.specs.Str.{IsUtf8};
 ghost use Rattle.col_common.specs.Ascending.{is_rising};
 ghost use Rattle.col_common.specs.Replacing.{Replaces};

@@ -6,4 +6,4 @@ mod dictionary_encoded;
 mod open;
 
 pub use dictionary_encoded::{BytesColumn, StrColumn};
-pub use open::{open_column_bytes, open_column_str};
+pub use open::{cut_dictionary, open_column_bytes, open_column_str};

@@ -1,7 +1,7 @@
 //! Reads the bytes of columns of terms.
-ghost use Rattle.std.specs.Prelude.{◌≡◌, nat_lt, length};
+ghost use Rattle.std.specs.Prelude.{◌≡◌, length};
 ghost use Rattle.std.specs.Int.{w32, from_le_bytes};
-ghost use Rattle.std.specs.List.{list_all};
+ghost use Rattle.col_common.specs.Ascending.{are_below};
 ghost use Rattle.col_common.specs.Decoding.{Decodes};
 ghost use Rattle.col_common.specs.Reading.{parts_by_first};
 ghost use Rattle.col_index.specs.Versions.{version_number};
@@ -68,15 +68,15 @@ fn open_texts(
 // Whether each value is the ordinal of a term, which the greatest one tells.
 fn are_ordinals(dictionary: &Dictionary, ords: &NumColumn<u64>) -> bool
     ensures { result
-        ≡ list_all (λ n. nat_lt n (length dictionary.now)) (num_values_of ords.now.values) }
+        ≡ are_below (length dictionary.now) (num_values_of ords.now.values) }
 {
     let values = ords.values();
     values.num_vals() == 0 || values.max_value() < dictionary.num_terms() as u64
 }
 
-// The dictionary and the bytes behind it, behind which the dictionary's length stands.
+/// The dictionary and the bytes behind it, behind which the dictionary's length stands.
 #[tactic(auto, unfolding(col_common::specs::Reading::parts_by_first))]
-fn cut_dictionary(bytes: Bytes) -> Result<(Bytes, Bytes), ColumnarError>
+pub fn cut_dictionary(bytes: Bytes) -> Result<(Bytes, Bytes), ColumnarError>
     ensures { Decodes (λ p. (p.0, p.1)) result (parts_by_first w32 bytes) }
 {
     let mut parts = bytes;

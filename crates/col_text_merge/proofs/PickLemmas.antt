@@ -2,7 +2,6 @@
 use Rattle.std.proofs.Common.{◌≡◌, ◌⊎◌, ℕ, zero, suc, ◌<◌, nat_lt, true, false, List, [], ◌∷◌, map, length, take, drop, is_some, unwrap_or, option_map, Some, slice_get, refl, sym, ap, ◌∙◌, subst, inl, inr, arith}
 use Rattle.std.specs.List.{AllByRecursion, list_all}
 use Rattle.std.proofs.lemmas.Bool.{true≢false, and_parts}
-use Rattle.std.proofs.lemmas.List.Elements.{recursion_from_All}
 use Rattle.std.proofs.lemmas.Option.{slice_get-map}
 use Rattle.col_model.specs.Dictionary.{cut}
 use Rattle.col_model.specs.Index.{Shape, empty_shape}
@@ -46,7 +45,7 @@ some-below (x ∷ xs) (suc i) h = some-below xs i (omega (arith, h))
 
 picked-below : (columns : List Texts) (k d o : ℕ) → AllByRecursion AreTold columns → IsIn o (picked_row (term_columns columns) (k, d)) → is_some (item_at (terms_of columns) (k, o)) ≡ true
 picked-below [] k d o told i = absurd (in-row {X = ℕ} (empty_shape 0) [] d o i)
-picked-below (c ∷ cs) zero d o told i = some-below c.terms o (in-all (λ n. n < length c.terms) o (ords_of c) (in-row c.ords.shape (ords_of c) d o i) (recursion_from_All (λ n. n < length c.terms) (ords_of c) told.0.ordinals.below))
+picked-below (c ∷ cs) zero d o told i = some-below c.terms o (in-all (λ n. n < length c.terms) o (ords_of c) (in-row c.ords.shape (ords_of c) d o i) told.0.ordinals.below)
 picked-below (c ∷ cs) (suc k) d o told i = picked-below cs k d o told.1 i
 
 -- places of picked rows have terms

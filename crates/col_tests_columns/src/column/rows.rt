@@ -1,12 +1,12 @@
 //! What columns answer of their documents.
 
-use crate::column::counting::Counting;
 use col_column::{
     Column, IpColumn, IpValues, NumColumn, count_doc_values, lookups_are_those_of_cells,
 };
 use col_common::{ColumnarError, DocId, Ipv6Addr};
 use col_index::{ColumnIndex, MultiValueIndex};
 use col_numbers::NumValues;
+use col_tests_values::counting::Counting;
 use col_values::{ColumnValues, VecColumn};
 use std::alloc::Global;
 use std::cell::Cell;

@@ -1,6 +1,6 @@
 //! Lists of values, by examples.
 
-use crate::values::counting::Counting;
+use crate::counting::Counting;
 use crate::values::doubling::Doubling;
 use col_common::Iterable;
 use col_values::{ColumnValues, EmptyColumnValues, VecColumn, count_items, monotonic_map_column};
