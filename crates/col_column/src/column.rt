@@ -22,6 +22,7 @@ use col_values::{
     ColumnValues, EmptyColumnValues, MonotonicColumn, MonotonicallyMappableToU64,
     StrictlyMonotonicMappingToInternal, monotonic_map_column,
 };
+use std::alloc::AllocError;
 use std::marker::{Model, PhantomData};
 use std::ops::{Range, RangeInclusive};
 
@@ -184,7 +185,7 @@ where
         doc_ids: &[DocId],
         doc_ids_out: &mut Vec<DocId>,
         row_ids: &mut Vec<RowId>,
-    ) -> Result<(), ColumnarError>
+    ) -> Result<(), AllocError>
         ensures { AppendsBoth doc_ids_out.old.items doc_ids_out.new.items
             row_ids.old.items row_ids.new.items result
             (docs_of (positions_of_rows self.now.shape doc_ids.now))
