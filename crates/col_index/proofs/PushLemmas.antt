@@ -21,9 +21,9 @@ pub begins-more : (new found front more later : List ℕ) → new ≡ found ++ l
 begins-more new found front more later n e = (more ++ later, n ∙ ap (λ xs. xs ++ later) e ∙ append_assoc front more later)
 
 -- want of memory
-pub pushes-stopped : {docs_old docs_new rows_old rows_new docs rows : List ℕ} {Q : AllocError → Type 0} (r : Result (Unit {0}) AllocError) → IsErrAnd r Q → BeginsWith docs_new docs_old → BeginsWith rows_new rows_old → PushesBoth docs_old docs_new rows_old rows_new r docs rows
-pushes-stopped (Ok v) h p q = absurd h
-pushes-stopped (Err e) h p q = record { docs = tt; rows = tt; err = (p, q) }
+pub pushes-stopped : {docs_old docs_new rows_old rows_new docs rows : List ℕ} (Q : AllocError → Type 0) (r : Result (Unit {0}) AllocError) → IsErrAnd r Q → BeginsWith docs_new docs_old → BeginsWith rows_new rows_old → PushesBoth docs_old docs_new rows_old rows_new r docs rows
+pushes-stopped Q (Ok v) h p q = absurd h
+pushes-stopped Q (Err e) h p q = record { docs = tt; rows = tt; err = (p, q) }
 
 -- ---- a run, one position after another
 

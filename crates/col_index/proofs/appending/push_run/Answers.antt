@@ -5,13 +5,13 @@ use Rattle.col_index.proofs.appending.push_run.Goals as goal
 
 pub returns-in_err-push : goal.returns-in_err-push
 returns-in_err-push c =
-    pushes-stopped c.from_residual-in_err-push.result c.from_residual-in_err-push.ensures.1
+    pushes-stopped _ c.from_residual.result c.from_residual.ensures.1
     (begins-same _ _ _ _ c.in_err-push.ensures.items c.loop-position.invariant.docs)
     (begins-same _ _ _ _ refl c.loop-position.invariant.rows)
 
 pub returns-in_err-push-2 : goal.returns-in_err-push-2
 returns-in_err-push-2 c =
-    pushes-stopped c.from_residual-in_err-push-2.result c.from_residual-in_err-push-2.ensures.1
+    pushes-stopped _ c.from_residual-in_err-push-2.result c.from_residual-in_err-push-2.ensures.1
     (begins-more _ _ _ _ _ c.in_ok-push.ensures.items c.loop-position.invariant.docs)
     (begins-same _ _ _ _ c.in_err-push-2.ensures.items c.loop-position.invariant.rows)
 

@@ -42,7 +42,7 @@ range_at-positions-requires c =
 
 pub returns-in_err-push_run : goal.returns-in_err-push_run
 returns-in_err-push_run c =
-    pushes-stopped c.from_residual.result c.from_residual.ensures.1
+    pushes-stopped _ c.from_residual.result c.from_residual.ensures.1
     (begins_later _ _ _ _ c.loop-doc.invariant.docs c.in_err-push_run.ensures.err.0)
     (begins_later _ _ _ _ c.loop-doc.invariant.rows c.in_err-push_run.ensures.err.1)
 

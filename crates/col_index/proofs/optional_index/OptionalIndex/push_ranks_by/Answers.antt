@@ -10,7 +10,7 @@ returns-in_err-push_pair c =
     let rows = c.args.self.now.rows in
     let front = take c.loop-doc.doc-index c.args.docs.now in
     let told = c.in_err-push_pair.ensures.err in
-    pushes-stopped c.from_residual.result c.from_residual.ensures.1
+    pushes-stopped _ c.from_residual.result c.from_residual.ensures.1
     (begins_later c.loop-doc.docs_out.items c.push_pair.new.docs_out.items c.args.docs_out.now.items (held rows front) c.loop-doc.invariant.docs told.0)
     (begins_later c.loop-doc.rows_out.items c.push_pair.new.rows_out.items c.args.rows_out.now.items (held_ranks rows front) c.loop-doc.invariant.rows told.1)
 
