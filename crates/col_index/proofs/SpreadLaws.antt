@@ -1,5 +1,5 @@
 -- Counts of rows, of which some have a value.
-use Rattle.std.proofs.Common.{◌≡◌, ℕ, zero, suc, ◌+◌, ◌<◌, ◌≤◌, ◌==◌, ◌||◌, nat_lt, true, cond, List, [], ◌∷◌, length, take, get_or, zip, find, unwrap_or, option_map, Some, refl, sym, ap, ◌∙◌, subst, inl, inr, arith}
+use Rattle.std.proofs.Common.{◌≡◌, ℕ, zero, suc, ◌+◌, ◌≤◌, ◌==◌, ◌||◌, nat_lt, true, cond, List, [], ◌∷◌, length, take, get_or, zip, find, unwrap_or, option_map, Some, refl, sym, ap, ◌∙◌, subst, inl, inr, arith}
 use Rattle.std.specs.List.{AllByRecursion, sum, list_all}
 use Rattle.std.proofs.lemmas.Bool.{ltb-true, eq-eqb, ne_eqb, cases_order, and_parts}
 use Rattle.std.proofs.lemmas.List.Sums.{sum_by-cons}
