@@ -1,8 +1,8 @@
 -- Numbers that rise below a bound, one after another.
-use Rattle.std.proofs.Common.{◌≡◌, ℕ, ◌+◌, ◌<◌, ◌≤◌, ◌==◌, ◌&&◌, nat_eq, nat_lt, nat_le, Bool, true, false, List, [], ◌∷◌, length, refl, sym, ap, ◌∙◌, inl, inr, arith}
+use Rattle.std.proofs.Common.{◌≡◌, ℕ, ◌+◌, ◌<◌, ◌≤◌, ◌&&◌, nat_eq, nat_lt, nat_le, Bool, true, false, List, [], ◌∷◌, refl, sym, ap, ◌∙◌, inl, inr, arith}
 use Rattle.std.specs.List.{starts_with}
 use Rattle.std.proofs.Math.Bool.{and-true}
-use Rattle.std.proofs.lemmas.Bool.{lt-ltb, le-ltb, le-leb, lt-leb, eq-eqb, ne_eqb, cases_lt}
+use Rattle.std.proofs.lemmas.Bool.{lt-ltb, le-ltb, le-leb, lt-leb, eq-eqb, ne_eqb, cases_lt, cases_eq}
 use Rattle.col_common.specs.Ascending.{is_rising, are_below}
 
 -- from the next that may come on: they rise, and stay below the bound
@@ -45,6 +45,12 @@ module _ (bound next x : ℕ) (left after : List ℕ) (e : left ≡ x ∷ after)
   pub rise_more : next ≤ x → x < bound → rise_from next bound left ≡ rise_from (x + 1) bound after
   rise_more h k = rw (e, le-leb next x h, lt-ltb x bound k) refl
 
+flipped : (x : ℕ) → nat_eq 0 x ≡ nat_eq x 0
+flipped x = elim (cases_eq x 0) [
+  | inl e ↦ eq-eqb 0 x (sym e) ∙ sym (eq-eqb x 0 e)
+  | inr n ↦ ne_eqb 0 x (λ e. n (sym e)) ∙ sym (ne_eqb x 0 n)
+]
+
 -- a list begins with 0 where its first item is 0
 pub zero_first : (x : ℕ) (xs after : List ℕ) → xs ≡ x ∷ after → starts_with nat_eq xs (0 ∷ []) ≡ nat_eq x 0
-zero_first x xs after e = ap (λ l. starts_with nat_eq l (0 ∷ [])) e ∙ and-true (nat_eq x 0)
+zero_first x xs after e = ap (λ l. starts_with nat_eq l (0 ∷ [])) e ∙ (and-true (nat_eq 0 x) ∙ flipped x)
