@@ -1,5 +1,5 @@
 -- How many rows a column has that was opened.
-use Rattle.std.proofs.Common.{◌≡◌, ℕ, ◌∙◌, Bool, true, false, List, [], map, length, Option, Some, Result, Ok, Err, IfOk, sym, ap, refl}
+use Rattle.std.proofs.Common.{◌≡◌, ℕ, ◌∙◌, Bool, true, false, List, [], map, length, Option, Some, None, Result, Ok, Err, IfOk, IfSome, sym, ap, subst}
 use Rattle.std.specs.Prelude.{if◌then◌else◌}
 use Rattle.std.specs.Int.{w32}
 use Rattle.std.specs.List.{list_all}
@@ -7,20 +7,24 @@ use Rattle.std.proofs.lemmas.List.{length-map}
 use Rattle.col_common.specs.Decoding.{Decodes}
 use Rattle.col_common.specs.Reading.{◌>>=◌, only_if, parts_by_first}
 use Rattle.col_common.specs.declared.error.ColumnarError.{ColumnarError}
+use Rattle.col_common.specs.declared.error.ColumnarError.TheVariants.{OutOfMemory, InvalidData}
 use Rattle.col_column.specs.Columns.{row_count}
 use Rattle.col_dynamic.specs.Dynamic.{type_of, content_of, dynamic_shape, value_count}
 use Rattle.col_dynamic.specs.declared.dynamic_column.DynamicColumn.{DynamicColumn}
-use Rattle.col_dynamic.specs.declared.dynamic_column.DynamicColumn.TheVariants as columns
 use Rattle.col_common.specs.Ascending.{are_below}
 use Rattle.col_model.specs.Column.{number_cell, term_cell, number_rows, content_of as content_from, term_column, column}
 use Rattle.col_model.specs.ColumnType.{ColumnType, has_terms}
 use Rattle.col_model.specs.Dictionary.{terms}
 use Rattle.col_model.specs.Index.{Counts}
+use Rattle.col_model.specs.Keys.{FileKeys}
 use Rattle.col_model.specs.Table.{Cell, Content}
 use Rattle.col_model.proofs.DecodedColumns.{rows-are}
 use Rattle.col_model.proofs.DecodedNumbers.{step-of, if-of}
 use Rattle.col_model.proofs.SharedTypes.{same-some}
-use Rattle.col_file.specs.Columns.{IsTyped}
+use Rattle.col_open.specs.Contents.{DecodesTo}
+use Rattle.col_file.specs.Columns.{IsTyped, bytes_at, content_at}
+use Rattle.col_file.specs.Files.{SeenFile, IsExpected, Answers}
+use Rattle.col_file.specs.Handles.{Handle}
 use Rattle.col_dynamic.proofs.RowLemmas.{seen-rows}
 
 -- rows that are read are as many as are told
@@ -62,3 +66,38 @@ opened-rows bytes t version n c e = sym (seen-rows c) ∙ column-rows bytes t ve
 pub opened-typed : (bytes : List ℕ) (t : ColumnType) (version n : ℕ) (u : ColumnType) (m : ℕ) (r : Result DynamicColumn ColumnarError) → t ≡ u → n ≡ m → Decodes content_of r (column bytes t version n) → IfOk r (λ c. type_of c ≡ t) → IfOk r (IsTyped u m)
 opened-typed bytes t version n u m (Ok c) types rows decoded kind = record { kind = kind ∙ types; rows = opened-rows bytes t version n c decoded ∙ rows }
 opened-typed bytes t version n u m (Err e) types rows decoded kind = tt
+
+-- what is made of the bytes that a file gives is an answer of the file
+answers-then : {T V : Type 0} (IsOf : V → T → Type 0) (old new : SeenFile) (given : List ℕ → Option (List ℕ)) (read : List ℕ → Option V) (part : List ℕ) (r : Result T ColumnarError) → IfSome old.told (λ bytes. IsExpected (λ (expected p : List ℕ). p ≡ expected) part (given bytes)) → DecodesTo IsOf r (read part) → Answers IsOf old new r (λ bytes. given bytes >>= read)
+answers-then {T} {V} IsOf old new given read part (Ok made) h d = at old.told h
+  where
+    expected : (o : Option V) → DecodesTo IsOf (Ok made) o → IsExpected IsOf made o
+    expected None e = e
+    expected (Some v) e = e
+
+    behind : (o : Option (List ℕ)) → IsExpected (λ (expected p : List ℕ). p ≡ expected) part o → IsExpected IsOf made (o >>= read)
+    behind None e = e
+    behind (Some p) e = subst (λ q. IsExpected IsOf made (read q)) e (expected (read part) d)
+
+    at : (t : Option (List ℕ)) → IfSome t (λ bytes. IsExpected (λ (expected p : List ℕ). p ≡ expected) part (given bytes)) → IfSome t (λ bytes. IsExpected IsOf made (given bytes >>= read))
+    at None h = tt
+    at (Some bytes) h = behind (given bytes) h
+answers-then IsOf old new given read part (Err OutOfMemory) h d = tt
+answers-then {T} {V} IsOf old new given read part (Err InvalidData) h d = at old.told h
+  where
+    behind : (o : Option (List ℕ)) → IsExpected (λ (expected p : List ℕ). p ≡ expected) part o → (o >>= read) ≡ None
+    behind None e = absurd e
+    behind (Some p) e = ap read (sym e) ∙ d
+
+    at : (t : Option (List ℕ)) → IfSome t (λ bytes. IsExpected (λ (expected p : List ℕ). p ≡ expected) part (given bytes)) → IfSome t (λ bytes. (given bytes >>= read) ≡ None)
+    at None h = tt
+    at (Some bytes) h = behind (given bytes) h
+answers-then IsOf old new given read part (Err _) h d = absurd d
+
+-- what a decoder of columns made of a handle's bytes is an answer of its file
+pub answers-opened : {T : Type 0} (IsOf : ColumnType → Content → T → Type 0) (old new : SeenFile) (k : FileKeys) (h : Handle) (bytes : List ℕ) (t : ColumnType) (version n : ℕ) (r : Result T ColumnarError) → t ≡ h.column_type → version ≡ k.version → n ≡ k.row_count → Answers (λ (expected p : List ℕ). p ≡ expected) old new (Ok bytes) (bytes_at k h) → DecodesTo (IsOf t) r (column bytes t version n) → Answers (IsOf h.column_type) old new r (content_at k h)
+answers-opened IsOf old new k h bytes t version n r types versions rows given d =
+    answers-then (IsOf h.column_type) old new (bytes_at k h) (λ part. column part h.column_type k.version k.row_count) bytes r given
+    (subst (λ u. DecodesTo (IsOf u) r (column bytes u k.version k.row_count)) types
+    (subst (λ v. DecodesTo (IsOf t) r (column bytes t v k.row_count)) versions
+    (subst (λ m. DecodesTo (IsOf t) r (column bytes t version m)) rows d)))
