@@ -1,7 +1,7 @@
 use Rattle.std.proofs.Common.{◌∙◌, ap}
 use Rattle.col_bits.specs.Packed.{item}
 use Rattle.col_bits.proofs.WordLemmas.{item_in_word}
-use Rattle.col_bits.proofs.bitpacker.BitUnpacker.item_at.Goals as goal
+use Rattle.col_bits.proofs.bit_unpacker.BitUnpacker.item_at.Goals as goal
 
 pub returns : goal.returns
 returns g c =

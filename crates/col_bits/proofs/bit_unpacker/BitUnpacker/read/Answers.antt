@@ -1,7 +1,7 @@
 use Rattle.std.proofs.Common.{◌≡◌, take, ap, sym, ◌∙◌, arith}
 use Rattle.col_bits.specs.Packed.{items}
 use Rattle.col_bits.proofs.ItemLemmas.{items_more}
-use Rattle.col_bits.proofs.bitpacker.BitUnpacker.read.Goals as goal
+use Rattle.col_bits.proofs.bit_unpacker.BitUnpacker.read.Goals as goal
 
 pub loop-i-preserved : goal.loop-i-preserved
 loop-i-preserved g c =

@@ -1,7 +1,7 @@
 use Rattle.std.proofs.Common.{◌++◌, ◌+◌, ◌-◌, ap, sym, ◌∙◌, arith}
 use Rattle.col_bits.specs.Packed.{ids_between}
 use Rattle.col_bits.proofs.ItemLemmas.{ids_none, ids_joined}
-use Rattle.col_bits.proofs.bitpacker.BitUnpacker.get_ids_for_value_range.Goals as goal
+use Rattle.col_bits.proofs.bit_unpacker.BitUnpacker.get_ids_for_value_range.Goals as goal
 
 pub loop-from-init : goal.loop-from-init
 loop-from-init c =

@@ -1,6 +1,6 @@
 use Rattle.std.proofs.Common.{◌≡◌, ◌≤◌, ℕ, ◌+◌, ◌-◌, ◌*◌, ◌/◌, ◌%◌, length, take, sym, arith, refl, subst}
 use Rattle.col_bits.proofs.GroupLemmas.{room_for_groups, items_joined}
-use Rattle.col_bits.proofs.bitpacker.BitUnpacker.read_in_groups.Goals as goal
+use Rattle.col_bits.proofs.bit_unpacker.BitUnpacker.read_in_groups.Goals as goal
 
 pub read_groups_by_width-requires-clause-padded : goal.read_groups_by_width-requires-clause-padded
 read_groups_by_width-requires-clause-padded c =

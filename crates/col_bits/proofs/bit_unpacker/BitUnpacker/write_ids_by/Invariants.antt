@@ -1,6 +1,6 @@
 use Rattle.std.proofs.Common.{◌≡◌, ◌≤◌, ◌++◌, ◌+◌, ◌-◌, take}
 use Rattle.col_bits.specs.Packed.{ids_between}
-use Rattle.col_bits.proofs.bitpacker.BitUnpacker.write_ids_by.Given as goal
+use Rattle.col_bits.proofs.bit_unpacker.BitUnpacker.write_ids_by.Given as goal
 
 -- behind what was there stand the ids so far, and not more than were tested
 abbrev pub invariant-loop-id : goal.invariant-loop-id

@@ -1,6 +1,6 @@
 use Rattle.std.proofs.Common.{◌≡◌, ◌≤◌, ◌-◌, max}
 use Rattle.col_bits.specs.Packed.{ids_between}
-use Rattle.col_bits.proofs.bitpacker.BitUnpacker.get_ids_for_value_range.Given as goal
+use Rattle.col_bits.proofs.bit_unpacker.BitUnpacker.get_ids_for_value_range.Given as goal
 
 -- what is found are the ids of the blocks so far; with reversed ends there is no block
 abbrev pub invariant-loop-from : goal.invariant-loop-from

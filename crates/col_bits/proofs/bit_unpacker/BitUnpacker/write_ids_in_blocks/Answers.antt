@@ -1,6 +1,6 @@
 use Rattle.std.proofs.Common.{ℕ, ◌+◌, ◌-◌, ◌*◌, ◌/◌, take, arith, refl}
 use Rattle.col_bits.proofs.GroupLemmas.{blocks_and_rest}
-use Rattle.col_bits.proofs.bitpacker.BitUnpacker.write_ids_in_blocks.Goals as goal
+use Rattle.col_bits.proofs.bit_unpacker.BitUnpacker.write_ids_in_blocks.Goals as goal
 
 pub returns-clause-front : goal.returns-clause-front
 returns-clause-front c =

@@ -1,6 +1,6 @@
 use Rattle.std.proofs.Common.{◌≡◌, take}
 use Rattle.col_bits.specs.Packed.{items}
-use Rattle.col_bits.proofs.bitpacker.BitUnpacker.read.Given as goal
+use Rattle.col_bits.proofs.bit_unpacker.BitUnpacker.read.Given as goal
 
 -- what is written are the items so far
 abbrev pub invariant-loop-i : goal.invariant-loop-i

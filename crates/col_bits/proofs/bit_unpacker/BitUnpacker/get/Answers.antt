@@ -1,6 +1,6 @@
 use Rattle.std.proofs.Common.{◌∙◌, sym}
 use Rattle.col_bits.proofs.WindowLemmas.{packed-at}
-use Rattle.col_bits.proofs.bitpacker.BitUnpacker.get.Goals as goal
+use Rattle.col_bits.proofs.bit_unpacker.BitUnpacker.get.Goals as goal
 
 pub returns-clause-packed : goal.returns-clause-packed
 returns-clause-packed c n items below e =

@@ -1,6 +1,6 @@
 use Rattle.std.proofs.Common.{◌++◌, ◌+◌, ◌-◌, take, ap, sym, ◌∙◌, arith, append-nil}
 use Rattle.col_bits.proofs.ItemLemmas.{ids_none, ids_outside, ids_more, kept_within}
-use Rattle.col_bits.proofs.bitpacker.BitUnpacker.write_ids_by.Goals as goal
+use Rattle.col_bits.proofs.bit_unpacker.BitUnpacker.write_ids_by.Goals as goal
 
 pub loop-id-init : goal.loop-id-init
 loop-id-init g c =
