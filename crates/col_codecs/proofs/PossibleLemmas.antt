@@ -9,12 +9,9 @@ use Rattle.col_common.specs.Reading.{◌>>=◌, only_if}
 use Rattle.col_common.specs.VInt.{vint}
 use Rattle.col_model.specs.Stats.{Stats, stats_of, stats_at, stats_bytes, steps_of, are_possible, greatest_of}
 use Rattle.col_model.proofs.StatsLaws.{fold-max, all_by}
+use Rattle.col_model.proofs.OneFormLaws.{of_parts, with_count, with_steps, with_divisor, with_least}
 use Rattle.col_model.proofs.U64ListLaws.{Describes, stats_of-describes, stats_at-stats_bytes}
 use Rattle.col_codecs.specs.ColumnStats.{IsPossible}
-
--- the statistics of four numbers
-abbrev of_parts : ℕ → ℕ → ℕ → ℕ → Stats
-of_parts least divisor steps count = record { least = least; greatest = least + divisor * steps; divisor = divisor; count = count }
 
 -- where the test of the four numbers holds
 IsPossible-tested : (least divisor steps count : ℕ) → are_possible least divisor steps count ≡ true → IsPossible (of_parts least divisor steps count)
@@ -46,19 +43,6 @@ IsPossible-tested least divisor steps count e =
             omega (arith, none, eqb-true least 0 both.0)
       ];
     }
-
--- the steps of `stats_at`
-abbrev with_count : ℕ → ℕ → ℕ → ℕ × List ℕ → Option (Stats × List ℕ)
-with_count least divisor steps count = only_if (are_possible least divisor steps count.0) (of_parts least divisor steps count.0, count.1)
-
-abbrev with_steps : ℕ → ℕ → ℕ × List ℕ → Option (Stats × List ℕ)
-with_steps least divisor steps = vint steps.1 >>= with_count least divisor steps.0
-
-abbrev with_divisor : ℕ → ℕ × List ℕ → Option (Stats × List ℕ)
-with_divisor least divisor = vint divisor.1 >>= with_steps least divisor.0
-
-abbrev with_least : ℕ × List ℕ → Option (Stats × List ℕ)
-with_least least = vint least.1 >>= with_divisor least.0
 
 -- statistics that are read
 pub IsPossible-stats_at : (bytes : List ℕ) (s : Stats) (rest : List ℕ) → stats_at bytes ≡ Some (s, rest) → IsPossible s

@@ -1,5 +1,5 @@
 //! Lists of u64 under the codec Bitpacked: steps from the least value, at the greatest one's width.
-ghost use Rattle.std.specs.Prelude.{◌≡◌, ℕ, ◌<◌, ◌≤◌, ◌+◌, ◌*◌, ◌^◌, true, map, IfOk, IfErr};
+ghost use Rattle.std.specs.Prelude.{◌≡◌, ℕ, ◌<◌, ◌≤◌, ◌+◌, ◌*◌, ◌^◌, true, map, IfOk};
 ghost use Rattle.std.specs.Int.{is_in_range};
 ghost use Rattle.std.specs.List.{AllByRecursion};
 ghost use Rattle.std.specs.Range.{range_inclusive_start, range_inclusive_end};
@@ -110,9 +110,8 @@ impl BitpackedReader {
     }
 
     /// The same list once more, which shares its bytes.
-    pub fn try_clone(&self) -> Result<BitpackedReader, ColumnarError>
-        ensures ok { IfOk result (λ r. r ≡ self.now) }
-        ensures err { IfErr result (λ e. e ≡ ColumnarError.OutOfMemory) }
+    pub fn try_clone(&self) -> Result<BitpackedReader, AllocError>
+        ensures { IfOk result (λ r. r ≡ self.now) }
     {
         Ok(BitpackedReader {
             data: self.data.slice(..)?,

@@ -9,12 +9,10 @@ ghost use Rattle.col_bits.specs.Packed.{packed_bytes};
 use crate::column_stats::ColumnStats;
 use col_bits::BitPacker;
 use col_common::{Iterable, U64_NUM_BYTES, Walk};
+use col_model::BLOCK_SIZE;
 use std::alloc::AllocError;
 
-/// How many values a block has; the last one may have fewer.
-pub const BLOCK_SIZE: usize = 512;
-
-/// The same as a count of rows.
+/// How many values a block has, as a count of rows; the last one may have fewer.
 pub const BLOCK_LEN: u32 = BLOCK_SIZE as u32;
 
 /// The most bytes of a packed block.

@@ -4,8 +4,9 @@ ghost use Rattle.col_common.specs.Serializing.{Serializes};
 ghost use Rattle.col_model.specs.Codecs.{block_size};
 ghost use Rattle.col_codecs.specs.Turning.{ArePackable, packed_by_position};
 
-use crate::packing::{BLOCK_SIZE, MAX_BLOCK_NUM_BYTES, pack_block, take_block};
+use crate::packing::{MAX_BLOCK_NUM_BYTES, pack_block, take_block};
 use col_common::{ColumnarError, Iterable, Sink, serialize_bytes};
+use col_model::BLOCK_SIZE;
 use std::alloc::Global;
 
 /// Turns values into what is packed of them.

@@ -1,5 +1,6 @@
 -- Total orders: what is at most what, the lesser and the greater of two; and ranges, which rise.
-use Rattle.std.proofs.Common.{◌≡◌, ℕ, ◌+◌, ◌<◌, Bool, true, false, cond, List, [], ◌∷◌, length, get_or, filter, refl, ap, subst, ◌∙◌, arith, add-one, lt-ltb}
+use Rattle.std.proofs.Common.{◌≡◌, ℕ, ◌+◌, ◌<◌, nat_lt, nat_le, Bool, true, false, cond, List, [], ◌∷◌, get_or, filter, refl, sym, ap, subst, ◌∙◌, inl, inr, arith, add-one}
+use Rattle.std.proofs.lemmas.Bool.{lt-ltb, le-ltb, le-leb, lt-leb, cases_lt}
 use Rattle.std.specs.Cmp.{IsTotalOrder, upto, tied_itself}
 use Rattle.std.specs.Ordering.{is_le, is_lt, is_gt, ordering_reverse}
 use Rattle.std.specs.declared.cmp.Ordering.{Ordering}
@@ -68,3 +69,10 @@ increasing_rises (x ∷ y ∷ zs) h =
 -- the numbers of a range that pass a test rise
 pub filtered_rises : (test : ℕ → Bool) (a n : ℕ) → is_rising (filter test (range_with_len a n)) ≡ true
 filtered_rises test a n = increasing_rises _ (IsStrictlyIncreasing-filter test (range_with_len a n) (increasing a n))
+
+-- below a number, and at most it with the next
+pub lt-next : (x y : ℕ) → nat_lt x y ≡ nat_le (x + 1) y
+lt-next x y = elim (cases_lt x y) [
+  | inl l ↦ lt-ltb x y l ∙ sym (le-leb (x + 1) y (omega (arith, l)))
+  | inr m ↦ le-ltb x y m ∙ sym (lt-leb (x + 1) y (omega (arith, m)))
+]

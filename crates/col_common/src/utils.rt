@@ -5,6 +5,9 @@ ghost use Rattle.col_common.specs.Walks.{IsNext};
 /// The bits of a byte.
 pub const BYTE_BITS: u32 = 8;
 
+/// The number of 0 among signed numbers of 64 bits.
+pub const SIGN_BIT: u64 = 1 << 63;
+
 /// Bits START to END - 1 of the code, as a number.
 #[inline(always)]
 pub fn select_bits<const START: u8, const END: u8>(code: u8) -> u8

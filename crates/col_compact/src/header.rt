@@ -1,12 +1,13 @@
 //! What stands before the codes of a list: how many numbers it has, and how they are kept.
-ghost use Rattle.std.specs.Prelude.{◌≡◌, ◌≤◌, ◌++◌, ◌∷◌, [], ℕ, List, Some, drop, length, option_map, IfSome};
+ghost use Rattle.std.specs.Prelude.{◌≡◌, ◌≤◌, ◌-◌, ◌++◌, ◌∷◌, [], ℕ, List, Some, drop, length, option_map, IfSome};
 ghost use Rattle.col_common.specs.Decoding.{TakesFront};
 ghost use Rattle.col_common.specs.Serializing.{Serializes};
 ghost use Rattle.col_common.specs.VInt.{vint_bytes};
 ghost use Rattle.col_model.specs.AddressList.{header_at};
 ghost use Rattle.col_compact.specs.Headers.{codec_of, kind_at};
 
-use col_common::{ColumnarError, InvalidData, Sink, VInt, read_vint, serialize_bytes};
+use bytes::Bytes;
+use col_common::{ColumnarError, InvalidData, Sink, VInt, cut_rest, read_vint, serialize_bytes};
 
 /// The code of compact spaces.
 pub(crate) const COMPACT_SPACE_CODE: u8 = 1;
@@ -116,11 +117,20 @@ pub(crate) fn read_header(bytes: &[u8]) -> Option<(u32, &[u8])>
     Some((count as u32, rest))
 }
 
-// The count of the header at the front, and where the bytes behind it start.
-pub(crate) fn header_len(bytes: &[u8]) -> Option<(u32, usize)>
-    ensures count { option_map (λ r. (r.0, drop r.1 bytes.now)) result ≡ header_at bytes.now }
-    ensures start { IfSome result (λ r. r.1 ≤ length bytes.now) }
+/// The count of the header at the front, and the bytes behind it.
+pub(crate) fn split_header(bytes: Bytes) -> Option<(u32, Bytes)>
+    ensures { result ≡ header_at bytes }
+{
+    let (count, rest_len) = read_count(bytes.as_slice())?;
+    Some((count, cut_rest(bytes, rest_len)))
+}
+
+// The count of the header at the front, and how many bytes are behind it.
+fn read_count(bytes: &[u8]) -> Option<(u32, usize)>
+    ensures count { option_map (λ r. (r.0, drop (length bytes.now - r.1) bytes.now)) result
+        ≡ header_at bytes.now }
+    ensures rest { IfSome result (λ r. r.1 ≤ length bytes.now) }
 {
     let (count, rest) = read_header(bytes)?;
-    Some((count, bytes.len() - rest.len()))
+    Some((count, rest.len()))
 }

@@ -8,7 +8,7 @@ ghost use Rattle.col_compact.specs.Coded.{headed_list, numbers_of};
 
 use crate::accessor::CompactSpaceU64Accessor;
 use crate::decompressor::CompactSpaceDecompressor;
-use crate::header::header_len;
+use crate::header::split_header;
 use bytes::Bytes;
 use col_common::ColumnarError;
 use col_values::{
@@ -30,11 +30,9 @@ fn open_list(alloc: Global, bytes: Bytes) -> Result<CompactSpaceDecompressor, Co
     ensures codes { Decodes (λ list. list) result (headed_list bytes) }
     ensures numbers { Decodes numbers_of result (values128 bytes) }
 {
-    let Some((count, start)) = header_len(bytes.as_slice()) else {
+    let Some((count, behind)) = split_header(bytes) else {
         return Err(ColumnarError::InvalidData);
     };
-    let mut behind = bytes;
-    behind.advance(start);
     let list = CompactSpaceDecompressor::open(alloc, behind)?;
     if list.count() != count {
         return Err(ColumnarError::InvalidData);

@@ -10,14 +10,11 @@ ghost use Rattle.col_record.specs.Values.{unsigned_of};
 ghost use Rattle.col_entry.specs.Numbers.{IsNumbersOf};
 ghost use Rattle.col_entry.specs.OnRows.{docs_in, content_on, Fit64, CanStand, WritesOn};
 
-use col_common::{ColumnarError, Sink};
+use col_common::{ColumnarError, SIGN_BIT, Sink};
 use col_record::{ColumnWriter, NumericalColumnWriter};
 use col_rows::{RowOrder, serialize_number_column, serialize_tie_column};
 use col_types::NumericalType;
 use std::alloc::{AllocError, Global};
-
-// The number of 0 among signed numbers.
-const SIGN_BIT: u64 = 1 << 63;
 
 /// Writes the column of an entry of numbers.
 pub(crate) fn serialize_numbers<K: Sink>(

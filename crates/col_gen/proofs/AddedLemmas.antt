@@ -1,24 +1,11 @@
 -- What is appended, line by line and by documents and segments.
-use Rattle.std.proofs.Common.{◌≡◌, ◌∙◌, ℕ, suc, ◌+◌, ◌%◌, List, [], ◌∷◌, ◌++◌, Result, OnOk, refl, sym, ap, ap₂, subst, append-nil, append_assoc}
+use Rattle.std.proofs.Common.{◌≡◌, ◌∙◌, ℕ, suc, ◌+◌, ◌%◌, List, [], ◌∷◌, ◌++◌, Result, OnOk, refl, ap, ap₂, subst}
 use Rattle.std.proofs.lemmas.Bool.{ne_eqb}
-use Rattle.std.proofs.lemmas.Grind.{flat_map-append}
 use Rattle.serde_json.specs.Data.{Data}
-use Rattle.serde_json.specs.Written.{compact_text}
-use Rattle.col_model.specs.Report.{lines_text}
+use Rattle.col_model.specs.Report.{Prints}
 use Rattle.col_model.specs.GenScript.{Drawn, drawn, draw_of, with_lines, value_data, size_line, city_lines, delta_line, on_line, addr_lines, delta_lines, doc_lines, docs_lines, segment_lines, find_data, lookup_lines, gen_script}
-use Rattle.col_gen.specs.Generated.{segment_line, Prints, Adds, IsSized}
-
--- no lines
-pub Prints-none : (a : List ℕ) → Prints a a []
-unfolding Prints
-Prints-none a = sym (append-nil a)
-
--- lines behind lines
-pub Prints-then : (a b c : List ℕ) (xs ys : List Data) → Prints a b xs → Prints b c ys → Prints a c (xs ++ ys)
-unfolding Prints
-Prints-then a b c xs ys first second =
-    second ∙ ap (λ s. s ++ lines_text ys) first ∙ append_assoc a (lines_text xs) (lines_text ys)
-    ∙ ap (λ s. a ++ s) (sym (flat_map-append (λ d. compact_text d ++ 10 ∷ []) xs ys))
+use Rattle.col_model.proofs.ReportLaws.{Prints-none, Prints-then}
+use Rattle.col_gen.specs.Generated.{segment_line, Adds, IsSized}
 
 -- lines, and the state behind them
 pub added : (a b : List ℕ) (y : ℕ) (p : Drawn) → Prints a b p.0 → y ≡ p.1 → Adds a b y p

@@ -27,10 +27,6 @@ delta_find = find_data (codes "delta") (codes "i64") (number (of_integer (pos 0 
 abbrev pub addr_find : Data
 addr_find = find_data (codes "addr") (codes "ip") (address_data 0) (address_data 255) 0 4000
 
--- the bytes grew by the text of these lines
-unfoldable pub Prints : List ℕ → List ℕ → List Data → Type 0
-Prints old new lines = new ≡ old ++ lines_text lines
-
 -- the bytes grew by the text of the lines, and the state is the one behind them
 unfoldable pub Adds : List ℕ → List ℕ → ℕ → Drawn → Type 0
 Adds old new state drawn = (new ≡ old ++ lines_text drawn.0) × (state ≡ drawn.1)

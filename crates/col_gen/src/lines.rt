@@ -3,7 +3,8 @@ ghost use Rattle.std.specs.Prelude.{◌≡◌, ◌∷◌, ◌-ℤ◌, ◌%◌, [
 ghost use Rattle.serde_json.specs.View.{view};
 ghost use Rattle.serde_json.specs.Written.{has_float};
 ghost use Rattle.col_model.specs.GenScript.{value_data, size_line, city_lines, delta_line, on_line, addr_lines};
-ghost use Rattle.col_gen.specs.Generated.{segment_line, Prints};
+ghost use Rattle.col_model.specs.Report.{Prints};
+ghost use Rattle.col_gen.specs.Generated.{segment_line};
 
 use crate::text::{address_digits, city_name, push_line};
 use serde_json::{Value, json};

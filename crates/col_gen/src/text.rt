@@ -4,7 +4,7 @@ ghost use Rattle.std.specs.Int.{w128, to_be_bytes};
 ghost use Rattle.hex.specs.Hex.{encode_lower};
 ghost use Rattle.serde_json.specs.View.{view};
 ghost use Rattle.serde_json.specs.Written.{has_float};
-ghost use Rattle.col_gen.specs.Generated.{Prints};
+ghost use Rattle.col_model.specs.Report.{Prints};
 
 use itoa::Buffer;
 use serde_json::Value;
@@ -26,7 +26,7 @@ pub(crate) fn address_digits(alloc: Global, number: u64) -> Result<String, Alloc
 }
 
 // Appends the value's text and a line feed.
-#[tactic(auto, unfolding(crate::specs::Generated::Prints))]
+#[tactic(auto, unfolding(col_model::specs::Report::Prints))]
 pub(crate) fn push_line(alloc: Global, out: &mut Vec<u8>, value: &Value) -> Result<(), AllocError>
     requires { has_float (view value.now) ≡ false }
     ensures { OnOk result (Prints out.old.items out.new.items (view value.now ∷ [])) }

@@ -1,7 +1,6 @@
 //! How many values each row of a column has.
-ghost use Rattle.std.specs.Prelude.{◌≡◌, ◌<◌, ◌-◌, ◌^◌, ◌==◌, true, not, nat_le, max, IfOk, IfErr};
+ghost use Rattle.std.specs.Prelude.{◌≡◌, ◌<◌, ◌-◌, ◌^◌, ◌==◌, true, not, nat_le, max, IfOk};
 ghost use Rattle.std.specs.List.{list_all};
-ghost use Rattle.col_common.specs.declared.error.ColumnarError.TheVariants as refusals;
 ghost use Rattle.col_common.specs.Ascending.{is_rising};
 ghost use Rattle.col_model.specs.Index.{set_counts, optional_shape, multivalued_shape, full_shape};
 ghost use Rattle.col_model.specs.Positions.{count_in, start_in, positions_in, rows_in};
@@ -13,7 +12,7 @@ ghost use Rattle.col_index.specs.MultiValues.{counts_of};
 use crate::cardinality::Cardinality;
 use crate::multivalued_index::MultiValueIndex;
 use crate::optional_index::OptionalIndex;
-use col_common::{ColumnarError, DocId, RowId};
+use col_common::{DocId, RowId};
 use std::alloc::{AllocError, Global};
 use std::ops::Range;
 
@@ -52,9 +51,8 @@ impl ColumnIndex {
     ghost use Rattle.col_index.specs.Indexes.{shape_of};
 
     /// The same index once more, which shares its bytes and has ranks of its own.
-    pub fn try_clone(&self, alloc: Global) -> Result<ColumnIndex, ColumnarError>
-        ensures ok { IfOk result (λ index. shape_of index ≡ shape_of self.now) }
-        ensures err { IfErr result (λ e. e ≡ refusals.OutOfMemory) }
+    pub fn try_clone(&self, alloc: Global) -> Result<ColumnIndex, AllocError>
+        ensures { IfOk result (λ index. shape_of index ≡ shape_of self.now) }
     {
         match self {
             ColumnIndex::Empty { num_docs } => Ok(ColumnIndex::Empty {

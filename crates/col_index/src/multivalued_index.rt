@@ -40,9 +40,8 @@ impl MultiValueIndex {
     }
 
     /// The same index once more, which shares its bytes and has ranks of its own.
-    pub fn try_clone(&self, alloc: Global) -> Result<MultiValueIndex, ColumnarError>
-        ensures ok { IfOk result (λ index. counts_of index ≡ counts_of self.now) }
-        ensures err { IfErr result (λ e. e ≡ refusals.OutOfMemory) }
+    pub fn try_clone(&self, alloc: Global) -> Result<MultiValueIndex, AllocError>
+        ensures { IfOk result (λ index. counts_of index ≡ counts_of self.now) }
     {
         match self {
             MultiValueIndex::MultiValueIndexV2(index) => {

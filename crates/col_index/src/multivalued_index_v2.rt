@@ -131,9 +131,8 @@ impl MultiValueIndexV2 {
     }
 
     /// The same index once more, which shares its bytes and has ranks of its own.
-    pub fn try_clone(&self, alloc: Global) -> Result<MultiValueIndexV2, ColumnarError>
-        ensures ok { IfOk result (λ index. index ≡ self.now) }
-        ensures err { IfErr result (λ e. e ≡ refusals.OutOfMemory) }
+    pub fn try_clone(&self, alloc: Global) -> Result<MultiValueIndexV2, AllocError>
+        ensures { IfOk result (λ index. index ≡ self.now) }
     {
         Ok(MultiValueIndexV2 {
             optional_index: self.optional_index.try_clone(alloc)?,

@@ -80,9 +80,8 @@ impl OptionalIndex {
     }
 
     /// The same index once more, which shares the bytes of its rows and has ranks of its own.
-    pub fn try_clone(&self, alloc: Global) -> Result<OptionalIndex, ColumnarError>
-        ensures ok { IfOk result (λ index. index ≡ self.now) }
-        ensures err { IfErr result (λ e. e ≡ refusals.OutOfMemory) }
+    pub fn try_clone(&self, alloc: Global) -> Result<OptionalIndex, AllocError>
+        ensures { IfOk result (λ index. index ≡ self.now) }
     {
         Ok(OptionalIndex {
             num_rows: self.num_rows,

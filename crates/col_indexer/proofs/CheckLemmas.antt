@@ -4,17 +4,12 @@ use Rattle.std.specs.List.{starts_with}
 use Rattle.std.proofs.Math.Bool.{and-true}
 use Rattle.std.proofs.lemmas.Bool.{lt-ltb, le-ltb, le-leb, lt-leb, eq-eqb, ne_eqb, cases_lt, cases_eq}
 use Rattle.col_common.specs.Ascending.{is_rising, are_below}
+use Rattle.col_common.proofs.OrderingLemmas.{lt-next}
 
 -- from the next that may come on: they rise, and stay below the bound
 abbrev pub rise_from : ℕ → ℕ → List ℕ → Bool
 rise_from next bound [] = true
 rise_from next bound (x ∷ xs) = nat_le next x && nat_lt x bound && rise_from (x + 1) bound xs
-
-above : (x y : ℕ) → nat_lt x y ≡ nat_le (x + 1) y
-above x y = elim (cases_lt x y) [
-  | inl l ↦ lt-ltb x y l ∙ sym (le-leb (x + 1) y (omega (arith, l)))
-  | inr m ↦ le-ltb x y m ∙ sym (lt-leb (x + 1) y (omega (arith, m)))
-]
 
 rearranged : (a b c d r : Bool) → (b && d) ≡ r → (a && b && (c && d)) ≡ (a && c && r)
 rearranged a b c d r e = grind arith
@@ -24,7 +19,7 @@ behind : (bound x : ℕ) (ys : List ℕ) → (is_rising (x ∷ ys) && are_below 
 behind bound x [] = refl
 behind bound x (y ∷ ys) =
     rearranged (nat_lt x y) (is_rising (y ∷ ys)) (nat_lt y bound) (are_below bound ys) (rise_from (y + 1) bound ys) (behind bound y ys)
-    ∙ ap (λ t. t && nat_lt y bound && rise_from (y + 1) bound ys) (above x y)
+    ∙ ap (λ t. t && nat_lt y bound && rise_from (y + 1) bound ys) (lt-next x y)
 
 at_front : (a b c d r : Bool) → a ≡ true → (b && d) ≡ r → (b && (c && d)) ≡ (a && c && r)
 at_front a b c d r t e = grind arith

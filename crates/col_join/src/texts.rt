@@ -1,7 +1,6 @@
 //! Joins columns of terms.
-ghost use Rattle.std.specs.Prelude.{◌≡◌, true, map, length, IfOk, IfErr};
+ghost use Rattle.std.specs.Prelude.{◌≡◌, true, map, length, IfOk};
 ghost use Rattle.std.specs.List.{AllByRecursion};
-ghost use Rattle.col_common.specs.declared.error.ColumnarError.TheVariants as refusals;
 ghost use Rattle.col_model.specs.ColumnType.{ColumnType, has_terms};
 ghost use Rattle.col_order.specs.Orders.{picks_of};
 ghost use Rattle.col_order.specs.RowOrders.{order_of};
@@ -16,7 +15,7 @@ use col_index::ColumnIndex;
 use col_order::{MergeRowOrder, orders_are_picks};
 use col_text::BytesColumn;
 use col_text_merge::{merge_bytes_or_str_column, ordinals_are_told};
-use std::alloc::Global;
+use std::alloc::{AllocError, Global};
 
 /// Writes the column of the rows that an order picks from columns of terms, one for each segment.
 /// It answers TooLarge before the first byte.
@@ -38,12 +37,8 @@ pub fn join_texts<K: Sink>(
 }
 
 // The indexes of the columns, once more.
-fn indexes_of(
-    alloc: Global,
-    bytes_columns: &[BytesColumn],
-) -> Result<Vec<ColumnIndex>, ColumnarError>
-    ensures ok { IfOk result (λ v. map shape_of v.items ≡ shapes_of bytes_columns.now) }
-    ensures err { IfErr result (λ e. e ≡ refusals.OutOfMemory) }
+fn indexes_of(alloc: Global, bytes_columns: &[BytesColumn]) -> Result<Vec<ColumnIndex>, AllocError>
+    ensures { IfOk result (λ v. map shape_of v.items ≡ shapes_of bytes_columns.now) }
 {
     let mut indexes = Vec::with_capacity(alloc, bytes_columns.len())?;
     for column in bytes_columns {
@@ -53,9 +48,8 @@ fn indexes_of(
 }
 
 // The index of a column, once more.
-fn column_index_of(alloc: Global, column: &BytesColumn) -> Result<ColumnIndex, ColumnarError>
-    ensures ok { IfOk result (λ index. shape_of index ≡ column.now.ords.shape) }
-    ensures err { IfErr result (λ e. e ≡ refusals.OutOfMemory) }
+fn column_index_of(alloc: Global, column: &BytesColumn) -> Result<ColumnIndex, AllocError>
+    ensures { IfOk result (λ index. shape_of index ≡ column.now.ords.shape) }
 {
     column.ords().index().try_clone(alloc)
 }

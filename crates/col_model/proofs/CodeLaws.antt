@@ -1,5 +1,5 @@
 -- The types whose values stand as numbers.
-use Rattle.std.proofs.Common.{◌≡◌, ℕ, ℤ, pos, negsuc, ◌<◌, ◌≤◌, ◌^◌, ◌&&◌, Bool, true, false, Option, Some, refl, sym, ap, ◌∙◌, arith, true≢false}
+use Rattle.std.proofs.Common.{◌≡◌, ℕ, ℤ, pos, negsuc, ◌<◌, ◌^◌, ◌&&◌, Bool, true, false, Option, Some, refl, sym, ap, ◌∙◌, arith, true≢false}
 use Rattle.std.specs.Ordering.{int_cmp, bool_cmp}
 use Rattle.std.proofs.lemmas.Bool.Decides.{nat_tests}
 use Rattle.std.proofs.lemmas.Int.{ints}

@@ -39,17 +39,21 @@ packed_bytes-packed bytes w n xs b e =
 after-vint : (bytes : List ℕ) (n : ℕ) (rest : List ℕ) → IsBytes bytes → vint bytes ≡ Some (n, rest) → (bytes ≡ vint_bytes n ++ rest) × IsBytes rest
 after-vint bytes n rest b e = let spelled = vint_bytes-vint bytes n rest b e in (spelled, IsBytes-behind (vint_bytes n) rest (rw spelled at b))
 
--- the steps of `stats_at`
-abbrev with_count : ℕ → ℕ → ℕ → ℕ × List ℕ → Option (Stats × List ℕ)
-with_count least divisor steps count = only_if (are_possible least divisor steps count.0) (record { least = least; greatest = least + divisor * steps; divisor = divisor; count = count.0 }, count.1)
+-- the statistics of four numbers
+abbrev pub of_parts : ℕ → ℕ → ℕ → ℕ → Stats
+of_parts least divisor steps count = record { least = least; greatest = least + divisor * steps; divisor = divisor; count = count }
 
-abbrev with_steps : ℕ → ℕ → ℕ × List ℕ → Option (Stats × List ℕ)
+-- the steps of `stats_at`
+abbrev pub with_count : ℕ → ℕ → ℕ → ℕ × List ℕ → Option (Stats × List ℕ)
+with_count least divisor steps count = only_if (are_possible least divisor steps count.0) (of_parts least divisor steps count.0, count.1)
+
+abbrev pub with_steps : ℕ → ℕ → ℕ × List ℕ → Option (Stats × List ℕ)
 with_steps least divisor steps = vint steps.1 >>= with_count least divisor steps.0
 
-abbrev with_divisor : ℕ → ℕ × List ℕ → Option (Stats × List ℕ)
+abbrev pub with_divisor : ℕ → ℕ × List ℕ → Option (Stats × List ℕ)
 with_divisor least divisor = vint divisor.1 >>= with_steps least divisor.0
 
-abbrev with_least : ℕ × List ℕ → Option (Stats × List ℕ)
+abbrev pub with_least : ℕ × List ℕ → Option (Stats × List ℕ)
 with_least least = vint least.1 >>= with_divisor least.0
 
 turns : (l d k : ℕ) → 0 < d → (l + d * k - l) / d ≡ k
@@ -58,8 +62,8 @@ turns l d k p = let e : l + d * k - l ≡ k * d = omega (arith, mul_comm d k) in
 -- four numbers that are possible statistics
 four-spelled : (bytes : List ℕ) (least divisor steps count : ℕ × List ℕ) (s : Stats) (rest : List ℕ) → IsBytes bytes → vint bytes ≡ Some least → vint least.1 ≡ Some divisor → vint divisor.1 ≡ Some steps → vint steps.1 ≡ Some count → with_count least.0 divisor.0 steps.0 count ≡ Some (s, rest) → (bytes ≡ stats_bytes s ++ rest) × IsBytes rest
 four-spelled bytes least divisor steps count s rest b p q r t e =
-    let found = cond_some (are_possible least.0 divisor.0 steps.0 count.0) (record { least = least.0; greatest = least.0 + divisor.0 * steps.0; divisor = divisor.0; count = count.0 }, count.1) (s, rest) e in
-    let same : record { least = least.0; greatest = least.0 + divisor.0 * steps.0; divisor = divisor.0; count = count.0 } ≡ s = ap (λ x. x.0) found.1 in
+    let found = cond_some (are_possible least.0 divisor.0 steps.0 count.0) (of_parts least.0 divisor.0 steps.0 count.0, count.1) (s, rest) e in
+    let same : of_parts least.0 divisor.0 steps.0 count.0 ≡ s = ap (λ x. x.0) found.1 in
     let behind : count.1 ≡ rest = ap (λ x. x.1) found.1 in
     let one = after-vint bytes least.0 least.1 b p in
     let two = after-vint least.1 divisor.0 divisor.1 one.1 q in
@@ -68,7 +72,7 @@ four-spelled bytes least divisor steps count s rest b p q r t e =
     let positive : 0 < divisor.0 = omega (arith, leb-true 1 divisor.0 (and_parts _ _ (and_parts _ _ (and_parts _ _ (and_parts _ _ found.0).0).0).0).0) in
     let spelled : bytes ≡ (vint_bytes least.0 ++ (vint_bytes divisor.0 ++ (vint_bytes steps.0 ++ vint_bytes count.0))) ++ count.1 =
     rw (append_assoc (vint_bytes least.0) (vint_bytes divisor.0 ++ (vint_bytes steps.0 ++ vint_bytes count.0)) count.1, append_assoc (vint_bytes divisor.0) (vint_bytes steps.0 ++ vint_bytes count.0) count.1, append_assoc (vint_bytes steps.0) (vint_bytes count.0) count.1, ← four.0, ← three.0, ← two.0) one.0 in
-    let steps_same : steps_of (record { least = least.0; greatest = least.0 + divisor.0 * steps.0; divisor = divisor.0; count = count.0 }) ≡ steps.0 = turns least.0 divisor.0 steps.0 positive in
+    let steps_same : steps_of (of_parts least.0 divisor.0 steps.0 count.0) ≡ steps.0 = turns least.0 divisor.0 steps.0 positive in
     rw (← same, ← behind, steps_same) (spelled, four.1)
 
 -- statistics have one spelling

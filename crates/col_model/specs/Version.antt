@@ -12,7 +12,7 @@ current_version = CURRENT_VERSION
 -- v = (v == 1) || (v == 2)`, and nothing else changes: `counts` has the indexes of version 1
 -- already.
 abbrev pub is_version : ℕ → Bool
-is_version v = v == 2
+is_version v = v == current_version
 
 -- the last four bytes of a file
 abbrev pub magic : List ℕ

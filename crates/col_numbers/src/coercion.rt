@@ -3,10 +3,8 @@ ghost use Rattle.std.specs.Prelude.{◌≡◌, pos, nat_abs};
 ghost use Rattle.col_numbers.specs.Coercions.{fits_i64, fits_u64, is_in_half, moved, moved_back};
 ghost use Rattle.col_model.proofs.CoercionLaws.{i64_to_u64_laws, u64_to_i64_laws, moved_laws};
 
+use col_common::SIGN_BIT;
 use col_values::StrictlyMonotonicFn;
-
-// Half of the numbers of 64 bits.
-const HALF: u64 = 1 << 63;
 
 /// From signed numbers that are at least 0 to the same numbers without a sign.
 #[derive(Clone, Copy, Debug)]
@@ -38,7 +36,7 @@ impl StrictlyMonotonicFn<i64, u64> for MapI64ToU64 {
 
     #[inline(always)]
     fn at_least(&self, out: u64) -> Option<i64> {
-        if out >= HALF {
+        if out >= SIGN_BIT {
             return None;
         }
         Some(out.cast_signed())
@@ -46,7 +44,7 @@ impl StrictlyMonotonicFn<i64, u64> for MapI64ToU64 {
 
     #[inline(always)]
     fn at_most(&self, out: u64) -> Option<i64> {
-        Some(out.min(HALF - 1).cast_signed())
+        Some(out.min(SIGN_BIT - 1).cast_signed())
     }
 }
 
@@ -65,7 +63,7 @@ impl StrictlyMonotonicFn<u64, i64> for MapU64ToI64 {
 
     #[inline(always)]
     fn in_domain(&self, value: u64) -> bool {
-        value < HALF
+        value < SIGN_BIT
     }
 
     #[inline(always)]
@@ -110,32 +108,32 @@ impl StrictlyMonotonicFn<u64, u64> for MapToOtherHalf {
 
     #[inline(always)]
     fn in_domain(&self, value: u64) -> bool {
-        (value < HALF) == self.rises
+        (value < SIGN_BIT) == self.rises
     }
 
     #[inline(always)]
     fn mapping(&self, value: u64) -> u64 {
-        value.wrapping_add(HALF)
+        value.wrapping_add(SIGN_BIT)
     }
 
     #[inline(always)]
     fn inverse(&self, value: u64) -> u64 {
-        value.wrapping_add(HALF)
+        value.wrapping_add(SIGN_BIT)
     }
 
     #[inline(always)]
     fn at_least(&self, out: u64) -> Option<u64> {
         if self.rises {
-            return Some(out.saturating_sub(HALF));
+            return Some(out.saturating_sub(SIGN_BIT));
         }
-        out.checked_add(HALF)
+        out.checked_add(SIGN_BIT)
     }
 
     #[inline(always)]
     fn at_most(&self, out: u64) -> Option<u64> {
         if self.rises {
-            return out.checked_sub(HALF);
+            return out.checked_sub(SIGN_BIT);
         }
-        Some(out.saturating_add(HALF))
+        Some(out.saturating_add(SIGN_BIT))
     }
 }

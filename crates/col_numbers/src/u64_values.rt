@@ -1,12 +1,12 @@
 //! A list of u64 under any codec.
 ghost use Rattle.std.specs.Prelude.{◌≡◌, ◌≤◌, ◌<◌, ◌+◌, drop, length, slice_get, Some};
-ghost use Rattle.std.specs.Prelude.{IfOk, IfErr};
+ghost use Rattle.std.specs.Prelude.{IfOk};
 ghost use Rattle.col_model.specs.Stats.{least_of, greatest_of};
 
 use col_codecs::{BitpackedReader, BlockwiseLinearReader, LinearReader};
 use col_common::{ColumnarError, Iterable, RowId, Walk};
 use col_values::ColumnValues;
-use std::alloc::Global;
+use std::alloc::{AllocError, Global};
 use std::ops::Range;
 
 /// A list of u64 under any codec, read in place.
@@ -21,9 +21,8 @@ impl U64Values {
     ghost use Rattle.col_numbers.specs.Readers.{list_of};
 
     /// The same list once more, which shares its bytes.
-    pub fn try_clone(&self, alloc: Global) -> Result<U64Values, ColumnarError>
-        ensures ok { IfOk result (λ r. list_of r ≡ list_of self.now) }
-        ensures err { IfErr result (λ e. e ≡ ColumnarError.OutOfMemory) }
+    pub fn try_clone(&self, alloc: Global) -> Result<U64Values, AllocError>
+        ensures { IfOk result (λ r. list_of r ≡ list_of self.now) }
     {
         match self {
             U64Values::Bitpacked(values) => Ok(U64Values::Bitpacked(values.try_clone()?)),

@@ -1,5 +1,5 @@
 -- The types of numbers, of which the first are the same.
-use Rattle.std.proofs.Common.{◌≡◌, ◌<◌, ◌≤◌, ◌⊎◌, ℕ, zero, suc, ◌+◌, ◌-◌, ◌^◌, List, [], ◌∷◌, ◌++◌, length, take, map, Bool, true, false, Option, Some, None, refl, sym, ◌∙◌, ap, arith, append_assoc, length-append, inl, inr, ⊎_elim}
+use Rattle.std.proofs.Common.{◌≡◌, ◌<◌, ◌≤◌, ◌⊎◌, ℕ, zero, suc, ◌+◌, ◌-◌, ◌^◌, List, [], ◌∷◌, ◌++◌, length, take, map, Bool, true, false, Option, Some, None, refl, sym, ◌∙◌, ap, arith, append_assoc, length-append, inl, inr, ⊎_elim, append-nil}
 use Rattle.std.specs.Prelude.{is_some, not, MatchOption, option_to_list, replicate, slice_get, get_or}
 use Rattle.std.proofs.lemmas.Option.{slice_get_read}
 use Rattle.std.proofs.lemmas.List.{replicate_more, length-replicate, length-map}
@@ -10,7 +10,6 @@ use Rattle.col_types.specs.declared.numerical_type.NumericalType.{NumericalType}
 use Rattle.col_types.specs.declared.numerical_type.NumericalType.TheVariants.{I64, U64}
 use Rattle.col_types.specs.Kinds.{numerical_kind_of}
 use Rattle.col_rows.proofs.CutLemmas.{before_last}
-use Rattle.col_rows.proofs.DocumentLemmas.{append-none}
 use Rattle.col_record.specs.Values.{same_then, GoesOn}
 
 pub map-push : {A B : Type 0} (f : A → B) (xs : List A) (x : A) → map f (xs ++ x ∷ []) ≡ map f xs ++ f x ∷ []
@@ -25,10 +24,10 @@ pub same_then-next : (n : ℕ) (first next : NumericalType) (others : List Numer
 unfolding same_then
 same_then-next n first next others ts is h =
     let alone = ap (map numerical_kind_of) h.alone in
-    let whole : replicate n (numerical_kind_of first) ≡ ts = sym (append-none _) ∙ ap (λ r. replicate n (numerical_kind_of first) ++ r) (sym alone) ∙ is in
+    let whole : replicate n (numerical_kind_of first) ≡ ts = sym (append-nil _) ∙ ap (λ r. replicate n (numerical_kind_of first) ++ r) (sym alone) ∙ is in
     let same : replicate n (numerical_kind_of first) ≡ replicate n (numerical_kind_of next) =
     ⊎_elim (λ z. ap (λ k. replicate k (numerical_kind_of first)) z ∙ sym (ap (λ k. replicate k (numerical_kind_of next)) z)) (λ e. ap (λ t. replicate n (numerical_kind_of t)) e) h.same in
-    ap (λ r. replicate (n + 1) (numerical_kind_of next) ++ r) alone ∙ append-none _ ∙ sym (replicate_more n (numerical_kind_of next)) ∙ ap (λ r. r ++ numerical_kind_of next ∷ []) (sym same ∙ whole)
+    ap (λ r. replicate (n + 1) (numerical_kind_of next) ++ r) alone ∙ append-nil _ ∙ sym (replicate_more n (numerical_kind_of next)) ∙ ap (λ r. r ++ numerical_kind_of next ∷ []) (sym same ∙ whole)
 
 pub same_then-push : (n : ℕ) (first next : NumericalType) (others : List NumericalType) (ts : List ColumnType) → same_then n first others ≡ ts → same_then n first (others ++ next ∷ []) ≡ ts ++ numerical_kind_of next ∷ []
 unfolding same_then
@@ -45,8 +44,8 @@ same_then-fewer (suc n) first [] [] ts None b is cut e f m w many cases some =
     let t = numerical_kind_of first in
     let less : suc n - 1 ≡ n = omega arith in
     let one : suc n ≡ n + 1 = omega arith in
-    let whole : ts ≡ replicate n t ++ t ∷ [] = sym is ∙ append-none _ ∙ ap (λ k. replicate k t) one ∙ sym (replicate_more n t) in
-    (omega arith, ap (λ k. replicate k t ++ []) less ∙ append-none _ ∙ sym (before_last (replicate n t) t) ∙ ap (λ r. take (length r - 1) r) (sym whole))
+    let whole : ts ≡ replicate n t ++ t ∷ [] = sym is ∙ append-nil _ ∙ ap (λ k. replicate k t) one ∙ sym (replicate_more n t) in
+    (omega arith, ap (λ k. replicate k t ++ []) less ∙ append-nil _ ∙ sym (before_last (replicate n t) t) ∙ ap (λ r. take (length r - 1) r) (sym whole))
 
 pub same_then-left : (n : ℕ) (first : NumericalType) (others left : List NumericalType) (ts : List ColumnType) (r : Option NumericalType) (b : Bool) → same_then n first others ≡ ts → others ≡ left ++ option_to_list r → is_some r ≡ not b → b ≡ false → same_then n first left ≡ take (length ts - 1) ts
 same_then-left n first others left ts None b is cut e f = absurd (grind arith)

@@ -20,15 +20,12 @@ use crate::ranges::codes_fit;
 use crate::sort_keys::NumberKeys;
 use crate::sort_order::sort_docs;
 use crate::{ColumnWriter, CompatibleNumericalTypes, TypeList};
-use col_common::{ColumnarError, DocId, RowId};
+use col_common::{ColumnarError, DocId, RowId, SIGN_BIT};
 use col_index::Cardinality;
 use col_types::{NumericalType, NumericalValue};
 use col_values::MonotonicallyMappableToU64;
 use std::alloc::Global;
 use std::marker::Model;
-
-// The number of 0 among signed numbers.
-const SIGN_BIT: u64 = 1 << 63;
 
 /// The numbers of a column, each with its type. Contracts see the entry of the column.
 #[derive(Drop)]

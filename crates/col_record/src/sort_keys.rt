@@ -5,12 +5,10 @@ ghost use Rattle.col_types.specs.Kinds.{numerical_kind_of};
 ghost use Rattle.col_record.specs.Sorting.{number_key, number_keys, time_keys, text_keys};
 
 use crate::TypeList;
+use col_common::SIGN_BIT;
 use col_terms::{TermIdMapping, UnorderedId};
 use col_types::NumericalType;
 use std::marker::Model;
-
-// The number of 0 among signed numbers.
-const SIGN_BIT: u64 = 1 << 63;
 
 /// A key for each value of a column, in their order and above 0.
 pub(crate) trait SortKeys {

@@ -10,16 +10,15 @@ use Rattle.col_find.specs.Finds as finds
 use Rattle.col_find.specs.declared.lookup.Find.{Find}
 use Rattle.col_model.specs.File.{for_each, table_of}
 use Rattle.col_model.specs.Keys.{FileKeys, keys}
-use Rattle.col_model.specs.Report.{lines_text, rows_line, column_lines, found_data, find_line, report_of}
+use Rattle.col_model.specs.Report.{lines_text, rows_line, column_lines, found_data, find_line, report_of, Prints}
 use Rattle.col_model.specs.Script as script
 use Rattle.col_model.specs.Table.{Content, Column, Table}
 use Rattle.col_file.specs.Files.{SeenFile, IsExpected, RefusesFile}
 use Rattle.col_report.specs.Opened.{opened, whole_entry, table_opened, AreRead}
-use Rattle.col_report.specs.Printed.{Prints}
 use Rattle.col_report.specs.Reported.{found_in, found_line}
 use Rattle.col_report.specs.declared.open.NamedColumn.{NamedColumn}
 use Rattle.col_report.proofs.ReadLemmas.{is_typed, table-is, table-none}
-use Rattle.col_report.proofs.RowLemmas.{Prints-then}
+use Rattle.col_model.proofs.ReportLaws.{Prints-then}
 
 -- ---- lines of lists
 

@@ -2,7 +2,6 @@
 use Rattle.std.proofs.Common.{◌≡◌, ◌∙◌, ℕ, zero, suc, ◌+◌, ◌<◌, ◌≤◌, nat_lt, Bool, true, false, cond, List, [], ◌∷◌, ◌++◌, map, filter, length, take, get_or, slice_get, slice_range, decimal, drop, ◌-◌, Some, codes, refl, sym, ap, subst, arith, append-nil, append_assoc, length-take, length-drop, add-zero, zero-add}
 use Rattle.std.specs.List.{enumerate_from}
 use Rattle.std.proofs.lemmas.Bool.{lt-ltb}
-use Rattle.std.proofs.lemmas.Grind.{flat_map-append}
 use Rattle.std.proofs.lemmas.List.{take_more, take_all}
 use Rattle.std.proofs.lemmas.List.FromFn.{length-enumerate_from}
 use Rattle.json.specs.Print.{escape_byte}
@@ -10,27 +9,15 @@ use Rattle.serde_json.specs.Data.{Data, string}
 use Rattle.serde_json.specs.Written.{compact_text, items_text}
 use Rattle.serde_json.specs.View.{items_of}
 use Rattle.col_model.specs.ColumnType.{ColumnType}
-use Rattle.col_model.specs.Report.{lines_text, row_line, count_data, list_data, cell_data}
+use Rattle.col_model.proofs.ReportLaws.{Prints-none, Prints-then}
+use Rattle.col_model.specs.Report.{lines_text, row_line, count_data, list_data, cell_data, Prints}
 use Rattle.col_model.specs.Table.{Cell}
 use Rattle.col_model.specs.Index.{Shape}
 use Rattle.col_index.specs.Offsets.{positions_if_any}
 use Rattle.col_column.specs.Columns.{Seen, AreOf, IsCounted, row_at, rows_in, docs_in}
 use Rattle.col_column.proofs.FirstLemmas.{range_step}
 use Rattle.col_column.proofs.RowLemmas.{row_values-if_any}
-use Rattle.col_report.specs.Printed.{Spells, Prints, more_text, filled_lines}
-
--- ---- lines behind lines
-
--- no lines
-pub Prints-none : (a : List ℕ) → Prints a a []
-unfolding Prints
-Prints-none a = sym (append-nil a)
-
-pub Prints-then : (a b c : List ℕ) (xs ys : List Data) → Prints a b xs → Prints b c ys → Prints a c (xs ++ ys)
-unfolding Prints
-Prints-then a b c xs ys first second =
-    let joined : (a ++ lines_text xs) ++ lines_text ys ≡ a ++ lines_text (xs ++ ys) = rw (flat_map-append (λ d. compact_text d ++ 10 ∷ []) xs ys) (append_assoc a (lines_text xs) (lines_text ys)) in
-    cc
+use Rattle.col_report.specs.Printed.{Spells, more_text, filled_lines}
 
 -- ---- the line of a row
 

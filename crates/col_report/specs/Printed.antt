@@ -4,16 +4,12 @@ use Rattle.hex.specs.Hex.{encode_lower}
 use Rattle.serde_json.specs.Data.{Data, string}
 use Rattle.serde_json.specs.Written.{compact_text}
 use Rattle.col_model.specs.ColumnType.{ColumnType}
-use Rattle.col_model.specs.Report.{lines_text, list_data, row_line}
+use Rattle.col_model.specs.Report.{list_data, row_line}
 use Rattle.col_model.specs.Table.{Cell}
 
 -- the bytes grew by the text of a value
 unfoldable pub Spells : List ℕ → List ℕ → Data → Type 0
 Spells old new d = new ≡ old ++ compact_text d
-
--- the bytes grew by the text of these lines
-unfoldable pub Prints : List ℕ → List ℕ → List Data → Type 0
-Prints old new lines = new ≡ old ++ lines_text lines
 
 -- bytes that aren't UTF-8, by their digits
 abbrev pub digits_data : List ℕ → Data

@@ -6,10 +6,10 @@ ghost use Rattle.col_column.specs.Columns.{rows_in};
 ghost use Rattle.col_dynamic.specs.Dynamic.{type_of, content_of};
 ghost use Rattle.col_model.specs.ColumnType as types;
 ghost use Rattle.col_model.specs.Limits.{cell_count};
-ghost use Rattle.col_model.specs.Report.{column_line, column_lines};
+ghost use Rattle.col_model.specs.Report.{column_line, column_lines, Prints};
 ghost use Rattle.col_model.specs.Table.{Cell};
 ghost use Rattle.col_text.specs.Texts.{texts_content};
-ghost use Rattle.col_report.specs.Printed.{Prints, filled_lines};
+ghost use Rattle.col_report.specs.Printed.{filled_lines};
 ghost use Rattle.col_report.specs.Reported.{column_of};
 
 use crate::cells::PlainCells;

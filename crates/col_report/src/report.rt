@@ -5,9 +5,8 @@ ghost use Rattle.col_dynamic.specs.Dynamic.{type_of, content_of};
 ghost use Rattle.col_file.specs.Files.{Answers};
 ghost use Rattle.col_find.specs.Finds as wanted;
 ghost use Rattle.col_model.specs.File.{table_of};
-ghost use Rattle.col_model.specs.Report.{rows_line, column_lines, find_line, report_of};
+ghost use Rattle.col_model.specs.Report.{rows_line, column_lines, find_line, report_of, Prints};
 ghost use Rattle.col_report.specs.Opened.{opened, column_typed, table_opened, AreRead};
-ghost use Rattle.col_report.specs.Printed.{Prints};
 
 use crate::found::{push_absent, push_find};
 use crate::lines::push_column;

@@ -2,8 +2,8 @@
 ghost use Rattle.std.specs.Prelude.{◌≡◌, ◌<◌, ◌≤◌, ◌∷◌, ◌++◌, [], length, map, slice_range, OnOk};
 ghost use Rattle.std.specs.List.{enumerate_from};
 ghost use Rattle.col_column.specs.Columns.{AreOf, docs_in, row_at, rows_in};
-ghost use Rattle.col_model.specs.Report.{cell_data, row_line};
-ghost use Rattle.col_report.specs.Printed.{Prints, filled_lines, more_text};
+ghost use Rattle.col_model.specs.Report.{cell_data, row_line, Prints};
+ghost use Rattle.col_report.specs.Printed.{filled_lines, more_text};
 
 use crate::cells::PrintCells;
 use crate::text::push_number;

@@ -7,7 +7,8 @@ ghost use Rattle.serde_json.specs.Data as values;
 ghost use Rattle.serde_json.specs.Find.{of_integer};
 ghost use Rattle.serde_json.specs.View.{view};
 ghost use Rattle.serde_json.specs.Written.{has_float};
-ghost use Rattle.col_report.specs.Printed.{Prints, Spells};
+ghost use Rattle.col_model.specs.Report.{Prints};
+ghost use Rattle.col_report.specs.Printed.{Spells};
 
 use itoa::Buffer;
 use json::Writer;
@@ -61,7 +62,7 @@ pub(crate) fn push_hex(alloc: Global, out: &mut Vec<u8>, bytes: &[u8]) -> Result
 }
 
 // Appends the value's text and a line feed.
-#[tactic(auto, unfolding(crate::specs::Printed::Prints))]
+#[tactic(auto, unfolding(col_model::specs::Report::Prints))]
 pub(crate) fn push_line(alloc: Global, out: &mut Vec<u8>, value: &Value) -> Result<(), AllocError>
     requires { has_float (view value.now) ≡ false }
     ensures { OnOk result (Prints out.old.items out.new.items (view value.now ∷ [])) }

@@ -1,12 +1,12 @@
 -- Lists without their last item.
-use Rattle.std.proofs.Common.{◌≡◌, ◌<◌, ℕ, zero, suc, ◌+◌, ◌-◌, List, [], ◌∷◌, ◌++◌, length, take, Bool, true, false, Option, Some, None, refl, sym, ◌∙◌, ap, arith, length-append}
+use Rattle.std.proofs.Common.{◌≡◌, ◌<◌, ℕ, zero, suc, ◌+◌, ◌-◌, List, [], ◌∷◌, ◌++◌, length, take, Bool, true, false, Option, Some, None, refl, sym, ◌∙◌, ap, arith, length-append, append-nil}
 use Rattle.std.specs.Prelude.{nat_le, not, is_some, MatchOption, option_to_list}
 use Rattle.std.specs.List.{range_with_len}
 use Rattle.std.proofs.lemmas.Bool.{and_parts, and_from}
 use Rattle.col_common.specs.Ascending.{is_never_falling}
 use Rattle.col_model.proofs.ListLaws.{range-more}
 use Rattle.col_rows.specs.Documents.{dense_then, IsCut}
-use Rattle.col_rows.proofs.DocumentLemmas.{append-none, dense_then-push}
+use Rattle.col_rows.proofs.DocumentLemmas.{dense_then-push}
 
 -- what stands before the last item
 pub before_last : {A : Type 0} (xs : List A) (x : A) → take (length (xs ++ x ∷ []) - 1) (xs ++ x ∷ []) ≡ xs
@@ -40,7 +40,7 @@ dense-cut zero [] [] docs None b is cut e f m w many cases some = let long : len
 dense-cut (suc n) [] [] docs None b is cut e f m w many cases some =
     let less : suc n - 1 ≡ n = omega arith in
     let one : suc n ≡ n + 1 = omega arith in
-    (0 + n, omega arith, sym is ∙ append-none _ ∙ ap (range_with_len 0) one ∙ range-more 0 n ∙ ap (λ k. range_with_len 0 k ++ (0 + n) ∷ []) (sym less) ∙ ap (λ r. r ++ (0 + n) ∷ []) (sym (append-none (range_with_len 0 (suc n - 1)))))
+    (0 + n, omega arith, sym is ∙ append-nil _ ∙ ap (range_with_len 0) one ∙ range-more 0 n ∙ ap (λ k. range_with_len 0 k ++ (0 + n) ∷ []) (sym less) ∙ ap (λ r. r ++ (0 + n) ∷ []) (sym (append-nil (range_with_len 0 (suc n - 1)))))
 
 -- the same where some does
 pub others-cut : (n : ℕ) (others left docs : List ℕ) (r : Option ℕ) (b : Bool) → dense_then n others ≡ docs → others ≡ left ++ option_to_list r → is_some r ≡ not b → b ≡ false → (x : ℕ) × (docs ≡ dense_then n left ++ x ∷ [])

@@ -1,16 +1,13 @@
 -- Documents that never fall.
-use Rattle.std.proofs.Common.{◌≡◌, ◌<◌, ◌≤◌, ℕ, zero, suc, drop, get_or, ◌+◌, ◌-◌, List, [], ◌∷◌, ◌++◌, length, Bool, true, false, Option, Some, None, unwrap_or, refl, sym, ◌∙◌, ap, arith, append_assoc, length-append, le-leb}
+use Rattle.std.proofs.Common.{◌≡◌, ◌<◌, ◌≤◌, ℕ, zero, suc, drop, get_or, ◌+◌, ◌-◌, List, [], ◌∷◌, ◌++◌, length, Bool, true, false, Option, Some, None, unwrap_or, refl, sym, ◌∙◌, ap, arith, append_assoc, length-append, le-leb, append-nil}
 use Rattle.std.specs.Prelude.{nat_lt, nat_le, ◌&&◌, ◌==◌, option_map, slice_get, is_some}
 use Rattle.std.specs.List.{last_or, range_with_len}
 use Rattle.std.proofs.lemmas.Bool.{and_parts, and_from}
 use Rattle.std.proofs.lemmas.List.FromFn.{length-range_with_len}
 use Rattle.col_common.specs.Ascending.{is_never_falling, is_rising}
+use Rattle.col_common.proofs.OrderingLemmas.{lt-next}
 use Rattle.col_model.proofs.ListLaws.{range-more}
 use Rattle.col_rows.specs.Documents.{dense_then, is_late_doc, all_from}
-
-pub append-none : {A : Type 0} (xs : List A) → xs ++ [] ≡ xs
-append-none [] = refl
-append-none (x ∷ xs) = ap (λ r. x ∷ r) (append-none xs)
 
 -- the last item of two lists, one behind the other
 pub last_or-append : {A : Type 0} (o : Option A) (xs ys : List A) → last_or o (xs ++ ys) ≡ last_or (last_or o xs) ys
@@ -53,7 +50,7 @@ late-dense zero others docs d is e h = absurd (omega arith)
 late-dense (suc n) others docs d is e h =
     let one : suc n ≡ n + 1 = omega arith in
     let less : suc n - 1 ≡ n = omega arith in
-    let alone : docs ≡ range_with_len 0 n ++ (0 + n) ∷ [] = sym is ∙ ap (λ r. range_with_len 0 (suc n) ++ r) (empty-found others e) ∙ append-none _ ∙ ap (range_with_len 0) one ∙ range-more 0 n in
+    let alone : docs ≡ range_with_len 0 n ++ (0 + n) ∷ [] = sym is ∙ ap (λ r. range_with_len 0 (suc n) ++ r) (empty-found others e) ∙ append-nil _ ∙ ap (range_with_len 0) one ∙ range-more 0 n in
     let at : last_or None docs ≡ Some (0 + n) = ap (last_or None) alone ∙ last_or-append None (range_with_len 0 n) ((0 + n) ∷ []) in
     let z : 0 + n ≡ n = omega arith in
     ap (nat_lt d) less ∙ sym (ap (λ o. unwrap_or (option_map (λ l. nat_lt d l) o) false) (at ∙ ap Some z))
@@ -61,7 +58,7 @@ late-dense (suc n) others docs d is e h =
 pub late-none : (n : ℕ) (others docs : List ℕ) (d : ℕ) → dense_then n others ≡ docs → slice_get others (length others - 1) ≡ None → n ≡ 0 → false ≡ is_late_doc docs d
 unfolding dense_then is_late_doc
 late-none n others docs d is e h =
-    let alone : docs ≡ [] = sym is ∙ ap (λ r. range_with_len 0 n ++ r) (empty-found others e) ∙ append-none _ ∙ ap (range_with_len 0) h in
+    let alone : docs ≡ [] = sym is ∙ ap (λ r. range_with_len 0 n ++ r) (empty-found others e) ∙ append-nil _ ∙ ap (range_with_len 0) h in
     sym (ap (λ o. unwrap_or (option_map (λ l. nat_lt d l) (last_or None o)) false) alone)
 
 pub dense_then-none : dense_then 0 [] ≡ []
@@ -72,8 +69,8 @@ pub dense_then-next : (n : ℕ) (others docs : List ℕ) (d : ℕ) → dense_the
 unfolding dense_then
 dense_then-next n others docs d is none e =
     let z : 0 + n ≡ d = omega arith in
-    ap (λ r. range_with_len 0 (n + 1) ++ r) none ∙ append-none _ ∙ range-more 0 n ∙ ap (λ k. range_with_len 0 n ++ k ∷ []) z
-    ∙ ap (λ r. r ++ d ∷ []) (sym (append-none (range_with_len 0 n)) ∙ ap (λ r. range_with_len 0 n ++ r) (sym none) ∙ is)
+    ap (λ r. range_with_len 0 (n + 1) ++ r) none ∙ append-nil _ ∙ range-more 0 n ∙ ap (λ k. range_with_len 0 n ++ k ∷ []) z
+    ∙ ap (λ r. r ++ d ∷ []) (sym (append-nil (range_with_len 0 n)) ∙ ap (λ r. range_with_len 0 n ++ r) (sym none) ∙ is)
 
 pub dense_then-push : (n : ℕ) (others docs : List ℕ) (d : ℕ) → dense_then n others ≡ docs → dense_then n (others ++ d ∷ []) ≡ docs ++ d ∷ []
 unfolding dense_then
@@ -110,17 +107,10 @@ one-doc d all more e f = let z : d ≡ 0 + d = omega arith in f ∙ (λ i. e i +
 
 -- ---- documents of which none are the same
 
-less-next : (x y : ℕ) → nat_lt x y ≡ nat_le (x + 1) y
-less-next x y = by (nat_lt x y) refl
-  where
-    by : (b : Bool) → nat_lt x y ≡ b → b ≡ nat_le (x + 1) y
-    by true e = let h : x + 1 ≤ y = grind arith in sym (le-leb _ _ h)
-    by false e = grind arith
-
 rises-from : (x : ℕ) (xs : List ℕ) → is_rising (x ∷ xs) ≡ all_from (x + 1) xs
 unfolding all_from
 rises-from x [] = refl
-rises-from x (y ∷ ys) = λ i. less-next x y i && rises-from y ys i
+rises-from x (y ∷ ys) = λ i. lt-next x y i && rises-from y ys i
 
 dense-from : (a n : ℕ) (ys : List ℕ) → all_from a (range_with_len a n ++ ys) ≡ all_from (a + n) ys
 unfolding all_from

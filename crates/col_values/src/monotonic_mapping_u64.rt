@@ -7,10 +7,7 @@ ghost use Rattle.col_values.specs.Laws.{ImagesReachDown};
 ghost use Rattle.col_values.specs.Codes.{IsCoded, number_cmp, is_below, bool_code, bool_value, i64_code, is_i64};
 ghost use Rattle.col_model.proofs.CodeLaws.{number_laws, u32_laws, bool_laws, i64_laws};
 
-use col_common::DateTime;
-
-// The number of 0 among signed numbers.
-const SIGN_BIT: u64 = 1 << 63;
+use col_common::{DateTime, SIGN_BIT};
 
 /// A type whose values stand as numbers of 64 bits, in their order.
 pub trait MonotonicallyMappableToU64: PartialOrd + Copy {

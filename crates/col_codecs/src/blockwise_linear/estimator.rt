@@ -9,8 +9,8 @@ use super::offsets::train_offsets;
 use super::writer::serialize_blocks;
 use crate::codec::ColumnCodecEstimator;
 use crate::column_stats::ColumnStats;
-use crate::packing::BLOCK_SIZE;
 use col_common::{BYTE_BITS, ColumnarError, Iterable, Sink, U64_NUM_BYTES};
+use col_model::BLOCK_SIZE;
 use std::alloc::{AllocError, Global};
 
 // The binary logarithm of 2^64, less 1.

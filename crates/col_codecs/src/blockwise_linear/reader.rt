@@ -1,5 +1,5 @@
 //! Lists in blocks, read in place.
-ghost use Rattle.std.specs.Prelude.{◌≡◌, ◌≤◌, ◌+◌, ◌*◌, ◌%◌, ◌^◌, map, length, take, IfOk, IfErr};
+ghost use Rattle.std.specs.Prelude.{◌≡◌, ◌≤◌, ◌+◌, ◌*◌, ◌%◌, ◌^◌, map, length, take, IfOk};
 ghost use Rattle.std.specs.List.{range_with_len};
 ghost use Rattle.col_common.specs.Decoding.{Decodes};
 ghost use Rattle.col_codecs.specs.ColumnStats.{stats_seen, IsPossible};
@@ -16,7 +16,7 @@ use crate::packing::BLOCK_LEN;
 use bytes::Bytes;
 use col_common::{ColumnarError, RowId, split_by_second};
 use col_values::ColumnValues;
-use std::alloc::Global;
+use std::alloc::{AllocError, Global};
 use std::marker::Model;
 use std::ops::Range;
 
@@ -67,9 +67,8 @@ impl BlockwiseLinearReader {
     }
 
     /// The same list once more, which shares its bytes.
-    pub fn try_clone(&self, alloc: Global) -> Result<BlockwiseLinearReader, ColumnarError>
-        ensures ok { IfOk result (λ r. r ≡ self.now) }
-        ensures err { IfErr result (λ e. e ≡ ColumnarError.OutOfMemory) }
+    pub fn try_clone(&self, alloc: Global) -> Result<BlockwiseLinearReader, AllocError>
+        ensures { IfOk result (λ r. r ≡ self.now) }
     {
         Ok(BlockwiseLinearReader {
             data: self.data.slice(..)?,

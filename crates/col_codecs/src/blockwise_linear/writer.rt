@@ -18,10 +18,9 @@ ghost use Rattle.col_codecs.specs.Blocks.{IsBlock};
 
 use super::offsets::train_offsets;
 use crate::column_stats::ColumnStats;
-use crate::packing::{
-    BLOCK_LEN, BLOCK_SIZE, MAX_BLOCK_NUM_BYTES, pack_block, take_block, take_steps,
-};
+use crate::packing::{BLOCK_LEN, MAX_BLOCK_NUM_BYTES, pack_block, take_block, take_steps};
 use col_common::{Buffer, ColumnarError, Iterable, Sink, serialize_bytes};
+use col_model::BLOCK_SIZE;
 use std::alloc::Global;
 
 /// Adds a list's blocks, their lines, and the length of the lines.

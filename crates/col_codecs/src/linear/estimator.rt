@@ -11,10 +11,11 @@ use crate::codec::ColumnCodecEstimator;
 use crate::column_stats::ColumnStats;
 use crate::line::Line;
 use crate::linear_params::LinearParams;
-use crate::packing::{BLOCK_LEN, BLOCK_SIZE};
+use crate::packing::BLOCK_LEN;
 use crate::turning::serialize_turned;
 use col_bits::compute_num_bits;
 use col_common::{BYTE_BITS, ColumnarError, Iterable, Sink};
+use col_model::BLOCK_SIZE;
 use std::alloc::{AllocError, Global};
 
 // Half of the numbers below 2^64, without one.

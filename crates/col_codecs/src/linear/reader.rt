@@ -1,5 +1,5 @@
 //! Lists under Linear, read in place.
-ghost use Rattle.std.specs.Prelude.{◌≡◌, ◌≤◌, ◌*◌, ◌&&◌, length, drop, option_map, IfSome, IfOk, IfErr, IsTrue};
+ghost use Rattle.std.specs.Prelude.{◌≡◌, ◌≤◌, ◌-◌, ◌*◌, ◌&&◌, length, drop, option_map, IfSome, IfOk, IsTrue};
 ghost use Rattle.col_common.specs.Decoding.{Decodes};
 ghost use Rattle.col_common.specs.Reading.{only_if};
 ghost use Rattle.col_bits.specs.Packed.{is_width, is_packed};
@@ -19,9 +19,9 @@ use crate::line::Line;
 use crate::linear_params::LinearParams;
 use bytes::Bytes;
 use col_bits::{BitUnpacker, is_packed};
-use col_common::{ColumnarError, RowId};
+use col_common::{ColumnarError, RowId, cut_rest};
 use col_values::ColumnValues;
-use std::alloc::Global;
+use std::alloc::{AllocError, Global};
 use std::marker::Model;
 use std::ops::Range;
 
@@ -76,9 +76,8 @@ impl LinearReader {
     }
 
     /// The same list once more, which shares its bytes.
-    pub fn try_clone(&self) -> Result<LinearReader, ColumnarError>
-        ensures ok { IfOk result (λ r. r ≡ self.now) }
-        ensures err { IfErr result (λ e. e ≡ ColumnarError.OutOfMemory) }
+    pub fn try_clone(&self) -> Result<LinearReader, AllocError>
+        ensures { IfOk result (λ r. r ≡ self.now) }
     {
         Ok(LinearReader {
             data: self.data.slice(..)?,
@@ -177,21 +176,19 @@ fn take_params(bytes: Bytes) -> Option<(LinearParams, Bytes)>
     ensures value { option_map (λ r. (params_seen r.0, r.1)) result ≡ params_at bytes }
     ensures width { IfSome result (λ r. IsTrue (is_width r.0.offset_width)) }
 {
-    let (params, start) = read_params(bytes.as_slice())?;
-    let mut behind = bytes;
-    behind.advance(start);
-    Some((params, behind))
+    let (params, rest_len) = read_params(bytes.as_slice())?;
+    Some((params, cut_rest(bytes, rest_len)))
 }
 
-// The line and the width byte at the front, and the place behind them.
+// The line and the width byte at the front, and how many bytes are behind them.
 fn read_params(bytes: &[u8]) -> Option<(LinearParams, usize)>
-    ensures value { option_map (λ r. (params_seen r.0, drop r.1 bytes.now)) result
+    ensures value { option_map (λ r. (params_seen r.0, drop (length bytes.now - r.1) bytes.now)) result
         ≡ params_at bytes.now }
     ensures within { IfSome result (λ r. r.1 ≤ length bytes.now) }
     ensures width { IfSome result (λ r. IsTrue (is_width r.0.offset_width)) }
 {
     let (params, rest) = LinearParams::read(bytes)?;
-    Some((params, bytes.len() - rest.len()))
+    Some((params, rest.len()))
 }
 
 // The bounds of the blocks of the items, where the bytes are packed offsets, and the statistics are

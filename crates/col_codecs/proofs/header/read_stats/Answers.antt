@@ -3,8 +3,8 @@ use Rattle.col_codecs.specs.ColumnStats.{stats_seen}
 use Rattle.col_codecs.proofs.HeaderLemmas.{stats_at-behind}
 use Rattle.col_codecs.proofs.header.read_stats.Goals as goal
 
-pub overflow_sub-result : goal.overflow_sub-result
-overflow_sub-result c = (stats_at-behind c.args.bytes.now c.deserialize.new.data.now (stats_seen c.in-Ok.stats) (λ k. (c.type_inv.bytes k).fits) c.in-Ok.ensures.taken).0
+pub returns-clause-within : goal.returns-clause-within
+returns-clause-within c = (stats_at-behind c.args.bytes.now c.deserialize.new.data.now (stats_seen c.in-Ok.stats) (λ k. (c.type_inv.bytes k).fits) c.in-Ok.ensures.taken).0
 
 pub returns-clause-value : goal.returns-clause-value
 returns-clause-value c =

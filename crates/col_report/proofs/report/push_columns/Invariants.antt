@@ -1,7 +1,6 @@
 use Rattle.std.proofs.Common.{flat_map, take}
-use Rattle.col_model.specs.Report.{column_lines}
+use Rattle.col_model.specs.Report.{column_lines, Prints}
 use Rattle.col_report.specs.Opened.{opened}
-use Rattle.col_report.specs.Printed.{Prints}
 use Rattle.col_report.proofs.report.push_columns.Given as goal
 
 abbrev pub invariant-loop-named : goal.invariant-loop-named

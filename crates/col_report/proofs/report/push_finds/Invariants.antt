@@ -1,8 +1,7 @@
 use Rattle.std.proofs.Common.{ℕ, List, map, take}
 use Rattle.col_find.specs.Finds as finds
-use Rattle.col_model.specs.Report.{find_line}
+use Rattle.col_model.specs.Report.{find_line, Prints}
 use Rattle.col_report.specs.Opened.{table_opened, AreRead}
-use Rattle.col_report.specs.Printed.{Prints}
 use Rattle.col_report.proofs.report.push_finds.Given as goal
 
 abbrev pub invariant-loop-find : goal.invariant-loop-find

@@ -1,7 +1,8 @@
 use Rattle.std.proofs.Common.{map, take}
 use Rattle.std.specs.List.{enumerate_from}
 use Rattle.col_column.specs.Columns.{rows_in}
-use Rattle.col_report.specs.Printed.{Prints, filled_lines}
+use Rattle.col_model.specs.Report.{Prints}
+use Rattle.col_report.specs.Printed.{filled_lines}
 use Rattle.col_report.proofs.rows.push_rows.Given as goal
 
 abbrev pub invariant-loop-row : goal.invariant-loop-row

@@ -1,5 +1,5 @@
-use Rattle.std.proofs.Common.{◌≡◌, ◌+◌, ◌≤◌, ◌<◌, length, drop, take, ◌∙◌, arith, length-append}
-use Rattle.std.proofs.lemmas.List.{length-map, length-take-le}
+use Rattle.std.proofs.Common.{◌≡◌, ◌+◌, ◌≤◌, length, drop, take, ◌∙◌, arith, length-append}
+use Rattle.std.proofs.lemmas.List.{length-take-le}
 use Rattle.col_values.proofs.PartLemmas.{room_kept, block_mapped, block_long, part_mapped, whole_mapped}
 use Rattle.col_values.proofs.monotonic_column.map_range.Goals as goal
 
