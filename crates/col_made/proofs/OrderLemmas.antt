@@ -6,7 +6,7 @@ use Rattle.std.proofs.lemmas.Cmp.{nat_list_eq_equiv}
 use Rattle.std.proofs.lemmas.Option.{same_Some}
 use Rattle.col_common.specs.declared.error.ColumnarError.{ColumnarError}
 use Rattle.col_common.specs.declared.error.ColumnarError.TheVariants.{OutOfMemory, BadOrder, TooLarge}
-use Rattle.col_model.specs.Order.{has_row, picks, stack, shuffle, all_rows}
+use Rattle.col_model.specs.Order.{has_row, picks, shuffle, all_rows}
 use Rattle.col_model.proofs.StackLaws.{picks-stack}
 use Rattle.col_order.specs.Orders.{shuffle_refusal}
 use Rattle.col_order.proofs.PickLemmas.{length-all_rows, picks-shuffle}

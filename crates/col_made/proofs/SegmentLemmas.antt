@@ -9,7 +9,6 @@ use Rattle.col_entry.specs.Tables.{WritesTable, WritesFile}
 use Rattle.col_model.specs.File.{StandsFor}
 use Rattle.col_model.specs.Refusal.{Refusal}
 use Rattle.col_model.specs.Table.{Table}
-use Rattle.col_model.specs.Written.{written}
 use Rattle.col_record.specs.Answers.{answer_of}
 use Rattle.col_made.specs.Making.{Makes}
 use Rattle.col_made.proofs.InputLemmas.{same-error}

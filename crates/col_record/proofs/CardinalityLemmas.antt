@@ -1,12 +1,12 @@
 -- The cardinality of documents that never fall.
-use Rattle.std.proofs.Common.{◌≡◌, ◌<◌, ◌≤◌, ℕ, zero, suc, ◌+◌, ◌-◌, List, [], ◌∷◌, length, map, sum, Bool, true, false, cond, Option, Some, None, refl, sym, ◌∙◌, ap, arith, le-leb, lt-ltb, eq-eqb}
-use Rattle.std.specs.Prelude.{nat_lt, nat_le, ◌==◌, ◌&&◌, count_by, max, unwrap_or, option_map, slice_get}
+use Rattle.std.proofs.Common.{◌≡◌, ◌<◌, ◌≤◌, ℕ, zero, suc, ◌+◌, ◌-◌, List, [], ◌∷◌, length, map, sum, Bool, true, false, cond, Some, None, refl, sym, ◌∙◌, ap, arith, le-leb, lt-ltb, eq-eqb}
+use Rattle.std.specs.Prelude.{nat_lt, nat_le, ◌==◌, count_by, max, unwrap_or, option_map, slice_get}
 use Rattle.std.specs.List.{list_all, last_or, range_with_len}
 use Rattle.std.proofs.lemmas.Bool.{and_parts, and_from}
 use Rattle.std.proofs.lemmas.List.Sums.{sum_by-cons}
 use Rattle.std.proofs.lemmas.List.FromFn.{length-map-range_with_len}
 use Rattle.col_common.specs.Ascending.{is_never_falling, is_rising, are_below}
-use Rattle.col_model.specs.Table.{Cardinality, full, optional, multivalued}
+use Rattle.col_model.specs.Table.{full, optional, multivalued}
 use Rattle.col_index.proofs.RankLaws.{tail_rises}
 use Rattle.col_rows.proofs.DocumentLemmas.{last_or-found}
 use Rattle.col_rows.proofs.ShapeLemmas.{all_above, none_counted}

@@ -1,8 +1,8 @@
 -- Documents by the keys of their first values.
-use Rattle.std.proofs.Common.{◌≡◌, ◌<◌, ◌≤◌, ℕ, zero, suc, ◌+◌, ◌^◌, List, [], ◌∷◌, length, map, get_or, Bool, true, false, cond, Ok, Err, refl, sym, ◌∙◌, ap, arith, inr}
+use Rattle.std.proofs.Common.{◌≡◌, ◌<◌, ◌≤◌, ℕ, zero, suc, ◌^◌, List, [], ◌∷◌, length, map, get_or, Bool, true, false, cond, Ok, Err, refl, sym, ◌∙◌, ap, arith, inr}
 use Rattle.std.specs.Prelude.{nat_le, nat_lt, ◌==◌, ◌||◌, slice_get, filter, unwrap_or}
 use Rattle.std.specs.List.{list_any, zip, range_with_len}
-use Rattle.std.proofs.lemmas.List.FromFn.{length-map-range_with_len, get_or-map-range_with_len}
+use Rattle.std.proofs.lemmas.List.FromFn.{get_or-map-range_with_len}
 use Rattle.col_common.specs.declared.error.ColumnarError.TheVariants as answers
 use Rattle.col_model.specs.Sorted.{sorted_items}
 use Rattle.col_model.specs.Refusal.{◌>>=◌, refuse_if, doc_out_of_range}

@@ -1,5 +1,5 @@
 -- Entries of columns of one type, and records into them.
-use Rattle.std.proofs.Common.{◌≡◌, ◌⊎◌, ℕ, List, [], ◌∷◌, ◌++◌, length, Bool, true, false, None, Result, Ok, Err, unwrap_or, refl, sym, ◌∙◌, ap, subst}
+use Rattle.std.proofs.Common.{◌≡◌, ℕ, List, [], ◌∷◌, ◌++◌, length, Bool, true, false, None, Result, Ok, Err, unwrap_or, refl, sym, ◌∙◌, ap, subst}
 use Rattle.std.specs.Prelude.{nat_lt, option_map}
 use Rattle.std.specs.List.{last_or}
 use Rattle.std.proofs.lemmas.List.{length-map}
@@ -9,7 +9,7 @@ use Rattle.col_model.specs.ColumnType as types
 use Rattle.col_model.specs.Table.{Cell, text}
 use Rattle.col_model.specs.Written.{Record, Entry}
 use Rattle.col_model.specs.Recording.{no_records, forces_other, is_late}
-use Rattle.col_model.specs.Refusal.{Refusal, ◌>>=◌}
+use Rattle.col_model.specs.Refusal.{◌>>=◌}
 use Rattle.col_rows.specs.Documents.{is_late_doc, docs_of}
 use Rattle.col_record.specs.Posted.{posted_after}
 use Rattle.col_record.specs.Answers.{Answers}

@@ -1,9 +1,8 @@
 -- The first keys of documents.
-use Rattle.std.proofs.Common.{◌≡◌, ◌<◌, ◌≤◌, ℕ, zero, suc, ◌+◌, ◌-◌, List, [], ◌∷◌, ◌++◌, length, map, take, get_or, replicate, Bool, true, false, cond, Option, Some, None, refl, sym, ◌∙◌, ap, arith, le-leb, lt-ltb, eq-eqb}
-use Rattle.std.specs.Prelude.{nat_le, nat_lt, ◌==◌, ◌&&◌, ◌||◌, slice_get, slice_set, filter, unwrap_or}
+use Rattle.std.proofs.Common.{◌≡◌, ◌<◌, ◌≤◌, ℕ, zero, suc, ◌+◌, ◌-◌, List, [], ◌∷◌, ◌++◌, length, map, take, get_or, replicate, Bool, true, false, cond, Some, None, refl, sym, ◌∙◌, ap, arith, lt-ltb}
+use Rattle.std.specs.Prelude.{nat_le, nat_lt, ◌==◌, ◌||◌, slice_get, slice_set, filter, unwrap_or}
 use Rattle.std.specs.List.{list_all, list_any, last_or, zip, range_with_len}
 use Rattle.std.proofs.lemmas.Bool.{and_parts, and_from}
-use Rattle.std.proofs.lemmas.List.{length-replicate, get_or-replicate}
 use Rattle.std.proofs.lemmas.List.FromFn.{length-map-range_with_len, get_or-map-range_with_len}
 use Rattle.std.proofs.lemmas.List.Folds.{list_all-append}
 use Rattle.std.proofs.lemmas.Grind.{same_number_lists}

@@ -1,6 +1,6 @@
 -- Records beside keys that compare as their cells.
-use Rattle.std.proofs.Common.{◌≡◌, ◌<◌, ◌≤◌, ℕ, zero, suc, ◌+◌, ◌^◌, List, [], ◌∷◌, length, map, get_or, Bool, true, false, cond, Option, Some, None, Result, Ok, Err, refl, sym, ◌∙◌, ap, subst, arith, le-leb}
-use Rattle.std.specs.Prelude.{ℤ, pos, ◌+ℤ◌, int_le, nat_le, nat_lt, ◌==◌, ◌||◌, not, slice_get, filter, unwrap_or, ⊤}
+use Rattle.std.proofs.Common.{◌≡◌, ◌<◌, ◌≤◌, ℕ, ◌+◌, ◌^◌, List, [], ◌∷◌, length, map, get_or, Bool, true, false, cond, Option, Some, None, Result, Ok, refl, sym, ◌∙◌, ap, subst, arith, le-leb}
+use Rattle.std.specs.Prelude.{pos, ◌+ℤ◌, int_le, nat_le, nat_lt, ◌==◌, ◌||◌, not, slice_get, filter, unwrap_or, ⊤}
 use Rattle.std.specs.List.{list_any, zip, range_with_len}
 use Rattle.std.specs.declared.cmp.Ordering.TheVariants.{Less}
 use Rattle.std.specs.Ordering.{nat_cmp, is_gt, ordering_reverse}
@@ -20,8 +20,8 @@ use Rattle.col_model.specs.Table.{Cell, number, text}
 use Rattle.col_model.specs.Lookup.{is_at_most}
 use Rattle.col_model.specs.Sorted.{sorted_items}
 use Rattle.col_model.specs.SortOrder.{docs_by, first_cell, is_key_at_most}
-use Rattle.col_model.specs.Written.{Record, cells_of}
-use Rattle.col_model.specs.Refusal.{Refusal, ◌>>=◌, refuse_if, doc_out_of_range}
+use Rattle.col_model.specs.Written.{Record}
+use Rattle.col_model.specs.Refusal.{◌>>=◌, refuse_if, doc_out_of_range}
 use Rattle.col_record.specs.Answers.{Gives}
 use Rattle.col_rows.specs.Documents.{docs_of}
 use Rattle.col_terms.specs.Building.{ordered, ordinals}

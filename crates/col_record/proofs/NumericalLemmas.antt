@@ -1,6 +1,6 @@
 -- The records of a column of numbers, with one more.
-use Rattle.std.proofs.Common.{◌≡◌, ◌<◌, ◌≤◌, ◌⊎◌, ℕ, suc, ◌+◌, ◌-◌, ◌^◌, List, [], ◌∷◌, ◌++◌, length, map, Bool, true, false, Option, Some, None, Result, Ok, Err, unwrap_or, refl, sym, ◌∙◌, ap, subst, arith, inl, inr}
-use Rattle.std.specs.Prelude.{ℤ, pos, ◌&&◌, nat_lt, nat_le, int_le, int_lt, not, option_map, filter_map, OnOk, IfErr, ◌↔◌, MatchOption, ⊤}
+use Rattle.std.proofs.Common.{◌≡◌, ◌⊎◌, ℕ, suc, ◌-◌, ◌^◌, List, [], ◌∷◌, ◌++◌, length, map, Bool, true, false, Option, Some, None, Result, Ok, Err, unwrap_or, refl, sym, ◌∙◌, ap, subst, arith, inl, inr}
+use Rattle.std.specs.Prelude.{ℤ, pos, ◌&&◌, nat_lt, nat_le, int_le, int_lt, not, option_map, filter_map, ◌↔◌, MatchOption, ⊤}
 use Rattle.std.specs.List.{list_all, last_or, zip, cons_option}
 use Rattle.std.proofs.lemmas.List.Elements.{filter_map-append}
 use Rattle.std.proofs.lemmas.List.Folds.{list_all-append}
@@ -13,10 +13,10 @@ use Rattle.col_model.specs.Table.{Cell, number}
 use Rattle.col_model.specs.NumericalType.{accepts_i64, accepts_u64}
 use Rattle.col_model.specs.Written.{Record, Entry, recorded_number}
 use Rattle.col_model.specs.Recording.{forces_other, is_late, accept_type, no_records}
-use Rattle.col_model.specs.Refusal.{Refusal, ◌>>=◌, refuse_if, forced_type, doc_order, too_large}
+use Rattle.col_model.specs.Refusal.{◌>>=◌, refuse_if, forced_type, doc_order, too_large}
 use Rattle.col_rows.specs.Documents.{is_late_doc, docs_of}
 use Rattle.col_record.specs.Posted.{posted_after}
-use Rattle.col_record.specs.Answers.{Answers, Refuses, answer_of}
+use Rattle.col_record.specs.Answers.{Answers, Refuses}
 use Rattle.col_types.specs.Kinds.{numerical_kind_of}
 use Rattle.col_record.specs.Values.{stored_number}
 use Rattle.col_types.specs.Numbers.{number_of}

@@ -1,8 +1,8 @@
 -- The steps of a column, one after another.
-use Rattle.std.proofs.Common.{◌≡◌, ◌<◌, ◌≤◌, ℕ, zero, suc, ◌+◌, ◌*◌, List, [], ◌∷◌, length, drop, get_or, Bool, true, false, cond, Option, Some, None, refl, sym, ◌∙◌, ap, arith, eq-eqb}
+use Rattle.std.proofs.Common.{◌≡◌, ◌≤◌, ℕ, zero, suc, ◌+◌, ◌*◌, List, [], ◌∷◌, length, drop, get_or, Bool, true, false, cond, Option, Some, None, refl, sym, ◌∙◌, ap, arith, eq-eqb}
 use Rattle.std.specs.Prelude.{◌==◌, slice_get}
 use Rattle.std.specs.List.{zip}
-use Rattle.col_record.specs.Operations.{operations_after, operations_of, is_told}
+use Rattle.col_record.specs.Operations.{operations_after, is_told}
 use Rattle.col_record.specs.declared.column_operation.ColumnOperation.{ColumnOperation}
 use Rattle.col_record.specs.declared.column_operation.ColumnOperation.TheVariants.{NewDoc, Value}
 

@@ -1,11 +1,11 @@
 -- Values beside their documents, with one more.
-use Rattle.std.proofs.Common.{◌≡◌, ◌<◌, ◌≤◌, ℕ, zero, suc, ◌+◌, ◌-◌, ◌^◌, List, [], ◌∷◌, ◌++◌, length, Bool, true, false, Result, Ok, Err, refl, sym, ◌∙◌, ap, arith, inr, le-leb, length-append}
-use Rattle.std.specs.Prelude.{nat_lt, nat_le, map, is_err, OnOk}
+use Rattle.std.proofs.Common.{◌≡◌, ◌<◌, ◌≤◌, ℕ, suc, ◌-◌, ◌^◌, List, [], ◌∷◌, ◌++◌, length, Bool, true, false, Result, Ok, Err, refl, sym, ◌∙◌, ap, arith, inr, le-leb, length-append}
+use Rattle.std.specs.Prelude.{nat_le, map, is_err, OnOk}
 use Rattle.std.specs.List.{zip}
 use Rattle.std.proofs.lemmas.Slice.Zip.{firsts-zip}
 use Rattle.std.proofs.lemmas.List.{length-map}
 use Rattle.col_common.specs.declared.error.ColumnarError.TheVariants as answers
-use Rattle.col_model.specs.Refusal.{Refusal, ◌>>=◌, refuse_if, doc_order, too_large}
+use Rattle.col_model.specs.Refusal.{◌>>=◌, refuse_if, doc_order, too_large}
 use Rattle.col_rows.specs.Documents.{is_late_doc, docs_of}
 use Rattle.col_record.specs.Posted.{posted_after}
 use Rattle.col_record.specs.Answers.{Answers}

@@ -1,6 +1,6 @@
 -- Texts of a column, by the ids of their terms.
-use Rattle.std.proofs.Common.{◌≡◌, ◌<◌, ◌≤◌, ◌⊎◌, ℕ, suc, ◌+◌, ◌-◌, ◌^◌, List, [], ◌∷◌, ◌++◌, length, Bool, true, false, cond, Option, Result, Ok, Err, unwrap_or, refl, sym, ◌∙◌, ap, subst, arith, inl, inr, length-append, lt-ltb, le-leb, ⊎_elim}
-use Rattle.std.specs.Prelude.{nat_lt, nat_le, nat_eq, ◌&&◌, ◌||◌, not, slice_get, bytes_eq, OnOk, ⊤}
+use Rattle.std.proofs.Common.{◌≡◌, ◌<◌, ◌≤◌, ◌⊎◌, ℕ, suc, ◌+◌, ◌-◌, ◌^◌, List, [], ◌∷◌, ◌++◌, length, Bool, true, false, cond, Result, Ok, Err, unwrap_or, refl, sym, ◌∙◌, ap, subst, arith, inl, inr, length-append}
+use Rattle.std.specs.Prelude.{nat_lt, nat_le, nat_eq, ◌&&◌, ◌||◌, not, slice_get, bytes_eq, ⊤}
 use Rattle.std.specs.List.{list_any, IsDistinct}
 use Rattle.std.proofs.lemmas.Map.Keys.{IsDistinct-push}
 use Rattle.std.proofs.lemmas.Cmp.{nat_list_eq_equiv}
@@ -12,7 +12,7 @@ use Rattle.std.proofs.lemmas.List.{length-map}
 use Rattle.col_common.specs.Ascending.{are_below}
 use Rattle.col_common.specs.declared.error.ColumnarError.{ColumnarError}
 use Rattle.col_common.specs.declared.error.ColumnarError.TheVariants as answers
-use Rattle.col_model.specs.Refusal.{Refusal, ◌>>=◌, refuse_if, doc_order, too_large}
+use Rattle.col_model.specs.Refusal.{◌>>=◌, refuse_if, doc_order, too_large}
 use Rattle.col_terms.specs.Building.{is_known, id_of, with_term, Allocates, is_past_ids, IsRefusal}
 use Rattle.col_rows.specs.Documents.{is_late_doc, docs_of}
 use Rattle.col_record.specs.Posted.{posted_after}

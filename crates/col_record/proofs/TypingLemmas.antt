@@ -1,5 +1,5 @@
 -- Types that are forced, by the entry of a column.
-use Rattle.std.proofs.Common.{◌≡◌, ◌⊎◌, ℕ, List, [], Bool, true, false, Option, Some, None, Result, Ok, Err, refl, sym, ◌∙◌, ap, inr}
+use Rattle.std.proofs.Common.{◌≡◌, ℕ, List, Bool, true, false, Option, Some, None, Ok, Err, refl, sym, ◌∙◌, ap, inr}
 use Rattle.std.specs.Prelude.{ℤ, not, ◌||◌, cond, MatchOption, ⊤}
 use Rattle.std.proofs.lemmas.Option.{same_Some}
 use Rattle.col_common.specs.declared.error.ColumnarError.TheVariants as answers
@@ -11,14 +11,14 @@ use Rattle.col_model.specs.Category.{category_of}
 use Rattle.col_model.specs.Category as categories
 use Rattle.col_model.specs.Written.{Record, Entry, entry_type}
 use Rattle.col_model.specs.Recording.{accept_type, denies}
-use Rattle.col_model.specs.Refusal.{Refusal, ◌>>=◌, refuse_if, forced_type}
+use Rattle.col_model.specs.Refusal.{◌>>=◌, refuse_if, forced_type}
 use Rattle.col_types.specs.Kinds.{numerical_kind_of}
 use Rattle.col_types.specs.declared.numerical_type.NumericalType.{NumericalType}
 use Rattle.col_types.specs.declared.numerical_type.NumericalType.TheVariants as kinds
 use Rattle.col_record.specs.Answers.{Answers}
 use Rattle.col_record.specs.Entries.{typed_entry, tied_entry}
 use Rattle.col_record.specs.Numerical.{numerical_entry, numerical_records, IsSummary, AreNumbers}
-use Rattle.col_record.specs.Compatible.{forced_of, is_accepted, accepted_type}
+use Rattle.col_record.specs.Compatible.{is_accepted, accepted_type}
 use Rattle.col_record.specs.Texts.{Texts}
 use Rattle.col_record.specs.Columns.{records_of, forced_type_of, text_entry, plain_entry}
 use Rattle.col_record.specs.declared.plain_column_writer.PlainColumnWriter.{PlainColumnWriter}

@@ -1,5 +1,5 @@
 -- The types that numbers of a column may have.
-use Rattle.std.specs.Prelude.{ℤ, pos, ◌-◌, ◌^◌, ◌&&◌, int_le, int_lt, Bool, false, Option, Some, None, if◌then◌else◌}
+use Rattle.std.specs.Prelude.{pos, ◌-◌, ◌^◌, ◌&&◌, int_le, int_lt, Bool, false, Option, Some, None, if◌then◌else◌}
 use Rattle.col_model.specs.ColumnType.{ColumnType, same_type}
 use Rattle.col_model.specs.ColumnType as types
 use Rattle.col_types.specs.Kinds.{numerical_kind_of}

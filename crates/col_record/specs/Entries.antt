@@ -3,7 +3,7 @@ use Rattle.std.specs.Prelude.{ℕ, ◌-◌, ◌^◌, nat_le, ℤ, Bool, [], ◌�
 use Rattle.col_model.specs.ColumnType.{ColumnType}
 use Rattle.col_model.specs.ColumnType as types
 use Rattle.col_model.specs.Table.{Cell}
-use Rattle.col_model.specs.Written.{Record, Entry}
+use Rattle.col_model.specs.Written.{Entry}
 use Rattle.col_model.specs.Recording.{forces_other, is_late, denies}
 use Rattle.col_model.specs.Refusal.{Refusal, ◌>>=◌, refuse_if, forced_type, doc_order, too_large}
 

@@ -1,5 +1,5 @@
 -- Columns by their places.
-use Rattle.std.proofs.Common.{◌≡◌, ℕ, zero, suc, ◌+◌, ◌<◌, List, [], ◌∷◌, Bool, true, false, Option, Some, None, length, get_or, slice_get, position, IfSome, refl, sym, ◌∙◌, ap, subst, true≢false, is_some, string_bytes, arith}
+use Rattle.std.proofs.Common.{◌≡◌, ℕ, zero, suc, ◌<◌, List, [], ◌∷◌, Bool, true, Option, Some, None, length, get_or, slice_get, position, IfSome, refl, sym, ◌∙◌, ap, subst, true≢false, is_some, string_bytes, arith}
 use Rattle.std.specs.Prelude.{bytes_eq, String, option_map}
 use Rattle.std.specs.HashMap.{HashMap, IsUnique, keys, get_by_text}
 use Rattle.std.specs.Map.{keys_of, values_of, update}

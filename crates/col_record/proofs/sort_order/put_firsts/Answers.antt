@@ -1,4 +1,4 @@
-use Rattle.std.proofs.Common.{◌∙◌, ap, sym, refl, arith, ◌≡◌, length, map, take}
+use Rattle.std.proofs.Common.{◌∙◌, ap, sym, refl, arith, length, map, take}
 use Rattle.std.specs.List.{range_with_len, zip}
 use Rattle.col_record.specs.Sorting.{first_key}
 use Rattle.col_record.proofs.FirstLemmas.{firsts-more, take-more, above-more, all-taken, doc-below, length-first_keys, are_above}

@@ -1,4 +1,4 @@
-use Rattle.std.proofs.Common.{arith, sym, ◌∙◌, ◌≡◌, false, true}
+use Rattle.std.proofs.Common.{arith, sym, ◌∙◌}
 use Rattle.col_record.proofs.OperationLemmas.{none-left, next-doc, next-value}
 use Rattle.col_record.proofs.column_operation.Operations.next.Goals as goal
 

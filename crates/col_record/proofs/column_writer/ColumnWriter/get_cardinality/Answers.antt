@@ -1,5 +1,4 @@
-use Rattle.std.proofs.Common.{arith, ap, sym, subst, ◌∙◌, ◌≡◌, List, ℕ, length, ◌<◌, ◌≤◌}
-use Rattle.col_model.specs.Table.{multivalued, optional, full}
+use Rattle.std.proofs.Common.{arith, ap, sym, ◌∙◌, length, ◌<◌, ◌≤◌}
 use Rattle.col_record.specs.Cardinalities.{cardinality_by, rows_up_to}
 use Rattle.col_record.proofs.PostedLemmas.{docs-zip}
 use Rattle.col_record.proofs.CardinalityLemmas.{is-multivalued, is-optional, is-full}

@@ -1,4 +1,4 @@
-use Rattle.std.proofs.Common.{arith, ap, length, ◌∙◌, sym}
+use Rattle.std.proofs.Common.{arith, ap, length}
 use Rattle.col_record.proofs.PostedLemmas.{length-zip}
 use Rattle.col_record.proofs.column_writer.ColumnWriter.num_values.Goals as goal
 

@@ -1,4 +1,4 @@
-use Rattle.std.proofs.Common.{◌∙◌, sym, ap, arith, length, false, ◌≡◌, ◌<◌, ◌^◌, ◌-◌, ◌++◌, ◌∷◌, []}
+use Rattle.std.proofs.Common.{◌∙◌, sym, arith, length, false, ◌≡◌, ◌<◌, ◌^◌, ◌-◌, ◌++◌, ◌∷◌, []}
 use Rattle.col_rows.specs.Documents.{is_late_doc}
 use Rattle.col_record.proofs.PostedLemmas.{answers-late, answers-full, answers-more, when_ok}
 use Rattle.col_record.proofs.column_writer.ColumnWriter.record.Goals as goal

@@ -1,7 +1,6 @@
-use Rattle.std.proofs.Common.{arith, ap, sym, ◌∙◌, length, ◌≡◌, true}
+use Rattle.std.proofs.Common.{arith, ap, sym, ◌∙◌, ◌≡◌, true}
 use Rattle.std.specs.Prelude.{◌==◌}
 use Rattle.std.specs.Vec.{vec_len}
-use Rattle.col_rows.specs.Documents.{docs_of}
 use Rattle.col_record.specs.Cardinalities.{rows_up_to}
 use Rattle.col_record.proofs.PostedLemmas.{docs-zip}
 use Rattle.col_record.proofs.CardinalityLemmas.{rows-found, rows-none}

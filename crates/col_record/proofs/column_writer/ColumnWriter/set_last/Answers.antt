@@ -1,5 +1,5 @@
 use Rattle.std.proofs.Common.{◌∙◌}
-use Rattle.col_record.proofs.CutLemmas.{posted-set, beside-set}
+use Rattle.col_record.proofs.CutLemmas.{posted-set}
 use Rattle.col_record.proofs.column_writer.ColumnWriter.set_last.Goals as goal
 
 pub returns : goal.returns

@@ -1,9 +1,7 @@
-use Rattle.std.proofs.Common.{◌∙◌, ap, sym, subst, refl, ◌≡◌, false, true, Some}
+use Rattle.std.proofs.Common.{◌∙◌, ap, sym, false, Some}
 use Rattle.std.specs.Prelude.{not}
-use Rattle.col_model.specs.Written.{Entry}
 use Rattle.col_model.specs.Recording.{denies}
 use Rattle.col_types.specs.Kinds.{numerical_kind_of}
-use Rattle.col_record.specs.Compatible.{is_accepted}
 use Rattle.col_record.proofs.TypingLemmas.{denied-accepted, forced-numbers, typed-answers, denied-answers}
 use Rattle.col_record.proofs.numerical_column_writer.NumericalColumnWriter.force_numerical_type.Goals as goal
 

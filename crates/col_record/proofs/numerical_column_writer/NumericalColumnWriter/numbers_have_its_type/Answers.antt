@@ -1,4 +1,3 @@
-use Rattle.std.proofs.Common.{ap, sym}
 use Rattle.col_record.proofs.TypingLemmas.{type-holds}
 use Rattle.col_record.proofs.numerical_column_writer.NumericalColumnWriter.numbers_have_its_type.Goals as goal
 

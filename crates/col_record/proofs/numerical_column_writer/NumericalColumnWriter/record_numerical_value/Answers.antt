@@ -1,4 +1,4 @@
-use Rattle.std.proofs.Common.{◌∙◌, ap, sym, arith, ◌≡◌, length, refl, ◌-◌, take, subst, Err, List, ◌∷◌, [], length-append}
+use Rattle.std.proofs.Common.{◌∙◌, ap, sym, ◌≡◌, length, ◌-◌, take, subst, Err, List}
 use Rattle.std.proofs.lemmas.Result.{err_from_is_err_and}
 use Rattle.col_model.specs.Recording.{forces_other}
 use Rattle.col_model.specs.Table.{number}
@@ -10,7 +10,7 @@ use Rattle.col_types.specs.Numbers.{number_of}
 use Rattle.col_record.specs.Values.{value_type}
 use Rattle.col_rows.proofs.CutLemmas.{before_last}
 use Rattle.col_record.proofs.PostedLemmas.{both_more}
-use Rattle.col_record.proofs.NumericalLemmas.{Parts, free_of, forced-answers, refused-answers, recorded-answers, records-with, posted-value, summary-push, still-tied}
+use Rattle.col_record.proofs.NumericalLemmas.{free_of, forced-answers, refused-answers, recorded-answers, records-with, posted-value, summary-push, still-tied}
 use Rattle.col_record.proofs.numerical_column_writer.NumericalColumnWriter.record_numerical_value.Goals as goal
 
 pub returns-in_err-accept_value : goal.returns-in_err-accept_value

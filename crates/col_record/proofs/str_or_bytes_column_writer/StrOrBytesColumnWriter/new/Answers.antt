@@ -1,4 +1,4 @@
-use Rattle.std.proofs.Common.{◌∙◌, ap, false}
+use Rattle.std.proofs.Common.{false}
 use Rattle.col_record.proofs.TextLemmas.{no_texts-again}
 use Rattle.col_record.proofs.str_or_bytes_column_writer.StrOrBytesColumnWriter.new.Goals as goal
 

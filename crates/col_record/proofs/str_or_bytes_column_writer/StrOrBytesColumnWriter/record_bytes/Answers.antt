@@ -1,4 +1,4 @@
-use Rattle.std.proofs.Common.{◌∙◌, ap, sym, subst, refl, arith, ◌≡◌, List, ℕ, Err}
+use Rattle.std.proofs.Common.{◌∙◌, ap, sym, subst, List, ℕ, Err}
 use Rattle.std.proofs.lemmas.Result.{err_from_is_err_and}
 use Rattle.col_record.specs.Texts.{texts_by_id, AreIds}
 use Rattle.col_record.proofs.CutLemmas.{cut_is, set_is, some_pushed}

@@ -1,7 +1,7 @@
-use Rattle.std.proofs.Common.{◌∙◌, ap, length, sym}
+use Rattle.std.proofs.Common.{◌∙◌, ap, length}
 use Rattle.col_record.specs.Texts.{Texts}
 use Rattle.col_record.proofs.KeyLemmas.{length-text_keys}
-use Rattle.col_record.proofs.KeyedLemmas.{many-keys, gives-texts, known-ids}
+use Rattle.col_record.proofs.KeyedLemmas.{many-keys, gives-texts}
 use Rattle.col_record.proofs.str_or_bytes_column_writer.StrOrBytesColumnWriter.sort_order.Goals as goal
 
 pub sort_docs-requires : goal.sort_docs-requires

@@ -1,4 +1,4 @@
-use Rattle.std.proofs.Common.{◌∙◌, sym, arith}
+use Rattle.std.proofs.Common.{arith}
 use Rattle.col_record.proofs.TypeListLemmas.{first-place, others-within, others-place}
 use Rattle.col_record.proofs.type_list.TypeList.get.Goals as goal
 

@@ -1,4 +1,4 @@
-use Rattle.std.proofs.Common.{◌∙◌, ap, sym, arith, ◌≡◌, length}
+use Rattle.std.proofs.Common.{arith}
 use Rattle.col_record.proofs.TypeListLemmas.{same_then-fewer, same_then-left}
 use Rattle.col_record.proofs.type_list.TypeList.pop.Goals as goal
 

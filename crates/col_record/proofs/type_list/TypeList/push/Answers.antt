@@ -1,4 +1,4 @@
-use Rattle.std.proofs.Common.{◌∙◌, ap, sym, subst, arith, ◌≡◌, true, List}
+use Rattle.std.proofs.Common.{◌∙◌, ap, subst, arith, List}
 use Rattle.col_record.specs.Values.{same_then, GoesOn}
 use Rattle.col_types.specs.declared.numerical_type.NumericalType.{NumericalType}
 use Rattle.col_record.proofs.TypeListLemmas.{same_then-next, same_then-push}

@@ -1,4 +1,4 @@
-use Rattle.std.proofs.Common.{rules, ◌∙◌, ap, sym, subst, ◌≡◌, Some, None}
+use Rattle.std.proofs.Common.{◌∙◌, ap, sym, subst, ◌≡◌, Some, None}
 use Rattle.indexmap.specs.IndexMap.{with_value_at}
 use Rattle.col_writer.proofs.PlaceLemmas.{updates-at_place, column-at_place}
 use Rattle.col_model.specs.Table.{number}

@@ -1,5 +1,5 @@
 use Rattle.std.proofs.lemmas.Int.{ints}
-use Rattle.std.proofs.Common.{arith, to_z, of_z, w64, rules, ◌∙◌, ap, sym, subst, ◌≡◌, Some, None}
+use Rattle.std.proofs.Common.{arith, to_z, of_z, w64, ◌∙◌, ap, sym, subst, ◌≡◌, Some, None}
 use Rattle.indexmap.specs.IndexMap.{with_value_at}
 use Rattle.col_writer.proofs.PlaceLemmas.{updates-at_place, column-at_place}
 use Rattle.std.specs.FinMap.{find}

@@ -1,13 +1,11 @@
-use Rattle.std.proofs.Common.{rules, ◌∙◌, ap, sym, refl, Some, Ok}
+use Rattle.std.proofs.Common.{refl, Ok}
 use Rattle.indexmap.specs.IndexMap.{with_value_at}
 use Rattle.col_writer.proofs.PlaceLemmas.{updates-at_place, column-at_place}
-use Rattle.std.specs.FinMap.{find}
 use Rattle.col_model.specs.ColumnType as types
 use Rattle.col_model.specs.Category.{Slot, slot_cmp}
 use Rattle.col_model.specs.Category as categories
 use Rattle.col_model.specs.Recording.{typed}
 use Rattle.col_record.specs.Entries.{typed_entry}
-use Rattle.col_writer.specs.Contents.{content_of}
 use Rattle.col_record.specs.Columns.{text_entry}
 use Rattle.col_writer.specs.Columns.{columns_of}
 use Rattle.col_writer.proofs.EntryLemmas.{new-name}

@@ -1,4 +1,4 @@
-use Rattle.std.proofs.Common.{rules, ◌∙◌, ap, sym, subst, ◌≡◌, Some, None, false}
+use Rattle.std.proofs.Common.{◌∙◌, ap, sym, subst, ◌≡◌, Some, None, false}
 use Rattle.indexmap.specs.IndexMap.{with_value_at}
 use Rattle.col_writer.proofs.PlaceLemmas.{updates-at_place, column-at_place}
 use Rattle.std.specs.FinMap.{find}
