@@ -9,7 +9,8 @@ use Rattle.col_bits.specs.Extremes.{IsAtMost, AreExtremes}
 
 module _ {T : Type 0} {R : T → T → Ordering} (o : IsTotalOrder R) where
   -- one of two is among more items
-  either_in : (items : List T) (x y : T) (b : Bool) → Contains items x → Contains (items ++ y ∷ []) (cond b x y) × Contains (items ++ y ∷ []) (cond b y x)
+  either_in : (items : List T) (x y : T) (b : Bool) → Contains items x
+      → Contains (items ++ y ∷ []) (cond b x y) × Contains (items ++ y ∷ []) (cond b y x)
   either_in items x y true h = (Contains-append_left items (y ∷ []) x h, Contains-push items y)
   either_in items x y false h = (Contains-push items y, Contains-append_left items (y ∷ []) x h)
 
@@ -23,7 +24,8 @@ module _ {T : Type 0} {R : T → T → Ordering} (o : IsTotalOrder R) where
   }
 
   -- one item more
-  pub extremes_more : (items : List T) (x least greatest : T) → AreExtremes R items least greatest → AreExtremes R (items ++ x ∷ []) (ord_min R least x) (ord_max R greatest x)
+  pub extremes_more : (items : List T) (x least greatest : T) → AreExtremes R items least greatest
+      → AreExtremes R (items ++ x ∷ []) (ord_min R least x) (ord_max R greatest x)
   extremes_more items x least greatest e =
       let low = min_cases o least x (is_lt (R x least)) refl in
       let high = max_cases o greatest x (is_lt (R x greatest)) refl in
@@ -33,5 +35,6 @@ module _ {T : Type 0} {R : T → T → Ordering} (o : IsTotalOrder R) where
         above = All-push (IsAtMost R (ord_min R least x)) items x
             (All-weaker (IsAtMost R least) (IsAtMost R (ord_min R least x)) (λ v h. le_chain o _ least v low.0 h) items e.above) low.1;
         below = All-push (λ v. IsAtMost R v (ord_max R greatest x)) items x
-            (All-weaker (λ v. IsAtMost R v greatest) (λ v. IsAtMost R v (ord_max R greatest x)) (λ v h. le_chain o v greatest _ h high.0) items e.below) high.1;
+            (All-weaker (λ v. IsAtMost R v greatest) (λ v. IsAtMost R v (ord_max R greatest x))
+            (λ v h. le_chain o v greatest _ h high.0) items e.below) high.1;
       }

@@ -30,16 +30,22 @@ mask_is w h =
     ap (λ n. n % 18446744073709551616 - 1) one ∙ ap (λ n. n - 1) (mod-eq_of_lt small)
 
 -- what the code computes of number k of group g
-pub item_in_group : (bs : List ℕ) (g k w word : ℕ) → w ≤ 56 → word ≡ number_of 256 bs / 2 ^ (8 * (g * w + k * w / 8)) % 2 ^ 64 → bit_and (word / 2 ^ (k * w % 8)) (1 * 2 ^ w % 18446744073709551616 - 1) ≡ item bs w (8 * g + k)
+pub item_in_group : (bs : List ℕ) (g k w word : ℕ) → w ≤ 56
+    → word ≡ number_of 256 bs / 2 ^ (8 * (g * w + k * w / 8)) % 2 ^ 64
+    → bit_and (word / 2 ^ (k * w % 8)) (1 * 2 ^ w % 18446744073709551616 - 1) ≡ item bs w (8 * g + k)
 item_in_group bs g k w word h loaded =
     let whole : (8 * g + k) * w ≡ 8 * (g * w) + k * w = omega arith in
     let byte : (8 * g + k) * w / 8 ≡ g * w + k * w / 8 = omega (arith, whole) in
     let bit : (8 * g + k) * w % 8 ≡ k * w % 8 = omega (arith, whole) in
     ap (λ r. bit_and (word / 2 ^ r) (1 * 2 ^ w % 18446744073709551616 - 1)) (sym bit)
-    ∙ item_in_word bs (8 * g + k) w _ word (narrow w h) (mask_is w h) (loaded ∙ ap (λ b. number_of 256 bs / 2 ^ (8 * b) % 2 ^ 64) (sym byte))
+    ∙ item_in_word bs (8 * g + k) w _ word (narrow w h) (mask_is w h)
+    (loaded ∙ ap (λ b. number_of 256 bs / 2 ^ (8 * b) % 2 ^ 64) (sym byte))
 
 -- one number more of a group is decoded
-pub decoded_more : (bytes : List ℕ) (w group g k j x : ℕ) (out : List ℕ) → 8 * g + k < length out → 8 * g + k + 1 ≡ j → x ≡ item bytes w (8 * (group + g) + k) → take (8 * g + k) out ≡ items bytes w (8 * group) (8 * g + k) → take j (set out (8 * g + k) x) ≡ items bytes w (8 * group) j
+pub decoded_more : (bytes : List ℕ) (w group g k j x : ℕ) (out : List ℕ) → 8 * g + k < length out
+    → 8 * g + k + 1 ≡ j → x ≡ item bytes w (8 * (group + g) + k)
+    → take (8 * g + k) out ≡ items bytes w (8 * group) (8 * g + k)
+    → take j (set out (8 * g + k) x) ≡ items bytes w (8 * group) j
 decoded_more bytes w group g k j x out within next value so_far =
     let place : 8 * (group + g) + k ≡ 8 * group + (8 * g + k) = omega arith in
     ap (λ n. take n (set out (8 * g + k) x)) (sym next)
@@ -47,10 +53,13 @@ decoded_more bytes w group g k j x out within next value so_far =
     ∙ ap (items bytes w (8 * group)) next)
 
 -- one comparison for both ends
-one_test : (low span v : ℕ) → low + span < 2 ^ 32 → v < 2 ^ 32 → nat_le ((v + (2 ^ 32 - low)) % 2 ^ 32) span ≡ is_in_range low (low + span) v
+one_test : (low span v : ℕ) → low + span < 2 ^ 32 → v < 2 ^ 32
+    → nat_le ((v + (2 ^ 32 - low)) % 2 ^ 32) span ≡ is_in_range low (low + span) v
 one_test low span v h k = grind (arith, nat_tests)
 
-pub one_test_each : (low span : ℕ) (vs : List ℕ) → low + span < 2 ^ 32 → ((i : ℕ) → get_or vs i 0 < 2 ^ 32) → map (λ v. nat_le v span) (map (λ v. (v + (2 ^ 32 - low)) % 2 ^ 32) vs) ≡ map (is_in_range low (low + span)) vs
+-- with the lower end taken off, at 32 bits, one comparison says which numbers are in a range
+pub one_test_each : (low span : ℕ) (vs : List ℕ) → low + span < 2 ^ 32 → ((i : ℕ) → get_or vs i 0 < 2 ^ 32)
+    → map (λ v. nat_le v span) (map (λ v. (v + (2 ^ 32 - low)) % 2 ^ 32) vs) ≡ map (is_in_range low (low + span)) vs
 one_test_each low span [] h all = refl
 one_test_each low span (v ∷ vs) h all =
     let first = one_test low span v h (all 0) in
@@ -61,7 +70,9 @@ odd : (n : ℕ) → n % 2 ≡ 1 → bit_and n (n - 1) ≡ n / 2 * 2
 odd n h =
     let half : (n - 1) / 2 ≡ n / 2 = omega arith in
     let low : (n - 1) % 2 ≡ 0 = omega arith in
-    and_step n (n - 1) ∙ (ap (λ m. bit_and (n / 2) m * 2 + min (n % 2) ((n - 1) % 2)) half ∙ (ap (λ m. bit_and (n / 2) (n / 2) * 2 + min (n % 2) m) low ∙ ap (λ m. m * 2 + min (n % 2) 0) (and_self (n / 2)) ∙ omega arith))
+    and_step n (n - 1) ∙ (ap (λ m. bit_and (n / 2) m * 2 + min (n % 2) ((n - 1) % 2)) half
+    ∙ (ap (λ m. bit_and (n / 2) (n / 2) * 2 + min (n % 2) m) low
+    ∙ ap (λ m. m * 2 + min (n % 2) 0) (and_self (n / 2)) ∙ omega arith))
 
 even : (n : ℕ) → n % 2 ≡ 0 → 0 < n → bit_and n (n - 1) ≡ bit_and (n / 2) (n / 2 - 1) * 2
 even n h some =
@@ -101,7 +112,10 @@ unfolding count_trailing_zeros
 zeros_odd k n e = rw e refl
 
 -- where a bit is set, the lowest comes first, and the others are those without it
-first_by : (k a n : ℕ) (b : Bool) → eqb (n % 2) 1 ≡ b → 0 < n → (n % 2 ≡ 0 → set_places k (a + 1) (n / 2) ≡ (a + 1 + count_trailing_zeros k (n / 2)) ∷ set_places k (a + 1) (bit_and (n / 2) (n / 2 - 1))) → set_places (suc k) a n ≡ (a + count_trailing_zeros (suc k) n) ∷ set_places (suc k) a (bit_and n (n - 1))
+first_by : (k a n : ℕ) (b : Bool) → eqb (n % 2) 1 ≡ b → 0 < n
+    → (n % 2 ≡ 0 → set_places k (a + 1) (n / 2)
+    ≡ (a + 1 + count_trailing_zeros k (n / 2)) ∷ set_places k (a + 1) (bit_and (n / 2) (n / 2 - 1)))
+    → set_places (suc k) a n ≡ (a + count_trailing_zeros (suc k) n) ∷ set_places (suc k) a (bit_and n (n - 1))
 first_by k a n true e some later =
     let one : n % 2 ≡ 1 = grind (arith, nat_tests) in
     let place : a + count_trailing_zeros (suc k) n ≡ a = omega (arith, zeros_odd k n one) in
@@ -110,29 +124,41 @@ first_by k a n true e some later =
     ∙ ap (λ x. x ∷ set_places (suc k) a (bit_and n (n - 1))) (sym place))
 first_by k a n false e some later =
     let none : n % 2 ≡ 0 = grind (arith, nat_tests) in
-    let place : a + count_trailing_zeros (suc k) n ≡ a + 1 + count_trailing_zeros k (n / 2) = omega (arith, zeros_even k n (n / 2) (omega arith)) in
+    let place : a + count_trailing_zeros (suc k) n ≡ a + 1 + count_trailing_zeros k (n / 2) =
+    omega (arith, zeros_even k n (n / 2) (omega arith)) in
     shifted k a (n / 2) n (omega arith)
     ∙ (later none
     ∙ (ap (λ x. x ∷ set_places k (a + 1) (bit_and (n / 2) (n / 2 - 1))) (sym place)
-    ∙ ap (λ xs. (a + count_trailing_zeros (suc k) n) ∷ xs) (sym (shifted k a (bit_and (n / 2) (n / 2 - 1)) (bit_and n (n - 1)) (even n none some)))))
+    ∙ ap (λ xs. (a + count_trailing_zeros (suc k) n) ∷ xs)
+    (sym (shifted k a (bit_and (n / 2) (n / 2 - 1)) (bit_and n (n - 1)) (even n none some)))))
 
-pub set_places-first : (k a n : ℕ) → 0 < n → n < 2 ^ k → set_places k a n ≡ (a + count_trailing_zeros k n) ∷ set_places k a (bit_and n (n - 1))
+-- the first place of a set bit is the count of the zeros below it, and the others are those of the
+-- rest
+pub set_places-first : (k a n : ℕ) → 0 < n → n < 2 ^ k
+    → set_places k a n ≡ (a + count_trailing_zeros k n) ∷ set_places k a (bit_and n (n - 1))
 set_places-first zero a n some below = absurd (let b : n < 1 = rw (pow-zero 2) at below in omega arith)
 set_places-first (suc k) a n some below =
     let room : n < 2 ^ k * 2 = rw (pow-suc 2 k) at below in
     first_by k a n (eqb (n % 2) 1) refl some (λ none. set_places-first k (a + 1) (n / 2) (omega arith) (omega (arith, room)))
 
-mask_by : (f : ℕ → ℕ) (p : ℕ → Bool) (k a : ℕ) (b : Bool) → set_places k (a + 1) (mask_l (map p (map f (range_with_len (a + 1) k)))) ≡ filter (λ id. p (f id)) (range_with_len (a + 1) k) → set_places (suc k) a (cond b 1 0 + 2 * mask_l (map p (map f (range_with_len (a + 1) k)))) ≡ cond b (a ∷ filter (λ id. p (f id)) (range_with_len (a + 1) k)) (filter (λ id. p (f id)) (range_with_len (a + 1) k))
+mask_by : (f : ℕ → ℕ) (p : ℕ → Bool) (k a : ℕ) (b : Bool)
+    → set_places k (a + 1) (mask_l (map p (map f (range_with_len (a + 1) k))))
+    ≡ filter (λ id. p (f id)) (range_with_len (a + 1) k)
+    → set_places (suc k) a (cond b 1 0 + 2 * mask_l (map p (map f (range_with_len (a + 1) k))))
+    ≡ cond b (a ∷ filter (λ id. p (f id)) (range_with_len (a + 1) k))
+    (filter (λ id. p (f id)) (range_with_len (a + 1) k))
 mask_by f p k a true later = with_first k a (mask_l (map p (map f (range_with_len (a + 1) k)))) _ (omega arith) ∙ ap (λ xs. a ∷ xs) later
 mask_by f p k a false later = shifted k a (mask_l (map p (map f (range_with_len (a + 1) k)))) _ (omega arith) ∙ later
 
 -- bits for tests of items are set where the items pass
-pub set_places-mask : (f : ℕ → ℕ) (p : ℕ → Bool) (k a : ℕ) → set_places k a (mask_l (map p (map f (range_with_len a k)))) ≡ filter (λ id. p (f id)) (range_with_len a k)
+pub set_places-mask : (f : ℕ → ℕ) (p : ℕ → Bool) (k a : ℕ)
+    → set_places k a (mask_l (map p (map f (range_with_len a k)))) ≡ filter (λ id. p (f id)) (range_with_len a k)
 set_places-mask f p zero a = set_places-none 0 a
 set_places-mask f p (suc k) a = mask_by f p k a (p (f a)) (set_places-mask f p k (a + 1))
 
 -- the places of the bits for a block's numbers are the ids in the range
-pub places_of_block : (bytes block : List ℕ) (w low high a bits : ℕ) → block ≡ items bytes w a 64 → bits ≡ mask_l (map (is_in_range low high) block) → set_places 64 a bits ≡ ids_between bytes w low high a 64
+pub places_of_block : (bytes block : List ℕ) (w low high a bits : ℕ) → block ≡ items bytes w a 64
+    → bits ≡ mask_l (map (is_in_range low high) block) → set_places 64 a bits ≡ ids_between bytes w low high a 64
 unfolding ids_between
 places_of_block bytes block w low high a bits decoded masked =
     ap (set_places 64 a) (masked ∙ ap (λ xs. mask_l (map (is_in_range low high) xs)) decoded)
@@ -143,43 +169,53 @@ room_by : (k a : ℕ) (later : List ℕ) (b : Bool) → length later ≤ k → l
 room_by k a later true h = omega arith
 room_by k a later false h = omega arith
 
+-- among k bits at most k are set
 pub places-room : (k a n : ℕ) → length (set_places k a n) ≤ k
 unfolding set_places
 places-room zero a n = omega arith
 places-room (suc k) a n = room_by k a (set_places k (a + 1) (n / 2)) (eqb (n % 2) 1) (places-room k (a + 1) (n / 2))
 
 -- a block within the ids that have room behind them
-pub room_for_block : (start word count w long : ℕ) → start % 8 ≡ 0 → word * 64 + 64 ≤ count → (start + count) * w / 8 + 8 ≤ long → ((start + word * 64) / 8 + 8) * w + 8 ≤ long
+pub room_for_block : (start word count w long : ℕ) → start % 8 ≡ 0 → word * 64 + 64 ≤ count
+    → (start + count) * w / 8 + 8 ≤ long → ((start + word * 64) / 8 + 8) * w + 8 ≤ long
 room_for_block start word count w long aligned within room =
     let q : ℕ = (start + word * 64) / 8 + 8 in
     let most : 8 * q ≤ start + count = omega arith in
     let scaled : 8 * q * w ≤ (start + count) * w = mul-le-mul_right w most in
     omega (arith, scaled)
 
+-- an item of at most 32 bits is below 2 ^ 32
 pub item_fits : (bytes : List ℕ) (w i : ℕ) → w ≤ 32 → item bytes w i < 2 ^ 32
 item_fits bytes w i h =
-    lt_of_lt_of_le (mod_below (number_of 256 bytes / 2 ^ (i * w)) (2 ^ w) (pow_pos w)) (pow-le-pow_right {n = 2} (lit< tt) {i = w} {j = 32} h)
+    lt_of_lt_of_le (mod_below (number_of 256 bytes / 2 ^ (i * w)) (2 ^ w) (pow_pos w))
+    (pow-le-pow_right {n = 2} (lit< tt) {i = w} {j = 32} h)
 
 -- an upper end past 32 bits is as good as the greatest number of 32 bits
 capped_test : (low high top v : ℕ) → v < 2 ^ 32 → top ≡ min high 4294967295 → is_in_range low top v ≡ is_in_range low high v
 capped_test low high top v small e = grind (arith, nat_tests)
 
-ids_capped : (bytes : List ℕ) (w low high top a n : ℕ) → w ≤ 32 → top ≡ min high 4294967295 → ids_between bytes w low top a n ≡ ids_between bytes w low high a n
+ids_capped : (bytes : List ℕ) (w low high top a n : ℕ) → w ≤ 32 → top ≡ min high 4294967295
+    → ids_between bytes w low top a n ≡ ids_between bytes w low high a n
 unfolding ids_between
 ids_capped bytes w low high top a n narrow' e =
     filter_agree (λ id. is_in_range low top (item bytes w id)) (λ id. is_in_range low high (item bytes w id))
     (λ id. capped_test low high top (item bytes w id) (item_fits bytes w id narrow') e) (range_with_len a n)
 
 -- blocks, and the ids behind them
-pub blocks_and_rest : (bytes : List ℕ) (v w low high top a n m b k : ℕ) (front mid out : List ℕ) → v ≡ w → w ≤ 32 → top ≡ min high 4294967295 → a + n ≡ b → n + m ≡ k → mid ≡ front ++ ids_between bytes v low top a n → out ≡ mid ++ ids_between bytes w low high b m → out ≡ front ++ ids_between bytes w low high a k
+pub blocks_and_rest : (bytes : List ℕ) (v w low high top a n m b k : ℕ) (front mid out : List ℕ) → v ≡ w → w ≤ 32
+    → top ≡ min high 4294967295 → a + n ≡ b → n + m ≡ k → mid ≡ front ++ ids_between bytes v low top a n
+    → out ≡ mid ++ ids_between bytes w low high b m → out ≡ front ++ ids_between bytes w low high a k
 blocks_and_rest bytes v w low high top a n m b k front mid out seen narrow' e at whole first later =
     later
-    ∙ (ap (λ xs. xs ++ ids_between bytes w low high b m) (first ∙ ap (λ u. front ++ ids_between bytes u low top a n) seen ∙ ap (λ xs. front ++ xs) (ids_capped bytes w low high top a n narrow' e))
+    ∙ (ap (λ xs. xs ++ ids_between bytes w low high b m) (first ∙ ap (λ u. front ++ ids_between bytes u low top a n)
+    seen ∙ ap (λ xs. front ++ xs) (ids_capped bytes w low high top a n narrow' e))
     ∙ (append_assoc front (ids_between bytes w low high a n) (ids_between bytes w low high b m)
     ∙ ap (λ xs. front ++ xs) (sym (ids_joined bytes w low high a n m b k at whole))))
 
 -- one number more of a group is written
-pub read_more : (bytes : List ℕ) (w group g k i j x : ℕ) (front out : List ℕ) → i < length out → 8 * g + k + 1 ≡ j → x ≡ item bytes w (8 * (group + g) + k) → take i out ≡ front ++ items bytes w (8 * group) (8 * g + k) → take (i + 1) (set out i x) ≡ front ++ items bytes w (8 * group) j
+pub read_more : (bytes : List ℕ) (w group g k i j x : ℕ) (front out : List ℕ) → i < length out → 8 * g + k + 1 ≡ j
+    → x ≡ item bytes w (8 * (group + g) + k) → take i out ≡ front ++ items bytes w (8 * group) (8 * g + k)
+    → take (i + 1) (set out i x) ≡ front ++ items bytes w (8 * group) j
 read_more bytes w group g k i j x front out within next value so_far =
     let place : 8 * (group + g) + k ≡ 8 * group + (8 * g + k) = omega arith in
     let done : List ℕ = items bytes w (8 * group) (8 * g + k) in
@@ -187,7 +223,8 @@ read_more bytes w group g k i j x front out within next value so_far =
     ∙ (ap (λ xs. xs ++ x ∷ []) so_far
     ∙ (append_assoc front done (x ∷ [])
     ∙ ap (λ xs. front ++ xs) (ap (λ y. done ++ y ∷ []) (value ∙ ap (item bytes w) place)
-    ∙ (sym (map-range_with_len_more (item bytes w) (8 * group) (8 * g + k) (8 * group + (8 * g + k)) refl) ∙ ap (items bytes w (8 * group)) next))))
+    ∙ (sym (map-range_with_len_more (item bytes w) (8 * group) (8 * g + k) (8 * group + (8 * g + k)) refl)
+    ∙ ap (items bytes w (8 * group)) next))))
 
 -- whole groups within the numbers that have room behind them
 pub room_for_groups : (n m w long : ℕ) → 8 * n ≤ m → m * w / 8 + 8 ≤ long → n * w + 8 ≤ long
@@ -196,7 +233,8 @@ room_for_groups n m w long most room =
     omega (arith, scaled)
 
 -- numbers in two parts
-pub items_joined : (bytes : List ℕ) (v w a n m b k : ℕ) (front out : List ℕ) → v ≡ w → a + n ≡ b → n + m ≡ k → front ≡ items bytes w a n → out ≡ front ++ items bytes v b m → out ≡ items bytes w a k
+pub items_joined : (bytes : List ℕ) (v w a n m b k : ℕ) (front out : List ℕ) → v ≡ w → a + n ≡ b → n + m ≡ k
+    → front ≡ items bytes w a n → out ≡ front ++ items bytes v b m → out ≡ items bytes w a k
 items_joined bytes v w a n m b k front out seen at whole first later =
     later
     ∙ (ap (λ u. front ++ items bytes u b m) seen

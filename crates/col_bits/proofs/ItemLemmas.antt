@@ -12,7 +12,8 @@ use Rattle.col_common.proofs.OrderingLemmas.{filtered_rises}
 use Rattle.col_bits.specs.Packed.{item, items, ids_between}
 
 -- one item more is written
-pub items_more : (bytes : List ℕ) (w a i x : ℕ) (out : List ℕ) → i < length out → x ≡ item bytes w (a + i) → take i out ≡ items bytes w a i → take (i + 1) (set out i x) ≡ items bytes w a (i + 1)
+pub items_more : (bytes : List ℕ) (w a i x : ℕ) (out : List ℕ) → i < length out → x ≡ item bytes w (a + i)
+    → take i out ≡ items bytes w a i → take (i + 1) (set out i x) ≡ items bytes w a (i + 1)
 items_more bytes w a i x out within value so_far =
     take_more_set out i x within
     ∙ (ap (λ xs. xs ++ x ∷ []) so_far
@@ -35,7 +36,8 @@ unfolding ids_between
 ids_none bytes w low high a n e = ap (ids_between bytes w low high a) e
 
 -- ids of two blocks
-pub ids_joined : (bytes : List ℕ) (w low high a n m b k : ℕ) → a + n ≡ b → n + m ≡ k → ids_between bytes w low high a k ≡ ids_between bytes w low high a n ++ ids_between bytes w low high b m
+pub ids_joined : (bytes : List ℕ) (w low high a n m b k : ℕ) → a + n ≡ b → n + m ≡ k
+    → ids_between bytes w low high a k ≡ ids_between bytes w low high a n ++ ids_between bytes w low high b m
 unfolding ids_between
 ids_joined bytes w low high a n m b k at whole =
     let test : ℕ → Bool = λ id. is_in_range low high (item bytes w id) in
@@ -45,21 +47,28 @@ ids_joined bytes w low high a n m b k at whole =
     ∙ ap (λ c. filter test (range_with_len a n) ++ filter test (range_with_len c m)) at))
 
 -- one id
-pub ids_one : (bytes : List ℕ) (w low high id : ℕ) (kept : Bool) → kept ≡ is_in_range low high (item bytes w id) → ids_between bytes w low high id 1 ≡ cond kept (id ∷ []) []
+pub ids_one : (bytes : List ℕ) (w low high id : ℕ) (kept : Bool) → kept ≡ is_in_range low high (item bytes w id)
+    → ids_between bytes w low high id 1 ≡ cond kept (id ∷ []) []
 unfolding ids_between
 ids_one bytes w low high id kept e = ap (λ b. cond b (id ∷ []) []) (sym e)
 
 -- an id is written, and stays where it is kept
-pub kept_more : (out : List ℕ) (kept id : ℕ) (b : Bool) → kept < length out → take (kept + bool_byte b) (set out kept id) ≡ take kept out ++ cond b (id ∷ []) []
+pub kept_more : (out : List ℕ) (kept id : ℕ) (b : Bool) → kept < length out
+    → take (kept + bool_byte b) (set out kept id) ≡ take kept out ++ cond b (id ∷ []) []
 kept_more out kept id true h = take_more_set out kept id h
-kept_more out kept id false h = ap (λ n. take n (set out kept id)) (add-zero kept) ∙ (take-set out kept id ∙ sym (append-nil (take kept out)))
+kept_more out kept id false h =
+    ap (λ n. take n (set out kept id)) (add-zero kept) ∙ (take-set out kept id ∙ sym (append-nil (take kept out)))
 
+-- one item more leaves at most as many kept as were looked at
 pub kept_within : (kept i : ℕ) (b : Bool) → kept ≤ i → kept + bool_byte b ≤ i + 1
 kept_within kept i true h = omega arith
 kept_within kept i false h = omega arith
 
 -- one id more is tested
-pub ids_more : (bytes : List ℕ) (w low high a n m id kept v : ℕ) (front out : List ℕ) (b : Bool) → a + n ≡ id → n + 1 ≡ m → b ≡ is_in_range low high v → v ≡ item bytes w id → kept < length out → take kept out ≡ front ++ ids_between bytes w low high a n → take (kept + bool_byte b) (set out kept id) ≡ front ++ ids_between bytes w low high a m
+pub ids_more : (bytes : List ℕ) (w low high a n m id kept v : ℕ) (front out : List ℕ) (b : Bool) → a + n ≡ id
+    → n + 1 ≡ m → b ≡ is_in_range low high v → v ≡ item bytes w id → kept < length out
+    → take kept out ≡ front ++ ids_between bytes w low high a n
+    → take (kept + bool_byte b) (set out kept id) ≡ front ++ ids_between bytes w low high a m
 ids_more bytes w low high a n m id kept v front out b at next test value within so_far =
     let tested : b ≡ is_in_range low high (item bytes w id) = test ∙ ap (is_in_range low high) value in
     let done : List ℕ = ids_between bytes w low high a n in
@@ -83,6 +92,7 @@ items-push bytes w n = map-range_with_len_more (item bytes w) 0 n n (omega arith
 misses : (low high v : ℕ) → high < low → is_in_range low high v ≡ false
 misses low high v h = grind (arith, nat_tests)
 
+-- no id has an item in a range that is empty
 pub ids_outside : (bytes : List ℕ) (w low high a n : ℕ) → high < low → ids_between bytes w low high a n ≡ []
 unfolding ids_between
 ids_outside bytes w low high a zero h = refl

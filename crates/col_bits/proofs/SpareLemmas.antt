@@ -18,7 +18,8 @@ by_recursion [] b = tt
 by_recursion (c ∷ bytes) b = (b 0, by_recursion bytes (λ i. b (suc i)))
 
 -- no bit is spare
-pub nat_lt-whole : (bytes : List ℕ) (n : ℕ) → AreBytes bytes → length bytes ≡ div_ceil n 8 → n % 8 ≡ 0 → nat_lt (number_of 256 bytes) (2 ^ n) ≡ true
+pub nat_lt-whole : (bytes : List ℕ) (n : ℕ) → AreBytes bytes → length bytes ≡ div_ceil n 8 → n % 8 ≡ 0
+    → nat_lt (number_of 256 bytes) (2 ^ n) ≡ true
 nat_lt-whole bytes n b e z =
     let long : length bytes * 8 ≡ n = omega (arith, e, z) in
     let below : number_of 256 bytes < 256 ^ length bytes = number_of-below 256 bytes (lit< tt) (by_recursion bytes b) in
@@ -26,16 +27,20 @@ nat_lt-whole bytes n b e z =
     lt-ltb (number_of 256 bytes) (2 ^ n) (rw (← same) below)
 
 -- the spare bits are the last byte's
-pub nat_lt-spare : (bytes : List ℕ) (n last : ℕ) → AreBytes bytes → length bytes ≡ div_ceil n 8 → 0 < n % 8 → last ≡ get_or bytes (length bytes - 1) 0 → nat_lt (number_of 256 bytes) (2 ^ n) ≡ (last / 2 ^ (n % 8) == 0)
+pub nat_lt-spare : (bytes : List ℕ) (n last : ℕ) → AreBytes bytes → length bytes ≡ div_ceil n 8 → 0 < n % 8
+    → last ≡ get_or bytes (length bytes - 1) 0 → nat_lt (number_of 256 bytes) (2 ^ n) ≡ (last / 2 ^ (n % 8) == 0)
 nat_lt-spare bytes n last b e p is =
     let a = length bytes - 1 in
     let r = n % 8 in
     let long : suc a ≡ length bytes = omega (arith, e, p) in
     let bits : n ≡ r + a * 8 = omega (arith, e, p) in
     let all = by_recursion bytes b in
-    let behind : drop a bytes ≡ get_or bytes a 0 ∷ [] = drop-cons bytes a 0 (omega (arith, long)) ∙ ap (λ m. get_or bytes a 0 ∷ drop m bytes) long ∙ ap (λ r. get_or bytes a 0 ∷ r) (drop-length bytes) in
+    let behind : drop a bytes ≡ get_or bytes a 0 ∷ [] =
+    drop-cons bytes a 0 (omega (arith, long)) ∙ ap (λ m. get_or bytes a 0 ∷ drop m bytes) long
+    ∙ ap (λ r. get_or bytes a 0 ∷ r) (drop-length bytes) in
     let one : number_of 256 (get_or bytes a 0 ∷ []) ≡ get_or bytes a 0 = omega arith in
-    let high : last ≡ number_of 256 bytes / 256 ^ a = is ∙ sym one ∙ sym (ap (number_of 256) behind) ∙ number_of-drop 256 bytes a (lit< tt) all in
+    let high : last ≡ number_of 256 bytes / 256 ^ a =
+    is ∙ sym one ∙ sym (ap (number_of 256) behind) ∙ number_of-drop 256 bytes a (lit< tt) all in
     let top : 2 ^ n ≡ 2 ^ r * 256 ^ a = ap (λ m. 2 ^ m) bits ∙ pow-add 2 r (a * 8) ∙ ap (λ m. 2 ^ r * m) (sym (pow-pow 8 a)) in
     let room : 0 < 256 ^ a = rw (pow-pow 8 a) (pow_pos (a * 8)) in
     let tells = div-lt_iff_lt-mul {k = 256 ^ a} {x = number_of 256 bytes} {y = 2 ^ r} room in
@@ -54,10 +59,13 @@ nat_lt-spare bytes n last b e p is =
     drop-length [] = refl
     drop-length (x ∷ xs) = drop-length xs
 
+-- bytes that end with a whole byte of bits are packed
 pub spelled-whole : (bytes : List ℕ) (n : ℕ) → AreBytes bytes → length bytes ≡ div_ceil n 8 → n % 8 ≡ 0 → (n % 8 == 0) ≡ is_packed bytes n
 spelled-whole bytes n b e z = eq-eqb (n % 8) 0 z ∙ sym (and_from _ _ (eq-eqb (length bytes) (div_ceil n 8) e) (nat_lt-whole bytes n b e z))
 
-pub spelled-spare : (bytes : List ℕ) (n : ℕ) → AreBytes bytes → length bytes ≡ div_ceil n 8 → 0 < n % 8 → (get_or bytes (length bytes - 1) 0 / 2 ^ (n % 8) == 0) ≡ is_packed bytes n
+-- bytes whose last one has bits to spare are packed where these are 0
+pub spelled-spare : (bytes : List ℕ) (n : ℕ) → AreBytes bytes → length bytes ≡ div_ceil n 8 → 0 < n % 8
+    → (get_or bytes (length bytes - 1) 0 / 2 ^ (n % 8) == 0) ≡ is_packed bytes n
 spelled-spare bytes n b e p =
     let long : (length bytes == div_ceil n 8) ≡ true = eq-eqb (length bytes) (div_ceil n 8) e in
     rw long (sym (nat_lt-spare bytes n (get_or bytes (length bytes - 1) 0) b e p refl))

@@ -19,6 +19,7 @@ binary_digits-is (suc k) n (suc j) short below above =
     let later : binary_digits k (n / 2) ≡ j = binary_digits-is k (n / 2) j (omega arith) (omega (arith, b)) (omega (arith, a)) in
     rw (ne_eqb n 0 (omega (arith, a, pow_pos j))) (omega (arith, later))
 
+-- a number of at most 56 bits has them as its width
 pub num_bits-small : (n : ℕ) → n < 2 ^ 64 → 64 - count_leading_zeros 64 n ≤ 56 → 64 - count_leading_zeros 64 n ≡ width n
 num_bits-small n fits short =
     let found = leading_length 64 n fits in
@@ -30,6 +31,7 @@ num_bits-small n fits short =
     let same : 64 - count_leading_zeros 64 n ≡ m = omega (arith, count) in
     rw (lt-ltb n (2 ^ 56) below) (same ∙ sym digits)
 
+-- a number of more than 56 bits has the width 64
 pub num_bits-large : (n : ℕ) → n < 2 ^ 64 → 56 < 64 - count_leading_zeros 64 n → 64 ≡ width n
 num_bits-large n fits long =
     let found = leading_length 64 n fits in

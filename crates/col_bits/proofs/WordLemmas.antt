@@ -24,14 +24,18 @@ after bs zero h = omega arith
 after bs (suc k) h =
     let small : get_or bs k 0 < 256 = h k in
     let next : number_of 256 (drop k bs) / 2 ^ 8 ≡ number_of 256 (drop (suc k) bs) = omega (arith, step bs k) in
-    ap (λ n. number_of 256 bs / 2 ^ n) (omega arith) ∙ (sym (shr-shr (number_of 256 bs) (8 * k) 8) ∙ (ap (λ n. n / 2 ^ 8) (after bs k h) ∙ next))
+    ap (λ n. number_of 256 bs / 2 ^ n) (omega arith)
+    ∙ (sym (shr-shr (number_of 256 bs) (8 * k) 8) ∙ (ap (λ n. n / 2 ^ 8) (after bs k h) ∙ next))
 
 -- one byte more, where its place is the next number
 step_to : (bs : List ℕ) (k j : ℕ) → j ≡ k + 1 → number_of 256 (drop k bs) ≡ get_or bs k 0 + 256 * number_of 256 (drop j bs)
 step_to bs k j e = let same : suc k ≡ j = omega arith in step bs k ∙ ap (λ n. get_or bs k 0 + 256 * number_of 256 (drop n bs)) same
 
 -- eight bytes read as one number
-pub word_is : (bs : List ℕ) (at : ℕ) → AreBytes bs → from_le_bytes w64 (get_or bs at 0 ∷ get_or bs (at + 1) 0 ∷ get_or bs (at + 2) 0 ∷ get_or bs (at + 3) 0 ∷ get_or bs (at + 4) 0 ∷ get_or bs (at + 5) 0 ∷ get_or bs (at + 6) 0 ∷ get_or bs (at + 7) 0 ∷ []) ≡ number_of 256 bs / 2 ^ (8 * at) % 2 ^ 64
+pub word_is : (bs : List ℕ) (at : ℕ) → AreBytes bs
+    → from_le_bytes w64 (get_or bs at 0 ∷ get_or bs (at + 1) 0 ∷ get_or bs (at + 2) 0 ∷ get_or bs (at + 3) 0
+    ∷ get_or bs (at + 4) 0 ∷ get_or bs (at + 5) 0 ∷ get_or bs (at + 6) 0 ∷ get_or bs (at + 7) 0 ∷ [])
+    ≡ number_of 256 bs / 2 ^ (8 * at) % 2 ^ 64
 word_is bs at h =
     let s0 = step_to bs at (at + 1) (omega arith) in
     let s1 = step_to bs (at + 1) (at + 2) (omega arith) in
@@ -66,7 +70,8 @@ room_in_word : (i w : ℕ) → IsTrue (is_width w) → i * w % 8 + w ≤ 64
 room_in_word i w h = grind (arith, nat_tests)
 
 -- what the code computes: a load, a shift and a mask
-pub item_in_word : (bs : List ℕ) (i w mask word : ℕ) → IsTrue (is_width w) → mask ≡ 2 ^ w - 1 → word ≡ number_of 256 bs / 2 ^ (8 * (i * w / 8)) % 2 ^ 64 → bit_and (word / 2 ^ (i * w % 8)) mask ≡ item bs w i
+pub item_in_word : (bs : List ℕ) (i w mask word : ℕ) → IsTrue (is_width w) → mask ≡ 2 ^ w - 1
+    → word ≡ number_of 256 bs / 2 ^ (8 * (i * w / 8)) % 2 ^ 64 → bit_and (word / 2 ^ (i * w % 8)) mask ≡ item bs w i
 item_in_word bs i w mask word wide masked loaded =
     let from : 8 * (i * w / 8) + i * w % 8 ≡ i * w = omega arith in
     ap (bit_and (word / 2 ^ (i * w % 8))) masked

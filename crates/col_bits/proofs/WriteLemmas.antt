@@ -53,13 +53,16 @@ fits held f v w h small room =
     let whole : v % 2 ^ g ≡ v = ap (λ n. n % 2 ^ g) (omega arith) ∙ low in
     joined held f v h (omega arith) ∙ ap (λ n. held + n * 2 ^ f) whole
 
+-- a number of w bits written above f bits that are held takes f + w bits, where that is below 64
 pub held_fits : (held f v w : ℕ) → held < 2 ^ f → v < 2 ^ w → f + w < 64 → bit_or held (v * 2 ^ f % 2 ^ 64) < 2 ^ (f + w)
 held_fits held f v w h small room =
     let sum : v * 2 ^ f + held < 2 ^ f * 2 ^ w = mul-add-lt v (2 ^ f) held (2 ^ w) small h in
     omega (arith, fits held f v w h small room, sum, pow-add 2 f w)
 
 -- the bits, where the value fits above what is held
-pub bits_fit : (held f v w : ℕ) (out : List ℕ) → held < 2 ^ f → v < 2 ^ w → f + w < 64 → number_of 256 out + bit_or held (v * 2 ^ f % 2 ^ 64) * 2 ^ (8 * length out) ≡ number_of 256 out + held * 2 ^ (8 * length out) + v * 2 ^ (8 * length out + f)
+pub bits_fit : (held f v w : ℕ) (out : List ℕ) → held < 2 ^ f → v < 2 ^ w → f + w < 64
+    → number_of 256 out + bit_or held (v * 2 ^ f % 2 ^ 64) * 2 ^ (8 * length out)
+    ≡ number_of 256 out + held * 2 ^ (8 * length out) + v * 2 ^ (8 * length out + f)
 bits_fit held f v w out h small room =
     let p : ℕ = 2 ^ (8 * length out) in
     let new : bit_or held (v * 2 ^ f % 2 ^ 64) * p ≡ (held + v * 2 ^ f) * p = ap (λ n. n * p) (fits held f v w h small room) in
@@ -67,7 +70,10 @@ bits_fit held f v w out h small room =
     omega (arith, new, power)
 
 -- the bits, where the value completes a word
-pub bits_spill : (held f v : ℕ) (out : List ℕ) → held < 2 ^ f → f < 64 → number_of 256 (out ++ to_le_bytes w64 (bit_or held (v * 2 ^ f % 2 ^ 64))) + v / 2 ^ (64 - f) * 2 ^ (8 * length (out ++ to_le_bytes w64 (bit_or held (v * 2 ^ f % 2 ^ 64)))) ≡ number_of 256 out + held * 2 ^ (8 * length out) + v * 2 ^ (8 * length out + f)
+pub bits_spill : (held f v : ℕ) (out : List ℕ) → held < 2 ^ f → f < 64
+    → number_of 256 (out ++ to_le_bytes w64 (bit_or held (v * 2 ^ f % 2 ^ 64)))
+    + v / 2 ^ (64 - f) * 2 ^ (8 * length (out ++ to_le_bytes w64 (bit_or held (v * 2 ^ f % 2 ^ 64))))
+    ≡ number_of 256 out + held * 2 ^ (8 * length out) + v * 2 ^ (8 * length out + f)
 bits_spill held f v out h below =
     let p : ℕ = 2 ^ (8 * length out) in
     let word : ℕ = bit_or held (v * 2 ^ f % 2 ^ 64) in
@@ -78,11 +84,13 @@ bits_spill held f v out h below =
     let written : number_of 256 (out ++ bytes) ≡ number_of 256 out + number_of 256 bytes * p = bytes-append out bytes in
     let read : number_of 256 bytes * p ≡ word * p = ap (λ n. n * p) (number_word word small) in
     let long : 8 * length (out ++ bytes) ≡ 8 * length out + 64 = omega (arith, length-append out bytes) in
-    let above : rest * 2 ^ (8 * length (out ++ bytes)) ≡ rest * (p * 2 ^ 64) = ap (λ n. rest * n) (ap (λ n. 2 ^ n) long ∙ pow-add 2 (8 * length out) 64) in
+    let above : rest * 2 ^ (8 * length (out ++ bytes)) ≡ rest * (p * 2 ^ 64) =
+    ap (λ n. rest * n) (ap (λ n. 2 ^ n) long ∙ pow-add 2 (8 * length out) 64) in
     let joined_up : (word + rest * 2 ^ 64) * p ≡ (held + v * 2 ^ f) * p = ap (λ n. n * p) (word_and_rest held f v h below) in
     let power : v * 2 ^ (8 * length out + f) ≡ v * (p * 2 ^ f) = ap (λ n. v * n) (pow-add 2 (8 * length out) f) in
     omega (arith, written, read, above, joined_up, power)
 
+-- what doesn't fit above the bits that are held takes the bits past 64
 pub rest_fits : (f v w : ℕ) → v < 2 ^ w → f < 64 → 64 ≤ f + w → v / 2 ^ (64 - f) < 2 ^ (f + w - 64)
 rest_fits f v w small below over =
     let e : w ≡ f + w - 64 + (64 - f) = omega arith in
@@ -94,12 +102,16 @@ pub word_bytes : (n : ℕ) → AreBelow 256 (to_le_bytes w64 n)
 word_bytes n = (omega arith, (omega arith, (omega arith, (omega arith, (omega arith, (omega arith, (omega arith, (omega arith, tt))))))))
 
 -- the bytes of the bits that are held
-pub bits_closed : (held f : ℕ) (out : List ℕ) → held < 2 ^ f → f < 64 → number_of 256 (out ++ take (div_ceil f 8) (to_le_bytes w64 held)) ≡ number_of 256 out + held * 2 ^ (8 * length out)
+pub bits_closed : (held f : ℕ) (out : List ℕ) → held < 2 ^ f → f < 64
+    → number_of 256 (out ++ take (div_ceil f 8) (to_le_bytes w64 held))
+    ≡ number_of 256 out + held * 2 ^ (8 * length out)
 bits_closed held f out h below =
     let k : ℕ = div_ceil f 8 in
     let bytes : List ℕ = to_le_bytes w64 held in
     let wide : 2 ^ f < 2 ^ 64 = pow_below f 64 below in
     let small : held < 2 ^ 64 = omega arith in
     let room : 2 ^ f ≤ 256 ^ k = rw (pow-pow 8 k) (pow-le-pow_right {n = 2} (lit< tt) {i = f} {j = k * 8} (omega arith)) in
-    let low : number_of 256 (take k bytes) ≡ held = number_of-take 256 bytes k (lit< tt) (word_bytes held) ∙ (ap (λ n. n % 256 ^ k) (number_word held small) ∙ mod-eq_of_lt (lt_of_lt_of_le h room)) in
+    let low : number_of 256 (take k bytes) ≡ held =
+    number_of-take 256 bytes k (lit< tt) (word_bytes held)
+    ∙ (ap (λ n. n % 256 ^ k) (number_word held small) ∙ mod-eq_of_lt (lt_of_lt_of_le h room)) in
     bytes-append out (take k bytes) ∙ ap (λ n. number_of 256 out + n * 2 ^ (8 * length out)) low

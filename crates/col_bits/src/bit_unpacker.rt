@@ -131,8 +131,9 @@ impl BitUnpacker {
     ) -> Result<(), AllocError>
         requires order { ids.start ≤ ids.end }
         requires room { ids.end - ids.start ≤ length block.old }
-        ensures { OnOk result (positions.new.items ≡ positions.old.items
+        ensures ok { OnOk result (positions.new.items ≡ positions.old.items
             ++ ids_between «data».now self.now low high ids.start (ids.end - ids.start)) }
+        ensures kept { OnErr result (positions.new.items ≡ positions.old.items) }
     {
         let found = self.write_ids(low, high, ids, data, block, 0);
         positions.extend_from_slice(&block[..found])

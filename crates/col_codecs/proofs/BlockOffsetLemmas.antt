@@ -14,7 +14,8 @@ use Rattle.col_codecs.specs.LinearParams.{bare_params}
 use Rattle.col_codecs.proofs.ListLemmas.{head-same, tail-same}
 use Rattle.col_codecs.proofs.TurningLemmas.{by_position-append}
 
-pub offsets-push : (l : LinearParams) (xs : List ℕ) (x i : ℕ) → i ≡ length xs → offsets_from l (xs ++ x ∷ []) ≡ offsets_from l xs ++ offset_from l (i, x) ∷ []
+pub offsets-push : (l : LinearParams) (xs : List ℕ) (x i : ℕ) → i ≡ length xs
+    → offsets_from l (xs ++ x ∷ []) ≡ offsets_from l xs ++ offset_from l (i, x) ∷ []
 offsets-push l xs x i e =
     let place : 0 + length xs ≡ i = omega (arith, e) in
     by_position-append (offset_from l) 0 xs (x ∷ []) ∙ ap (λ n. offsets_from l xs ++ offset_from l (n, x) ∷ []) place
@@ -27,10 +28,13 @@ pub record AreOffsets (l : LinearParams) (before now : List ℕ) (i greatest : �
   pub top : greatest ≡ greatest_of (take i now)
 
 -- one value more
-pub AreOffsets-push : (l : LinearParams) (before now : List ℕ) (i greatest offset : ℕ) → AreOffsets l before now i greatest → i < length now → offset ≡ offset_from l (i, get_or now i 0) → AreOffsets l before (set now i offset) (i + 1) (max greatest offset)
+pub AreOffsets-push : (l : LinearParams) (before now : List ℕ) (i greatest offset : ℕ)
+    → AreOffsets l before now i greatest → i < length now → offset ≡ offset_from l (i, get_or now i 0)
+    → AreOffsets l before (set now i offset) (i + 1) (max greatest offset)
 AreOffsets-push l before now i greatest offset h room e =
     let there : i < length before = omega (arith, h.long, room) in
-    let parts : get_or now i 0 ∷ drop (i + 1) now ≡ get_or before i 0 ∷ drop (i + 1) before = sym (drop_more now i 0 room) ∙ h.rest ∙ drop_more before i 0 there in
+    let parts : get_or now i 0 ∷ drop (i + 1) now ≡ get_or before i 0 ∷ drop (i + 1) before =
+    sym (drop_more now i 0 room) ∙ h.rest ∙ drop_more before i 0 there in
     let same = head-same (get_or now i 0) (get_or before i 0) (drop (i + 1) now) (drop (i + 1) before) parts in
     let put : take (i + 1) (set now i offset) ≡ take i now ++ offset ∷ [] = take_more_set now i offset room in
     let from : i ≡ length (take i before) = omega (arith, length-take-le i before (omega arith)) in
@@ -48,15 +52,21 @@ AreOffsets-push l before now i greatest offset h room e =
     }
 
 -- a trained line with the width of the greatest offset
-pub block_line-held : (l : Line) (vals now : List ℕ) (greatest w : ℕ) → ◌≡◌ {A = ℕ × ℕ} (l.slope, l.intercept) (line_of vals) → now ≡ offsets_from (bare_params l) vals → greatest ≡ greatest_of now → w ≡ width greatest → let held : LinearParams = record { slope = l.slope; intercept = l.intercept; offset_width = w } in held ≡ block_line vals
+pub block_line-held : (l : Line) (vals now : List ℕ) (greatest w : ℕ)
+    → ◌≡◌ {A = ℕ × ℕ} (l.slope, l.intercept) (line_of vals) → now ≡ offsets_from (bare_params l) vals
+    → greatest ≡ greatest_of now → w ≡ width greatest
+    → let held : LinearParams = record { slope = l.slope; intercept = l.intercept; offset_width = w } in held ≡
+    block_line vals
 unfolding block_line
 block_line-held l vals now greatest w e o g p =
     let bare : LinearParams = record { slope = (line_of vals).0; intercept = (line_of vals).1; offset_width = 0 } in
     let same : bare_params l ≡ bare = λ i. record { slope = (e i).0; intercept = (e i).1; offset_width = 0 } in
-    let wide : w ≡ width (greatest_of (offsets_from bare vals)) = p ∙ ap width (g ∙ ap greatest_of (o ∙ ap (λ s. offsets_from s vals) same)) in
+    let wide : w ≡ width (greatest_of (offsets_from bare vals)) =
+    p ∙ ap width (g ∙ ap greatest_of (o ∙ ap (λ s. offsets_from s vals) same)) in
     λ i. record { slope = (e i).0; intercept = (e i).1; offset_width = wide i }
 
 -- the offsets don't depend on the width
-pub offsets-held : (l : Line) (vals : List ℕ) → ◌≡◌ {A = ℕ × ℕ} (l.slope, l.intercept) (line_of vals) → offsets_from (bare_params l) vals ≡ offsets_from (block_line vals) vals
+pub offsets-held : (l : Line) (vals : List ℕ) → ◌≡◌ {A = ℕ × ℕ} (l.slope, l.intercept) (line_of vals)
+    → offsets_from (bare_params l) vals ≡ offsets_from (block_line vals) vals
 unfolding block_line
 offsets-held l vals e = λ i. map (λ (p : ℕ × ℕ). less_wrapped p.1 (line (e i).0 (e i).1 p.0)) (enumerate_from 0 vals)

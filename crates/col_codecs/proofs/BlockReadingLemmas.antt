@@ -20,7 +20,8 @@ unfolding groups
 groups-shorter [] n rest e = absurd (cc)
 groups-shorter (b ∷ bytes) n rest e = elim (cases_lt b 128) [
   | inl h ↦ (let p = more-parts b bytes n rest h e in omega (arith, groups-shorter bytes p.0 rest p.2))
-  | inr h ↦ (let same : (b - 128, bytes) ≡ (n, rest) = same_Some _ _ (sym (groups-last b bytes h) ∙ e) in omega (arith, ap (λ q. length q.1) same))
+  | inr h ↦ (let same : (b - 128, bytes) ≡ (n, rest) = same_Some _ _ (sym (groups-last b bytes h) ∙ e) in
+      omega (arith, ap (λ q. length q.1) same))
 ]
 
 vint-shorter : (bytes : List ℕ) (p : ℕ × List ℕ) → vint bytes ≡ Some p → length p.1 < length bytes
@@ -57,7 +58,8 @@ items-shorter (suc n) bytes p e =
 pub lines_of-short : (n : ℕ) (bytes : List ℕ) → length bytes / 3 < n → lines_of n bytes ≡ None
 lines_of-short n bytes h = by_items (items params_at n bytes) (λ p e. items-shorter n bytes p e)
   where
-    by_items : (o : Option (List LinearParams × List ℕ)) → ((p : List LinearParams × List ℕ) → o ≡ Some p → 3 * n ≤ length bytes) → (o >>= nothing_left) ≡ None
+    by_items : (o : Option (List LinearParams × List ℕ))
+        → ((p : List LinearParams × List ℕ) → o ≡ Some p → 3 * n ≤ length bytes) → (o >>= nothing_left) ≡ None
     by_items None f = refl
     by_items (Some p) f = absurd (omega (arith, f p refl, h))
 
@@ -67,7 +69,8 @@ lines_of-short n bytes h = by_items (items params_at n bytes) (λ p e. items-sho
 abbrev pub with_lines : List LinearParams → List LinearParams → Option (List LinearParams)
 with_lines before ls = Some (before ++ ls)
 
-lines_of-next : (n : ℕ) (bytes rest : List ℕ) (l : LinearParams) → params_at bytes ≡ Some (l, rest) → lines_of (suc n) bytes ≡ (lines_of n rest >>= λ ls. Some (l ∷ ls))
+lines_of-next : (n : ℕ) (bytes rest : List ℕ) (l : LinearParams) → params_at bytes ≡ Some (l, rest)
+    → lines_of (suc n) bytes ≡ (lines_of n rest >>= λ ls. Some (l ∷ ls))
 unfolding items
 lines_of-next n bytes rest l e = rw e (behind (items params_at n rest))
   where
@@ -75,7 +78,8 @@ lines_of-next n bytes rest l e = rw e (behind (items params_at n rest))
     by_test true ls = refl
     by_test false ls = refl
 
-    behind : (o : Option (List LinearParams × List ℕ)) → ((o >>= λ q. Some (l ∷ q.0, q.1)) >>= nothing_left) ≡ ((o >>= nothing_left) >>= λ ls. Some (l ∷ ls))
+    behind : (o : Option (List LinearParams × List ℕ))
+        → ((o >>= λ q. Some (l ∷ q.0, q.1)) >>= nothing_left) ≡ ((o >>= nothing_left) >>= λ ls. Some (l ∷ ls))
     behind None = refl
     behind (Some q) = by_test (length q.1 == 0) q.0
 
@@ -88,30 +92,44 @@ abbrev pub AreRead : ℕ → List ℕ → ℕ → List Block → List ℕ → Ty
 AreRead n bytes k bs rest = lines_of n bytes ≡ (lines_of (n - k) rest >>= with_lines (map block_params bs))
 
 -- one line more
-pub AreRead-push : (n : ℕ) (bytes : List ℕ) (k : ℕ) (bs : List Block) (rest more : List ℕ) (b : Block) → AreRead n bytes k bs rest → k < n → params_at rest ≡ Some (block_params b, more) → AreRead n bytes (k + 1) (bs ++ b ∷ []) more
+pub AreRead-push : (n : ℕ) (bytes : List ℕ) (k : ℕ) (bs : List Block) (rest more : List ℕ) (b : Block)
+    → AreRead n bytes k bs rest → k < n → params_at rest ≡ Some (block_params b, more)
+    → AreRead n bytes (k + 1) (bs ++ b ∷ []) more
 AreRead-push n bytes k bs rest more b h p e =
     let left : n - k ≡ suc (n - (k + 1)) = omega arith in
     h ∙ ap (λ m. lines_of m rest >>= with_lines (map block_params bs)) left
     ∙ ap (λ o. o >>= with_lines (map block_params bs)) (lines_of-next (n - (k + 1)) rest more (block_params b) e)
     ∙ joined (lines_of (n - (k + 1)) more)
   where
-    joined : (o : Option (List LinearParams)) → ((o >>= λ ls. Some (block_params b ∷ ls)) >>= with_lines (map block_params bs)) ≡ (o >>= with_lines (map block_params (bs ++ b ∷ [])))
+    joined : (o : Option (List LinearParams))
+        → ((o >>= λ ls. Some (block_params b ∷ ls)) >>= with_lines (map block_params bs))
+        ≡ (o >>= with_lines (map block_params (bs ++ b ∷ [])))
     joined None = refl
-    joined (Some ls) = ap Some (sym (ap (λ m. m ++ ls) (map-append block_params bs (b ∷ [])) ∙ append_assoc (map block_params bs) (block_params b ∷ []) ls))
+    joined (Some ls) =
+        ap Some (sym (ap (λ m. m ++ ls) (map-append block_params bs (b ∷ []))
+        ∙ append_assoc (map block_params bs) (block_params b ∷ []) ls))
 
 -- no line is there
-pub AreRead-stuck : (n : ℕ) (bytes : List ℕ) (k : ℕ) (bs : List Block) (rest : List ℕ) → AreRead n bytes k bs rest → k < n → params_at rest ≡ None → lines_of n bytes ≡ None
+pub AreRead-stuck : (n : ℕ) (bytes : List ℕ) (k : ℕ) (bs : List Block) (rest : List ℕ) → AreRead n bytes k bs rest
+    → k < n → params_at rest ≡ None → lines_of n bytes ≡ None
 AreRead-stuck n bytes k bs rest h p e =
     let left : n - k ≡ suc (n - (k + 1)) = omega arith in
-    h ∙ ap (λ m. lines_of m rest >>= with_lines (map block_params bs)) left ∙ ap (λ o. o >>= with_lines (map block_params bs)) (lines_of-stuck (n - (k + 1)) rest e)
+    h ∙ ap (λ m. lines_of m rest >>= with_lines (map block_params bs)) left
+    ∙ ap (λ o. o >>= with_lines (map block_params bs)) (lines_of-stuck (n - (k + 1)) rest e)
 
-AreRead-all : (n : ℕ) (bytes : List ℕ) (k : ℕ) (bs : List Block) (rest : List ℕ) → AreRead n bytes k bs rest → n ≤ k → lines_of n bytes ≡ (only_if (length rest == 0) [] >>= with_lines (map block_params bs))
+AreRead-all : (n : ℕ) (bytes : List ℕ) (k : ℕ) (bs : List Block) (rest : List ℕ) → AreRead n bytes k bs rest → n ≤ k
+    → lines_of n bytes ≡ (only_if (length rest == 0) [] >>= with_lines (map block_params bs))
 unfolding items
-AreRead-all n bytes k bs rest h p = let none : n - k ≡ 0 = omega arith in h ∙ ap (λ m. lines_of m rest >>= with_lines (map block_params bs)) none
+AreRead-all n bytes k bs rest h p =
+    let none : n - k ≡ 0 = omega arith in h ∙ ap (λ m. lines_of m rest >>= with_lines (map block_params bs)) none
 
 -- all lines are read, and nothing is left
-pub AreRead-end : (n : ℕ) (bytes : List ℕ) (k : ℕ) (bs : List Block) (rest : List ℕ) (b test : Bool) → AreRead n bytes k bs rest → n ≤ k → test ≡ (length rest == 0) → test ≡ b → lines_of n bytes ≡ only_if b (map block_params bs)
-AreRead-end n bytes k bs rest b test h p e t = AreRead-all n bytes k bs rest h p ∙ ap (λ c. only_if c [] >>= with_lines (map block_params bs)) (sym e ∙ t) ∙ by_test b
+pub AreRead-end : (n : ℕ) (bytes : List ℕ) (k : ℕ) (bs : List Block) (rest : List ℕ) (b test : Bool)
+    → AreRead n bytes k bs rest → n ≤ k → test ≡ (length rest == 0) → test ≡ b
+    → lines_of n bytes ≡ only_if b (map block_params bs)
+AreRead-end n bytes k bs rest b test h p e t =
+    AreRead-all n bytes k bs rest h p ∙ ap (λ c. only_if c [] >>= with_lines (map block_params bs)) (sym e ∙ t)
+    ∙ by_test b
   where
     by_test : (c : Bool) → (only_if c [] >>= with_lines (map block_params bs)) ≡ only_if c (map block_params bs)
     by_test true = ap Some (append-nil (map block_params bs))

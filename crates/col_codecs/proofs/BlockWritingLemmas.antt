@@ -20,15 +20,18 @@ use Rattle.col_codecs.proofs.BlockEstimateLemmas.{block_line-width, count-is}
 abbrev pub packed_so_far : List ℕ → ℕ → List ℕ
 packed_so_far ks k = joined_lists (map packed_block (cut_blocks k ks))
 
+-- the lines of the first k blocks
 abbrev pub lines_so_far : List ℕ → ℕ → List ℕ
 lines_so_far ks k = lines_bytes (cut_blocks k ks)
 
+-- one block more is packed behind the others
 pub packed_so_far-more : (ks : List ℕ) (k : ℕ) → packed_so_far ks (k + 1) ≡ packed_so_far ks k ++ packed_block (block_at k ks)
 packed_so_far-more ks k =
     ap (λ bs. joined_lists (map packed_block bs)) (cut_blocks-more k ks)
     ∙ ap joined_lists (map-append packed_block (cut_blocks k ks) (block_at k ks ∷ []))
     ∙ joined_lists-push (map packed_block (cut_blocks k ks)) (packed_block (block_at k ks))
 
+-- one block more has its line behind the others'
 pub lines_so_far-more : (ks : List ℕ) (k : ℕ) → lines_so_far ks (k + 1) ≡ lines_so_far ks k ++ params_bytes (block_line (block_at k ks))
 lines_so_far-more ks k =
     let spelled : List ℕ → List ℕ = λ b. params_bytes (block_line b) in
@@ -37,7 +40,8 @@ lines_so_far-more ks k =
     ∙ ap (λ r. lines_so_far ks k ++ r) (append-nil (spelled (block_at k ks)))
 
 -- the steps of the values that are taken are the next block of steps
-pub steps_above-block : (s : Stats) (xs part : List ℕ) (k n : ℕ) → n ≡ min block_size (length (drop (512 * k) xs)) → part ≡ take n (drop (512 * k) xs) → steps_above s part ≡ block_at k (steps_above s xs)
+pub steps_above-block : (s : Stats) (xs part : List ℕ) (k n : ℕ) → n ≡ min block_size (length (drop (512 * k) xs))
+    → part ≡ take n (drop (512 * k) xs) → steps_above s part ≡ block_at k (steps_above s xs)
 steps_above-block s xs part k n e p =
     let f : ℕ → ℕ = λ x. (x - s.least) / s.divisor in
     let rest = drop (512 * k) xs in
@@ -56,9 +60,11 @@ pub record IsTrained (steps offsets : List ℕ) (l : LinearParams) : Type 0 wher
   pub slope : l ≡ block_line steps
   pub offsets_are : offsets ≡ offsets_from (block_line steps) steps
 
+-- a trained line has a width of at most 64
 pub trained-width : (steps offsets : List ℕ) (l : LinearParams) → IsTrained steps offsets l → l.offset_width ≤ 64
 trained-width steps offsets l h = rw h.slope (block_line-width steps)
 
+-- the offsets from a trained line fit its width
 pub trained-small : (steps offsets : List ℕ) (l : LinearParams) → IsTrained steps offsets l → AreBelow (2 ^ l.offset_width) offsets
 trained-small steps offsets l h = rw (h.slope, h.offsets_are) (block_offsets-fit steps)
 
@@ -73,18 +79,23 @@ unfolding stats_of
 divisor-above s xs e = rw e (omega arith)
 
 -- the values that are taken are a block
-pub IsBlock-taken : (s : Stats) (xs part : List ℕ) (blocks k n : ℕ) → s ≡ stats_of xs → blocks ≡ div_ceil s.count 512 → k < blocks → n ≡ min block_size (length (drop (512 * k) xs)) → part ≡ take n (drop (512 * k) xs) → IsBlock s part
+pub IsBlock-taken : (s : Stats) (xs part : List ℕ) (blocks k n : ℕ) → s ≡ stats_of xs
+    → blocks ≡ div_ceil s.count 512 → k < blocks → n ≡ min block_size (length (drop (512 * k) xs))
+    → part ≡ take n (drop (512 * k) xs) → IsBlock s part
 IsBlock-taken s xs part blocks k n e b h m p =
     let rest = drop (512 * k) xs in
     let long : length part ≡ n = ap length p ∙ length-take-le n rest (omega (arith, m)) in
     record {
       some = omega (arith, count-is s xs e, b, h, m, long, length-drop (512 * k) xs);
       small = omega (arith, m, long);
-      above = all_by (λ x h. (h, divisor-above s xs e)) part (rw (p, least-is s xs e) (all_taken (λ x. least_of xs ≤ x) n rest (all_dropped (λ x. least_of xs ≤ x) (512 * k) xs (least_of-all xs))));
+      above =
+          all_by (λ x h. (h, divisor-above s xs e)) part (rw (p, least-is s xs e) (all_taken (λ x. least_of xs ≤ x)
+          n rest (all_dropped (λ x. least_of xs ≤ x) (512 * k) xs (least_of-all xs))));
     }
 
 -- what is left behind them
-pub left-next : (xs : List ℕ) (k n : ℕ) → n ≡ min block_size (length (drop (512 * k) xs)) → drop n (drop (512 * k) xs) ≡ drop (512 * (k + 1)) xs
+pub left-next : (xs : List ℕ) (k n : ℕ) → n ≡ min block_size (length (drop (512 * k) xs))
+    → drop n (drop (512 * k) xs) ≡ drop (512 * (k + 1)) xs
 left-next xs k n e =
     let rest = drop (512 * k) xs in
     let next : block_size + 512 * k ≡ 512 * (k + 1) = omega arith in
@@ -97,11 +108,14 @@ left-next xs k n e =
     ]
 
 -- the blocks so far are all
-pub all_blocks : (s : Stats) (xs : List ℕ) (blocks k : ℕ) → s ≡ stats_of xs → blocks ≡ div_ceil s.count 512 → k ≡ blocks → k ≡ block_count (length (steps_above s xs))
+pub all_blocks : (s : Stats) (xs : List ℕ) (blocks k : ℕ) → s ≡ stats_of xs → blocks ≡ div_ceil s.count 512
+    → k ≡ blocks → k ≡ block_count (length (steps_above s xs))
 all_blocks s xs blocks k e b h = h ∙ b ∙ ap (λ n. div_ceil n 512) (count-is s xs e ∙ sym (length-map xs (λ x. (x - s.least) / s.divisor)))
 
 -- ---- blocks, their lines, and the length of the lines
 
-pub blocks_bytes-parts : (bs : List (List ℕ)) (lines : List ℕ) → lines ≡ lines_bytes bs → joined_lists (map packed_block bs) ++ (lines ++ to_le_bytes w64 (length lines)) ≡ blocks_bytes bs
+-- the packed blocks, their lines and the length of these are the bytes of the blocks
+pub blocks_bytes-parts : (bs : List (List ℕ)) (lines : List ℕ) → lines ≡ lines_bytes bs
+    → joined_lists (map packed_block bs) ++ (lines ++ to_le_bytes w64 (length lines)) ≡ blocks_bytes bs
 unfolding blocks_bytes
 blocks_bytes-parts bs lines e = ap (λ ls. joined_lists (map packed_block bs) ++ (ls ++ to_le_bytes w64 (length ls))) e

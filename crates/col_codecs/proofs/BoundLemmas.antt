@@ -37,7 +37,9 @@ pub greatest-with : (a : ℕ) (xs : List ℕ) → max a (greatest_of xs) ≡ fol
 greatest-with a xs = let e : max a 0 ≡ a = omega arith in sym (max_from a 0 xs) ∙ ap (λ m. fold max m xs) e
 
 -- the bounds of the first number and of all
-pub bounds_whole : (b : Bounds) (xs : List ℕ) (n : ℕ) → 0 < length xs → length xs ≤ n → b.least ≡ fold min (get_or xs 0 0) (take n xs) → b.greatest ≡ fold max (get_or xs 0 0) (take n xs) → AreBounds b xs
+pub bounds_whole : (b : Bounds) (xs : List ℕ) (n : ℕ) → 0 < length xs → length xs ≤ n
+    → b.least ≡ fold min (get_or xs 0 0) (take n xs) → b.greatest ≡ fold max (get_or xs 0 0) (take n xs)
+    → AreBounds b xs
 bounds_whole b [] n some all low high = absurd (omega arith)
 bounds_whole b (x ∷ xs) n some all low high =
     let whole : take n (x ∷ xs) ≡ x ∷ xs = take_all n (x ∷ xs) all in
@@ -52,8 +54,10 @@ bounds_whole b (x ∷ xs) n some all low high =
 -- no number lies outside its bounds
 pub bounds_enclose : (b : Bounds) (xs : List ℕ) (k : ℕ) → AreBounds b xs → k < length xs → LiesWithin b (get_or xs k 0)
 bounds_enclose b xs k are h =
-    let low : least_of xs ≤ get_or xs k 0 = All-get_or (λ x. least_of xs ≤ x) xs k 0 h (All-from_recursion (λ x. least_of xs ≤ x) xs (least_of-all xs)) in
-    let high : get_or xs k 0 ≤ greatest_of xs = All-get_or (λ x. x ≤ greatest_of xs) xs k 0 h (All-from_recursion (λ x. x ≤ greatest_of xs) xs (fold-max 0 xs).1) in
+    let low : least_of xs ≤ get_or xs k 0 = All-get_or (λ x. least_of xs ≤ x) xs k 0 h
+    (All-from_recursion (λ x. least_of xs ≤ x) xs (least_of-all xs)) in
+    let high : get_or xs k 0 ≤ greatest_of xs = All-get_or (λ x. x ≤ greatest_of xs) xs k 0 h
+    (All-from_recursion (λ x. x ≤ greatest_of xs) xs (fold-max 0 xs).1) in
     (omega (arith, low, are.least), omega (arith, high, are.greatest))
 
 -- numbers of 32 bits, as they are read
@@ -62,7 +66,8 @@ all_small f from zero small = tt
 all_small f from (suc n) small = (small from, all_small f (from + 1) n small)
 
 -- one upper half more
-pub above-more : (xs : List ℕ) (n most next : ℕ) → ((k : ℕ) → k < n → get_or xs k 0 / 2 ^ 32 ≤ most) → most ≤ next → get_or xs n 0 / 2 ^ 32 ≤ next → (k : ℕ) → k < n + 1 → get_or xs k 0 / 2 ^ 32 ≤ next
+pub above-more : (xs : List ℕ) (n most next : ℕ) → ((k : ℕ) → k < n → get_or xs k 0 / 2 ^ 32 ≤ most) → most ≤ next
+    → get_or xs n 0 / 2 ^ 32 ≤ next → (k : ℕ) → k < n + 1 → get_or xs k 0 / 2 ^ 32 ≤ next
 above-more xs n most next before more here k h =
     elim (cases_lt k n) [
       | inl less ↦ omega (arith, before k less, more)
@@ -77,17 +82,24 @@ each_small (x ∷ xs) each = (each 0 (omega arith), each_small xs (λ k h. each 
 -- ---- blocks
 
 -- one block more
-pub enclose_more : (bs : List Bounds) (b : Bounds) (f : ℕ → ℕ) (from n : ℕ) → from ≡ 1024 * length bs → n ≤ 1024 → Enclose bs f from → AreBounds b (map f (range_with_len from n)) → Enclose (bs ++ b ∷ []) f (from + n)
+pub enclose_more : (bs : List Bounds) (b : Bounds) (f : ℕ → ℕ) (from n : ℕ) → from ≡ 1024 * length bs → n ≤ 1024
+    → Enclose bs f from → AreBounds b (map f (range_with_len from n)) → Enclose (bs ++ b ∷ []) f (from + n)
 enclose_more bs b f from n at short so_far are i h inside =
     elim (cases_lt i from) [
       | inl before ↦
           let block : i / 1024 < length bs = omega (arith, before, at) in
-          subst (λ (x : Bounds). LiesWithin x (f i)) (sym (get_or_append_left bs (b ∷ []) no_bounds (i / 1024) block)) (so_far i before block)
+          subst (λ (x : Bounds). LiesWithin x (f i))
+          (sym (get_or_append_left bs (b ∷ []) no_bounds (i / 1024) block)) (so_far i before block)
       | inr behind ↦
           let block : i / 1024 ≡ length bs = omega (arith, behind, at, short, h) in
-          let item : get_or (map f (range_with_len from n)) (i - from) 0 ≡ f i = get_or-map-range_with_len f from n (i - from) i 0 (omega (arith, behind, h)) (omega (arith, behind)) in
-          let lies : LiesWithin b (f i) = subst (LiesWithin b) item (bounds_enclose b (map f (range_with_len from n)) (i - from) are (omega (arith, length-map-range_with_len f from n, behind, h))) in
-          let last : get_or (bs ++ b ∷ []) (i / 1024) no_bounds ≡ b = ap (λ k. get_or (bs ++ b ∷ []) k no_bounds) block ∙ get_or-append_at bs b in
+          let item : get_or (map f (range_with_len from n)) (i - from) 0 ≡ f i =
+          get_or-map-range_with_len f from n (i - from) i 0 (omega (arith, behind, h))
+          (omega (arith, behind)) in
+          let lies : LiesWithin b (f i) = subst (LiesWithin b) item (bounds_enclose b
+          (map f (range_with_len from n)) (i - from) are
+          (omega (arith, length-map-range_with_len f from n, behind, h))) in
+          let last : get_or (bs ++ b ∷ []) (i / 1024) no_bounds ≡ b =
+          ap (λ k. get_or (bs ++ b ∷ []) k no_bounds) block ∙ get_or-append_at bs b in
           subst (λ (x : Bounds). LiesWithin x (f i)) (sym last) lies
     ]
   where
@@ -98,7 +110,8 @@ enclose_more bs b f from n at short so_far are i h inside =
 -- ---- ids that are written
 
 -- one id more is written
-pub run_more : (front out : List ℕ) (start n at m x : ℕ) → at < length out → m ≡ n + 1 → x ≡ start + n → take at out ≡ front ++ range_with_len start n → take (at + 1) (set out at x) ≡ front ++ range_with_len start m
+pub run_more : (front out : List ℕ) (start n at m x : ℕ) → at < length out → m ≡ n + 1 → x ≡ start + n
+    → take at out ≡ front ++ range_with_len start n → take (at + 1) (set out at x) ≡ front ++ range_with_len start m
 run_more front out start n at m x within next value so_far =
     take_more_set out at x within
     ∙ ap (λ r. r ++ x ∷ []) so_far
@@ -110,25 +123,40 @@ run_more front out start n at m x within next value so_far =
 -- ---- a collector
 
 -- numbers behind those that were collected, where the divisor is 1
-widened_all : (s : Collected) (xs ys : List ℕ) → s.divisor ≡ 1 → s ≡ collected_of xs → record { least = fold min s.least ys; greatest = fold max s.greatest ys; divisor = s.divisor; count = s.count + length ys } ≡ collected_of (xs ++ ys)
+widened_all : (s : Collected) (xs ys : List ℕ) → s.divisor ≡ 1 → s ≡ collected_of xs
+    → record {
+      least = fold min s.least ys;
+      greatest = fold max s.greatest ys;
+      divisor = s.divisor;
+      count = s.count + length ys;
+    } ≡ collected_of (xs ++ ys)
 widened_all s xs [] one e =
     let count : s.count + 0 ≡ s.count = omega arith in
     ap (λ n. record s { count = n }) count ∙ e ∙ ap collected_of (sym (append-nil xs))
 widened_all s xs (y ∷ ys) one e =
     let more : Collected = record { least = min s.least y; greatest = max s.greatest y; divisor = s.divisor; count = s.count + 1 } in
     let count : s.count + suc (length ys) ≡ s.count + 1 + length ys = omega arith in
-    ap (λ n. record { least = fold min (min s.least y) ys; greatest = fold max (max s.greatest y) ys; divisor = s.divisor; count = n }) count
+    ap (λ n. record {
+      least = fold min (min s.least y) ys;
+      greatest = fold max (max s.greatest y) ys;
+      divisor = s.divisor;
+      count = n;
+    }) count
     ∙ widened_all more (xs ++ y ∷ []) ys one (collected-widened s xs y _ _ one refl refl e)
     ∙ ap collected_of (append_assoc xs (y ∷ []) ys)
 
 -- a block of them, by its bounds
-pub collected-block : (s : Collected) (xs ys : List ℕ) (b : Bounds) (low high n : ℕ) → s.divisor ≡ 1 → AreBounds b ys → low ≡ min s.least b.least → high ≡ max s.greatest b.greatest → length ys ≡ n → s ≡ collected_of xs → record { least = low; greatest = high; divisor = s.divisor; count = s.count + n } ≡ collected_of (xs ++ ys)
+pub collected-block : (s : Collected) (xs ys : List ℕ) (b : Bounds) (low high n : ℕ) → s.divisor ≡ 1
+    → AreBounds b ys → low ≡ min s.least b.least → high ≡ max s.greatest b.greatest → length ys ≡ n
+    → s ≡ collected_of xs
+    → record { least = low; greatest = high; divisor = s.divisor; count = s.count + n } ≡ collected_of (xs ++ ys)
 collected-block s xs ys b low high n one are l h long e =
     let least : low ≡ fold min s.least ys = l ∙ ap (min s.least) are.least ∙ least-with s.least ys are.some in
     let greatest : high ≡ fold max s.greatest ys = h ∙ ap (max s.greatest) are.greatest ∙ greatest-with s.greatest ys in
     (λ i. record { least = least i; greatest = greatest i; divisor = s.divisor; count = s.count + sym long i }) ∙ widened_all s xs ys one e
 
 -- one number more of a block
-pub collected-push : (after : Collected) (xs ys : List ℕ) (i : ℕ) → i < length ys → after ≡ collected_of ((xs ++ take i ys) ++ get_or ys i 0 ∷ []) → after ≡ collected_of (xs ++ take (i + 1) ys)
+pub collected-push : (after : Collected) (xs ys : List ℕ) (i : ℕ) → i < length ys
+    → after ≡ collected_of ((xs ++ take i ys) ++ get_or ys i 0 ∷ []) → after ≡ collected_of (xs ++ take (i + 1) ys)
 collected-push after xs ys i h e =
     e ∙ ap collected_of (append_assoc xs (take i ys) (get_or ys i 0 ∷ []) ∙ ap (λ r. xs ++ r) (sym (take_more ys i 0 h)))

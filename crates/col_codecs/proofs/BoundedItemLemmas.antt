@@ -18,11 +18,15 @@ use Rattle.col_codecs.specs.BoundedItems.{ids_by}
 
 filter_none : (p : ℕ → Bool) (a n : ℕ) → ((k : ℕ) → a ≤ k → k < a + n → p k ≡ false) → filter p (range_with_len a n) ≡ []
 filter_none p a zero never = refl
-filter_none p a (suc n) never = rw (never a (omega arith) (omega arith)) (filter_none p (a + 1) n (λ k h l. never k (omega arith) (omega arith)))
+filter_none p a (suc n) never =
+    rw (never a (omega arith) (omega arith))
+    (filter_none p (a + 1) n (λ k h l. never k (omega arith) (omega arith)))
 
 filter_all : (p : ℕ → Bool) (a n : ℕ) → ((k : ℕ) → a ≤ k → k < a + n → p k ≡ true) → filter p (range_with_len a n) ≡ range_with_len a n
 filter_all p a zero always = refl
-filter_all p a (suc n) always = rw (always a (omega arith) (omega arith)) (ap (λ r. a ∷ r) (filter_all p (a + 1) n (λ k h l. always k (omega arith) (omega arith))))
+filter_all p a (suc n) always =
+    rw (always a (omega arith) (omega arith))
+    (ap (λ r. a ∷ r) (filter_all p (a + 1) n (λ k h l. always k (omega arith) (omega arith))))
 
 -- no id
 pub ids_by-none : (f : ℕ → ℕ) (low high a n : ℕ) → n ≡ 0 → ids_by f low high a n ≡ []
@@ -30,7 +34,8 @@ unfolding ids_by
 ids_by-none f low high a n e = ap (ids_by f low high a) e
 
 -- ids of two blocks
-pub ids_by-joined : (f : ℕ → ℕ) (low high a n m b k : ℕ) → a + n ≡ b → n + m ≡ k → ids_by f low high a k ≡ ids_by f low high a n ++ ids_by f low high b m
+pub ids_by-joined : (f : ℕ → ℕ) (low high a n m b k : ℕ) → a + n ≡ b → n + m ≡ k
+    → ids_by f low high a k ≡ ids_by f low high a n ++ ids_by f low high b m
 unfolding ids_by
 ids_by-joined f low high a n m b k at whole =
     let test : ℕ → Bool = λ id. is_in_range low high (f id) in
@@ -40,12 +45,15 @@ ids_by-joined f low high a n m b k at whole =
     ∙ ap (λ c. filter test (range_with_len a n) ++ filter test (range_with_len c m)) at))
 
 -- one id
-ids_by-one : (f : ℕ → ℕ) (low high id : ℕ) (kept : Bool) → kept ≡ is_in_range low high (f id) → ids_by f low high id 1 ≡ cond kept (id ∷ []) []
+ids_by-one : (f : ℕ → ℕ) (low high id : ℕ) (kept : Bool) → kept ≡ is_in_range low high (f id)
+    → ids_by f low high id 1 ≡ cond kept (id ∷ []) []
 unfolding ids_by
 ids_by-one f low high id kept e = ap (λ b. cond b (id ∷ []) []) (sym e)
 
 -- one id more is tested
-pub ids_by-more : (f : ℕ → ℕ) (low high a n m id kept : ℕ) (out : List ℕ) (b : Bool) → a + n ≡ id → n + 1 ≡ m → b ≡ is_in_range low high (f id) → kept < length out → take kept out ≡ ids_by f low high a n → take (kept + bool_byte b) (set out kept id) ≡ ids_by f low high a m
+pub ids_by-more : (f : ℕ → ℕ) (low high a n m id kept : ℕ) (out : List ℕ) (b : Bool) → a + n ≡ id → n + 1 ≡ m
+    → b ≡ is_in_range low high (f id) → kept < length out → take kept out ≡ ids_by f low high a n
+    → take (kept + bool_byte b) (set out kept id) ≡ ids_by f low high a m
 ids_by-more f low high a n m id kept out b at next tested within so_far =
     kept_more out kept id b within
     ∙ ap (λ xs. xs ++ cond b (id ∷ []) []) so_far
@@ -53,11 +61,13 @@ ids_by-more f low high a n m id kept out b at next tested within so_far =
     ∙ sym (ids_by-joined f low high a n 1 id m at next)
 
 -- ids by the numbers that were read
-pub ids_by-read : (f : ℕ → ℕ) (vals : List ℕ) (low high a n : ℕ) → vals ≡ map f (range_with_len a n) → ids_by (λ id. get_or vals (id - a) 0) low high a n ≡ ids_by f low high a n
+pub ids_by-read : (f : ℕ → ℕ) (vals : List ℕ) (low high a n : ℕ) → vals ≡ map f (range_with_len a n)
+    → ids_by (λ id. get_or vals (id - a) 0) low high a n ≡ ids_by f low high a n
 unfolding ids_by
 ids_by-read f vals low high a n read =
     rows_same _ _ a n (λ k above below.
-    let at : get_or vals (k - a) 0 ≡ f k = ap (λ xs. get_or xs (k - a) 0) read ∙ get_or-map-range_with_len f a n (k - a) k 0 (omega arith) (omega arith) in
+    let at : get_or vals (k - a) 0 ≡ f k = ap (λ xs. get_or xs (k - a) 0) read
+    ∙ get_or-map-range_with_len f a n (k - a) k 0 (omega arith) (omega arith) in
     ap (is_in_range low high) at)
 
 -- ids rise
@@ -68,24 +78,28 @@ ids_by-rise f low high a n = filtered_rises (λ id. is_in_range low high (f id))
 -- ---- blocks
 
 -- numbers of one block
-block_lies : (bs : List Bounds) (f : ℕ → ℕ) (a n to block k : ℕ) → block ≡ a / 1024 → a + n ≤ to → a % 1024 + n ≤ 1024 → Enclose bs f to → a ≤ k → k < a + n → LiesIn bs block (f k)
+block_lies : (bs : List Bounds) (f : ℕ → ℕ) (a n to block k : ℕ) → block ≡ a / 1024 → a + n ≤ to
+    → a % 1024 + n ≤ 1024 → Enclose bs f to → a ≤ k → k < a + n → LiesIn bs block (f k)
 block_lies bs f a n to block k at within one enclosed above below =
     let same : k / 1024 ≡ block = omega (arith, at, one, above, below) in
     subst (λ j. LiesIn bs j (f k)) same (enclosed k (omega (arith, below, within)))
 
-module _ (bs : List Bounds) (f : ℕ → ℕ) (low high a n to block : ℕ) (at : block ≡ a / 1024) (within : a + n ≤ to) (one : a % 1024 + n ≤ 1024) (enclosed : Enclose bs f to) (old : List ℕ) where
+module _ (bs : List Bounds) (f : ℕ → ℕ) (low high a n to block : ℕ) (at : block ≡ a / 1024) (within : a + n ≤ to)
+    (one : a % 1024 + n ≤ 1024) (enclosed : Enclose bs f to) (old : List ℕ) where
   -- a block that lies outside the range adds none of its ids
   pub block_skipped : ((v : ℕ) → LiesIn bs block v → is_in_range low high v ≡ false) → old ≡ old ++ ids_by f low high a n
   unfolding ids_by
   block_skipped misses =
       sym (append-nil old)
-      ∙ ap (λ r. old ++ r) (sym (filter_none (λ id. is_in_range low high (f id)) a n (λ k above below. misses (f k) (block_lies bs f a n to block k at within one enclosed above below))))
+      ∙ ap (λ r. old ++ r) (sym (filter_none (λ id. is_in_range low high (f id)) a n
+      (λ k above below. misses (f k) (block_lies bs f a n to block k at within one enclosed above below))))
 
   -- one that lies inside adds all
   pub block_taken : ((v : ℕ) → LiesIn bs block v → is_in_range low high v ≡ true) → old ++ range_with_len a n ≡ old ++ ids_by f low high a n
   unfolding ids_by
   block_taken hits =
-      ap (λ r. old ++ r) (sym (filter_all (λ id. is_in_range low high (f id)) a n (λ k above below. hits (f k) (block_lies bs f a n to block k at within one enclosed above below))))
+      ap (λ r. old ++ r) (sym (filter_all (λ id. is_in_range low high (f id)) a n
+      (λ k above below. hits (f k) (block_lies bs f a n to block k at within one enclosed above below))))
 
 -- the numbers of a block behind those before it
 pub numbers-joined : (f : ℕ → ℕ) (n m : ℕ) → map f (range_with_len 0 n) ++ map f (range_with_len n m) ≡ map f (range_with_len 0 (n + m))

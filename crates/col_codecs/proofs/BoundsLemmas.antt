@@ -7,6 +7,7 @@ pub stats_of-least : (xs : List ℕ) → (stats_of xs).least ≡ least_of xs
 unfolding stats_of
 stats_of-least xs = refl
 
+-- the greatest number that statistics name is the list's greatest
 pub stats_of-greatest : (xs : List ℕ) → (stats_of xs).greatest ≡ greatest_of xs
 unfolding stats_of
 stats_of-greatest xs = refl

@@ -19,7 +19,16 @@ stats_bytes-bound s =
     let b = vint_bytes s.divisor in
     let c = vint_bytes (steps_of s) in
     let d = vint_bytes s.count in
-    omega (arith, length-append a (b ++ (c ++ d)), length-append b (c ++ d), length-append c d, vint_bytes-bound s.least, vint_bytes-bound s.divisor, vint_bytes-bound (steps_of s), vint_bytes-bound s.count)
+    omega (
+      arith,
+      length-append a (b ++ (c ++ d)),
+      length-append b (c ++ d),
+      length-append c d,
+      vint_bytes-bound s.least,
+      vint_bytes-bound s.divisor,
+      vint_bytes-bound (steps_of s),
+      vint_bytes-bound s.count,
+    )
 
 -- a width that a file may name
 width-most : (w : ℕ) → is_width w ≡ true → w ≤ 64
@@ -28,9 +37,13 @@ width-most w e = elim (or_cases (nat_le w 56) (w == 64) e) [
   | inr t ↦ omega (arith, eqb-true w 64 t)
 ]
 
+-- the line of a list has a width of at most 64
 pub linear_width : (l : LineAndWidth) (xs : List ℕ) → l ≡ linear_line xs → l.offset_width ≤ 64
-linear_width l xs e = let at : l.offset_width ≡ (linear_line xs).offset_width = ap (λ k. k.offset_width) e in omega (arith, at, width-most (linear_line xs).offset_width (linear_line-writable xs).offset_width)
+linear_width l xs e =
+    let at : l.offset_width ≡ (linear_line xs).offset_width = ap (λ k. k.offset_width) e in omega
+    (arith, at, width-most (linear_line xs).offset_width (linear_line-writable xs).offset_width)
 
+-- the offsets from the line of a list fit its width
 pub linear_fit : (l : LineAndWidth) (xs : List ℕ) → l ≡ linear_line xs → AreBelow (2 ^ l.offset_width) (offsets_from l xs)
 linear_fit l xs e = subst (λ (k : LineAndWidth). AreBelow (2 ^ k.offset_width) (offsets_from k xs)) (sym e) (linear_offsets-fit xs)
 
@@ -40,20 +53,31 @@ bits-fit n w p q = let most : n * w ≤ n * 64 = mul-le-mul_left n q in omega (a
 
 -- ---- the estimate
 
+-- a list shorter than a block has no estimate under Linear
 pub linear_estimate-few : (xs : List ℕ) → length xs < block_size → linear_estimate xs ≡ None
 unfolding linear_estimate
 linear_estimate-few xs h = rw (lt-ltb (length xs) block_size h) refl
 
-pub linear_estimate-parts : (xs : List ℕ) (s : Stats) (l : LineAndWidth) (n a b d : ℕ) → block_size ≤ length xs → n ≡ length xs → s ≡ stats_of xs → l ≡ linear_line xs → a ≡ length (stats_bytes s) → b ≡ line_len l → d ≡ packed_len n l.offset_width → Some (a + b + 1 + d) ≡ linear_estimate xs
+-- the estimate is the statistics' length, the line's, a byte and that of the packed offsets
+pub linear_estimate-parts : (xs : List ℕ) (s : Stats) (l : LineAndWidth) (n a b d : ℕ) → block_size ≤ length xs
+    → n ≡ length xs → s ≡ stats_of xs → l ≡ linear_line xs → a ≡ length (stats_bytes s) → b ≡ line_len l
+    → d ≡ packed_len n l.offset_width → Some (a + b + 1 + d) ≡ linear_estimate xs
 unfolding linear_estimate
 linear_estimate-parts xs s l n a b d h count stats line p q r =
     rw (le-ltb (length xs) block_size h, p, q, r, stats, line, count) refl
 
+-- a list of a block or more has an estimate under Linear
 pub linear_estimate-enough : (xs : List ℕ) → block_size ≤ length xs → linear_estimate xs ≡ None → ⊥
-linear_estimate-enough xs h e = let some = linear_estimate-parts xs (stats_of xs) (linear_line xs) (length xs) _ _ _ h refl refl refl refl refl refl in absurd (cc)
+linear_estimate-enough xs h e =
+    let some = linear_estimate-parts xs (stats_of xs) (linear_line xs) (length xs) _ _ _ h refl refl refl refl refl
+    refl in absurd (cc)
 
 -- ---- the bytes
 
-pub linear_body-parts : (xs : List ℕ) (s : Stats) (l : LineAndWidth) → s ≡ stats_of xs → l ≡ linear_line xs → stats_bytes s ++ (params_bytes l ++ packed_offsets l xs) ≡ linear_body xs
+-- the bytes of the statistics, the line and the packed offsets are the list's body
+pub linear_body-parts : (xs : List ℕ) (s : Stats) (l : LineAndWidth) → s ≡ stats_of xs → l ≡ linear_line xs
+    → stats_bytes s ++ (params_bytes l ++ packed_offsets l xs) ≡ linear_body xs
 unfolding linear_body
-linear_body-parts xs s l p q = ap (λ (t : Stats). stats_bytes t ++ (params_bytes l ++ packed_offsets l xs)) p ∙ ap (λ k. stats_bytes (stats_of xs) ++ (params_bytes k ++ packed_offsets k xs)) q
+linear_body-parts xs s l p q =
+    ap (λ (t : Stats). stats_bytes t ++ (params_bytes l ++ packed_offsets l xs)) p
+    ∙ ap (λ k. stats_bytes (stats_of xs) ++ (params_bytes k ++ packed_offsets k xs)) q

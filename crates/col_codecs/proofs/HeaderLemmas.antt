@@ -13,12 +13,14 @@ pub only_if-some : {A : Type 0} (b : Bool) (x y : A) → Some y ≡ only_if b x 
 only_if-some true x y e = (refl, same_Some y x e)
 only_if-some false x y e = absurd (cc)
 
+-- a value that isn't given under a test says that the test fails
 pub only_if-none : {A : Type 0} (b : Bool) (x : A) → None ≡ only_if b x → b ≡ false
 only_if-none true x e = absurd (cc)
 only_if-none false x e = refl
 
 -- what stands behind the statistics ends with the bytes
-pub stats_at-behind : (bytes rest : List ℕ) (s : Stats) → IsBytes bytes → stats_at bytes ≡ Some (s, rest) → (length rest ≤ length bytes) × (drop (length bytes - length rest) bytes ≡ rest)
+pub stats_at-behind : (bytes rest : List ℕ) (s : Stats) → IsBytes bytes → stats_at bytes ≡ Some (s, rest)
+    → (length rest ≤ length bytes) × (drop (length bytes - length rest) bytes ≡ rest)
 stats_at-behind bytes rest s b e =
     let spelled = (stats_bytes-stats_at bytes s rest b e).0 in
     let long : length bytes ≡ length (stats_bytes s) + length rest = ap length spelled ∙ length-append (stats_bytes s) rest in
@@ -26,10 +28,12 @@ stats_at-behind bytes rest s b e =
     (omega (arith, long), ap (λ n. drop n bytes) start ∙ ap (drop (length (stats_bytes s))) spelled ∙ drop-front (stats_bytes s) rest)
 
 -- a list by its statistics, and what is behind them
-pub values64-some : (codec : ℕ) (bytes : List ℕ) (s : Stats) (rest : List ℕ) → stats_at bytes ≡ Some (s, rest) → values64 (codec ∷ bytes) ≡ list_by codec s rest
+pub values64-some : (codec : ℕ) (bytes : List ℕ) (s : Stats) (rest : List ℕ) → stats_at bytes ≡ Some (s, rest)
+    → values64 (codec ∷ bytes) ≡ list_by codec s rest
 unfolding values64 list_by
 values64-some codec bytes s rest e = rw e refl
 
+-- bytes that don't spell statistics behind their code stand for no list
 pub values64-none : (codec : ℕ) (bytes : List ℕ) → stats_at bytes ≡ None → values64 (codec ∷ bytes) ≡ None
 unfolding values64
 values64-none codec bytes e = rw e refl

@@ -39,14 +39,17 @@ first_line-push : (xs : List ℕ) (x : ℕ) → block_size ≤ length xs → fir
 first_line-push xs x h = ap line_of (take-append-le block_size xs (x ∷ []) h)
 
 -- one deviation more
-trained-more : (e f : LinearCodecEstimator) (xs : List ℕ) (x d : ℕ) → block_size ≤ length xs → IsTrained e xs → d ≡ deviation (line_seen e.linear_params.line) (length xs, x) → f.linear_params ≡ e.linear_params → f.min_deviation ≡ min e.min_deviation d → f.max_deviation ≡ max e.max_deviation d → IsTrained f (xs ++ x ∷ [])
+trained-more : (e f : LinearCodecEstimator) (xs : List ℕ) (x d : ℕ) → block_size ≤ length xs → IsTrained e xs
+    → d ≡ deviation (line_seen e.linear_params.line) (length xs, x) → f.linear_params ≡ e.linear_params
+    → f.min_deviation ≡ min e.min_deviation d → f.max_deviation ≡ max e.max_deviation d → IsTrained f (xs ++ x ∷ [])
 trained-more e f xs x d enough t is s low high =
     let l = first_line xs in
     let ds = deviations l xs in
     let same : first_line (xs ++ x ∷ []) ≡ l = first_line-push xs x enough in
     let here : d ≡ deviation l (length xs, x) = is ∙ ap (λ k. deviation k (length xs, x)) t.line in
     let some : 0 < length ds = omega (arith, length-deviations l xs, enough) in
-    let grown : deviations (first_line (xs ++ x ∷ [])) (xs ++ x ∷ []) ≡ ds ++ d ∷ [] = ap (λ k. deviations k (xs ++ x ∷ [])) same ∙ deviations-push l xs x ∙ ap (λ v. ds ++ v ∷ []) (sym here) in
+    let grown : deviations (first_line (xs ++ x ∷ [])) (xs ++ x ∷ []) ≡ ds ++ d ∷ [] =
+    ap (λ k. deviations k (xs ++ x ∷ [])) same ∙ deviations-push l xs x ∙ ap (λ v. ds ++ v ∷ []) (sym here) in
     record {
       line = ap (λ k. line_seen k.line) s ∙ t.line ∙ sym same;
       lowest = low ∙ ap (λ m. min m d) t.lowest ∙ sym (ap least_of grown ∙ least_of-push ds d some);
@@ -54,32 +57,46 @@ trained-more e f xs x d enough t is s low high =
     }
 
 -- a value behind the first ones
-pub collected-deviates : (e f : LinearCodecEstimator) (xs : List ℕ) (x d : ℕ) → IsCollected e xs → block_size ≤ e.row_id → d ≡ deviation (line_seen e.linear_params.line) (e.row_id, x) → f.block ≡ e.block → f.row_id ≡ e.row_id + 1 → f.linear_params ≡ e.linear_params → f.min_deviation ≡ min e.min_deviation d → f.max_deviation ≡ max e.max_deviation d → IsCollected f (xs ++ x ∷ [])
+pub collected-deviates : (e f : LinearCodecEstimator) (xs : List ℕ) (x d : ℕ) → IsCollected e xs
+    → block_size ≤ e.row_id → d ≡ deviation (line_seen e.linear_params.line) (e.row_id, x) → f.block ≡ e.block
+    → f.row_id ≡ e.row_id + 1 → f.linear_params ≡ e.linear_params → f.min_deviation ≡ min e.min_deviation d
+    → f.max_deviation ≡ max e.max_deviation d → IsCollected f (xs ++ x ∷ [])
 collected-deviates e f xs x d h enough is b n s low high =
     let many : block_size ≤ length xs = omega (arith, enough, h.count) in
-    let here : d ≡ deviation (line_seen e.linear_params.line) (length xs, x) = is ∙ ap (λ k. deviation (line_seen e.linear_params.line) (k, x)) h.count in
+    let here : d ≡ deviation (line_seen e.linear_params.line) (length xs, x) =
+    is ∙ ap (λ k. deviation (line_seen e.linear_params.line) (k, x)) h.count in
     let room : length e.block.items ≡ block_size = h.room in
-    let whole : take (e.row_id + 1) e.block.items ≡ take e.row_id e.block.items = take_all (e.row_id + 1) e.block.items (omega (arith, room, enough)) ∙ sym (take_all e.row_id e.block.items (omega (arith, room, enough))) in
+    let whole : take (e.row_id + 1) e.block.items ≡ take e.row_id e.block.items =
+    take_all (e.row_id + 1) e.block.items (omega (arith, room, enough))
+    ∙ sym (take_all e.row_id e.block.items (omega (arith, room, enough))) in
     record {
       count = n ∙ ap (λ k. k + 1) h.count ∙ sym (length_push xs x);
       room = ap (λ v. length v.items) b ∙ h.room;
-      held = ap (λ k. take k f.block.items) n ∙ ap (λ v. take (e.row_id + 1) v.items) b ∙ whole ∙ h.held ∙ sym (take-append-le block_size xs (x ∷ []) many);
+      held =
+          ap (λ k. take k f.block.items) n ∙ ap (λ v. take (e.row_id + 1) v.items) b ∙ whole ∙ h.held
+          ∙ sym (take-append-le block_size xs (x ∷ []) many);
       trained = λ more. trained-more e f xs x d many (h.trained many) here s low high;
     }
 
 -- one of the first values: the buffer holds all of them
-first-held : (e : LinearCodecEstimator) (xs items : List ℕ) (x : ℕ) → IsCollected e xs → e.row_id < block_size → items ≡ set e.block.items e.row_id x → (length items ≡ block_size) × (take (e.row_id + 1) items ≡ xs ++ x ∷ []) × (xs ++ x ∷ [] ≡ take block_size (xs ++ x ∷ []))
+first-held : (e : LinearCodecEstimator) (xs items : List ℕ) (x : ℕ) → IsCollected e xs → e.row_id < block_size
+    → items ≡ set e.block.items e.row_id x
+    → (length items ≡ block_size) × (take (e.row_id + 1) items ≡ xs ++ x ∷ [])
+    × (xs ++ x ∷ [] ≡ take block_size (xs ++ x ∷ []))
 first-held e xs items x h few is =
     let room : e.row_id < length e.block.items = omega (arith, h.room, few) in
     let short : length xs ≤ block_size = omega (arith, h.count, few) in
     let long : length (xs ++ x ∷ []) ≤ block_size = omega (arith, h.count, few, length_push xs x) in (
       ap length is ∙ length-set e.block.items e.row_id x ∙ h.room,
-      ap (take (e.row_id + 1)) is ∙ take_more_set e.block.items e.row_id x room ∙ ap (λ ys. ys ++ x ∷ []) (h.held ∙ take_all block_size xs short),
+      ap (take (e.row_id + 1)) is ∙ take_more_set e.block.items e.row_id x room
+          ∙ ap (λ ys. ys ++ x ∷ []) (h.held ∙ take_all block_size xs short),
       sym (take_all block_size (xs ++ x ∷ []) long),
     )
 
 -- one that leaves room
-pub collected-first : (e f : LinearCodecEstimator) (xs : List ℕ) (x : ℕ) → IsCollected e xs → e.row_id + 1 < block_size → f.block.items ≡ set e.block.items e.row_id x → f.row_id ≡ e.row_id + 1 → IsCollected f (xs ++ x ∷ [])
+pub collected-first : (e f : LinearCodecEstimator) (xs : List ℕ) (x : ℕ) → IsCollected e xs
+    → e.row_id + 1 < block_size → f.block.items ≡ set e.block.items e.row_id x → f.row_id ≡ e.row_id + 1
+    → IsCollected f (xs ++ x ∷ [])
 collected-first e f xs x h few is n =
     let k = first-held e xs f.block.items x h (omega arith) is in
     let long : length (xs ++ x ∷ []) ≡ e.row_id + 1 = length_push xs x ∙ ap (λ m. m + 1) (sym h.count) in
@@ -91,7 +108,9 @@ collected-first e f xs x h few is n =
     }
 
 -- the one that fills the buffer
-pub collected-full : (e f : LinearCodecEstimator) (xs items : List ℕ) (x : ℕ) → IsCollected e xs → e.row_id + 1 ≡ block_size → items ≡ set e.block.items e.row_id x → f.block.items ≡ items → f.row_id ≡ e.row_id + 1 → IsTrained f items → IsCollected f (xs ++ x ∷ [])
+pub collected-full : (e f : LinearCodecEstimator) (xs items : List ℕ) (x : ℕ) → IsCollected e xs
+    → e.row_id + 1 ≡ block_size → items ≡ set e.block.items e.row_id x → f.block.items ≡ items
+    → f.row_id ≡ e.row_id + 1 → IsTrained f items → IsCollected f (xs ++ x ∷ [])
 collected-full e f xs items x h full is b n t =
     let k = first-held e xs items x h (omega (arith, full)) is in
     let whole : items ≡ xs ++ x ∷ [] = sym (take_all (e.row_id + 1) items (omega (arith, k.0, full))) ∙ k.1 in
@@ -107,12 +126,15 @@ bounds-ordered [] = omega arith
 bounds-ordered (d ∷ ds) = omega (arith, (least_of-all (d ∷ ds)).0, (fold-max 0 (d ∷ ds)).1.0)
 
 -- the bounds stand in their order
-pub collected-ordered : (e : LinearCodecEstimator) (xs : List ℕ) → IsCollected e xs → block_size ≤ e.row_id → e.min_deviation ≤ e.max_deviation
+pub collected-ordered : (e : LinearCodecEstimator) (xs : List ℕ) → IsCollected e xs → block_size ≤ e.row_id
+    → e.min_deviation ≤ e.max_deviation
 collected-ordered e xs h enough =
     let t = h.trained (omega (arith, h.count, enough)) in
     omega (arith, t.lowest, t.highest, bounds-ordered (deviations (first_line xs) xs))
 
-same_slope : (a b c d w v : ℕ) → a ≡ b → c ≡ d → w ≡ v → let left : LineAndWidth = record { slope = a; intercept = c; offset_width = w } in let right : LineAndWidth = record { slope = b; intercept = d; offset_width = v } in left ≡ right
+same_slope : (a b c d w v : ℕ) → a ≡ b → c ≡ d → w ≡ v
+    → let left : LineAndWidth = record { slope = a; intercept = c; offset_width = w } in let right : LineAndWidth =
+    record { slope = b; intercept = d; offset_width = v } in left ≡ right
 same_slope a b c d w v p q r = cc
 
 -- too few values for a line
@@ -120,16 +142,24 @@ pub finalized-few : (e : LinearCodecEstimator) (xs : List ℕ) → IsCollected e
 finalized-few e xs h few = record { count = h.count; final = λ more. absurd (omega (arith, h.count, few, more)) }
 
 -- the raised line is the final one
-pub finalized-raised : (e f : LinearCodecEstimator) (xs : List ℕ) → IsCollected e xs → block_size ≤ e.row_id → f.row_id ≡ e.row_id → f.linear_params.line.slope ≡ e.linear_params.line.slope → f.linear_params.line.intercept ≡ ((e.linear_params.line.intercept + e.min_deviation) % 2 ^ 64 + (2 ^ 64 - half_space)) % 2 ^ 64 → f.linear_params.offset_width ≡ width (e.max_deviation - e.min_deviation) → IsFinalized f xs
+pub finalized-raised : (e f : LinearCodecEstimator) (xs : List ℕ) → IsCollected e xs → block_size ≤ e.row_id
+    → f.row_id ≡ e.row_id → f.linear_params.line.slope ≡ e.linear_params.line.slope
+    → f.linear_params.line.intercept
+    ≡ ((e.linear_params.line.intercept + e.min_deviation) % 2 ^ 64 + (2 ^ 64 - half_space)) % 2 ^ 64
+    → f.linear_params.offset_width ≡ width (e.max_deviation - e.min_deviation) → IsFinalized f xs
 unfolding linear_line
 finalized-raised e f xs h enough n s i w =
     let t = h.trained (omega (arith, h.count, enough)) in
     let l = first_line xs in
     let low = least_of (deviations l xs) in
-    let once : f.linear_params.line.intercept ≡ less_wrapped (e.linear_params.line.intercept + e.min_deviation) half_space = omega (arith, i) in
+    let once : f.linear_params.line.intercept ≡ less_wrapped (e.linear_params.line.intercept + e.min_deviation)
+    half_space = omega (arith, i) in
     record {
       count = n ∙ h.count;
-      final = λ more. same_slope f.linear_params.line.slope l.0 f.linear_params.line.intercept (less_wrapped (l.1 + low) half_space) f.linear_params.offset_width (width (greatest_of (deviations l xs) - low))
+      final =
+          λ more. same_slope f.linear_params.line.slope l.0 f.linear_params.line.intercept
+          (less_wrapped (l.1 + low) half_space) f.linear_params.offset_width
+          (width (greatest_of (deviations l xs) - low))
           (s ∙ ap (λ k. k.0) t.line)
           (once ∙ ap (λ k. less_wrapped (k.1 + e.min_deviation) half_space) t.line ∙ ap (λ m. less_wrapped (l.1 + m) half_space) t.lowest)
           (w ∙ ap (λ m. width (m - e.min_deviation)) t.highest ∙ ap (λ m. width (greatest_of (deviations l xs) - m)) t.lowest);

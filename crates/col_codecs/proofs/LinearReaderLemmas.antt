@@ -25,15 +25,19 @@ use Rattle.col_codecs.proofs.ListLemmas.{range-part}
 abbrev pub with_byte : ℕ × ℕ → ℕ × List ℕ → Option (LineAndWidth × List ℕ)
 with_byte l w = Some (record { slope = l.0; intercept = l.1; offset_width = w.0 }, w.1)
 
+-- a slope and an intercept with the width behind them
 abbrev pub with_line : (ℕ × ℕ) × List ℕ → Option (LineAndWidth × List ℕ)
 with_line l = width_at l.1 >>= with_byte l.0
 
+-- the intercept behind a slope
 abbrev pub with_intercept : ℕ → ℕ × List ℕ → Option ((ℕ × ℕ) × List ℕ)
 with_intercept slope intercept = Some ((slope, intercept.0), intercept.1)
 
+-- a slope with the intercept behind it
 abbrev pub with_slope : ℕ × List ℕ → Option ((ℕ × ℕ) × List ℕ)
 with_slope slope = vint slope.1 >>= with_intercept slope.0
 
+-- a byte that can be a width
 abbrev pub of_width : ℕ × List ℕ → Option (ℕ × List ℕ)
 of_width w = only_if (is_width w.0) w
 
@@ -42,7 +46,8 @@ after-byte [] w e = absurd (cc)
 after-byte (b ∷ bytes) w e = let same : (b, bytes) ≡ w = cc in ap (λ p. p.0 ∷ p.1) same
 
 -- a line and what is behind it
-params_at-front : (bytes rest : List ℕ) (l : LineAndWidth) → IsBytes bytes → params_at bytes ≡ Some (l, rest) → (front : List ℕ) × (bytes ≡ front ++ rest)
+params_at-front : (bytes rest : List ℕ) (l : LineAndWidth) → IsBytes bytes → params_at bytes ≡ Some (l, rest)
+    → (front : List ℕ) × (bytes ≡ front ++ rest)
 unfolding params_at
 params_at-front bytes rest l b e =
     option_and_then_some with_line (line_at bytes) (l, rest) e (λ line e1 e2.
@@ -57,7 +62,8 @@ params_at-front bytes rest l b e =
     let third : line.1 ≡ byte.0 ∷ byte.1 = after-byte line.1 byte k1 in
     let same : byte ≡ w = (cond_some (is_width byte.0) byte w k2).1 in
     let last : w.1 ≡ rest = ap (λ p. p.1) (same_Some _ (l, rest) h2) in
-    let whole : slope.1 ≡ vint_bytes intercept.0 ++ (byte.0 ∷ rest) = second ∙ ap (λ ys. vint_bytes intercept.0 ++ ys) (behind ∙ third ∙ ap (λ ys. byte.0 ∷ ys) (ap (λ p. p.1) same ∙ last)) in (
+    let whole : slope.1 ≡ vint_bytes intercept.0 ++ (byte.0 ∷ rest) = second ∙ ap (λ ys. vint_bytes intercept.0 ++ ys)
+    (behind ∙ third ∙ ap (λ ys. byte.0 ∷ ys) (ap (λ p. p.1) same ∙ last)) in (
       vint_bytes slope.0 ++ (vint_bytes intercept.0 ++ (byte.0 ∷ [])),
       first ∙ ap (λ ys. vint_bytes slope.0 ++ ys) whole ∙ regroup (vint_bytes slope.0) (vint_bytes intercept.0) byte.0 rest,
     ))))))
@@ -65,7 +71,9 @@ params_at-front bytes rest l b e =
     regroup : (xs ys : List ℕ) (z : ℕ) (zs : List ℕ) → xs ++ (ys ++ (z ∷ zs)) ≡ (xs ++ (ys ++ (z ∷ []))) ++ zs
     regroup xs ys z zs = sym (append_assoc xs (ys ++ (z ∷ [])) zs ∙ ap (λ ts. xs ++ ts) (append_assoc ys (z ∷ []) zs))
 
-pub params_at-behind : (bytes rest : List ℕ) (l : LineAndWidth) → IsBytes bytes → params_at bytes ≡ Some (l, rest) → (length rest ≤ length bytes) × (drop (length bytes - length rest) bytes ≡ rest)
+-- what is left behind a line is the end of the bytes
+pub params_at-behind : (bytes rest : List ℕ) (l : LineAndWidth) → IsBytes bytes → params_at bytes ≡ Some (l, rest)
+    → (length rest ≤ length bytes) × (drop (length bytes - length rest) bytes ≡ rest)
 params_at-behind bytes rest l b e =
     let f = params_at-front bytes rest l b e in
     let long : length bytes ≡ length f.0 + length rest = ap length f.1 ∙ length-append f.0 rest in
@@ -74,6 +82,7 @@ params_at-behind bytes rest l b e =
 
 -- ---- the list behind statistics
 
+-- bytes that spell no line stand for no list
 pub list_by-no_line : (s : Stats) (bytes : List ℕ) → params_at bytes ≡ None → list_by 1 s bytes ≡ None
 unfolding list_by
 list_by-no_line s bytes e = rw (linear_values-none s bytes e) refl
@@ -82,29 +91,44 @@ list_by-no_line s bytes e = rw (linear_values-none s bytes e) refl
 abbrev pub is_list : Stats → LineAndWidth → List ℕ → Bool
 is_list s l rest = is_packed rest (s.count * l.offset_width) && same_stats (stats_of (linear_items l rest s.count)) s
 
-pub list_by-line : (s : Stats) (bytes rest : List ℕ) (l : LineAndWidth) → params_at bytes ≡ Some (l, rest) → list_by 1 s bytes ≡ only_if (is_list s l rest) (linear_items l rest s.count)
+pub list_by-line : (s : Stats) (bytes rest : List ℕ) (l : LineAndWidth) → params_at bytes ≡ Some (l, rest)
+    → list_by 1 s bytes ≡ only_if (is_list s l rest) (linear_items l rest s.count)
 unfolding list_by
-list_by-line s bytes rest l e = rw (linear_values-some s bytes l rest e) (both (is_packed rest (s.count * l.offset_width)) (linear_items l rest s.count))
+list_by-line s bytes rest l e =
+    rw (linear_values-some s bytes l rest e)
+    (both (is_packed rest (s.count * l.offset_width)) (linear_items l rest s.count))
   where
-    both : (b : Bool) (xs : List ℕ) → (only_if b xs >>= λ ys. only_if (same_stats (stats_of ys) s) ys) ≡ only_if (b && same_stats (stats_of xs) s) xs
+    both : (b : Bool) (xs : List ℕ)
+        → (only_if b xs >>= λ ys. only_if (same_stats (stats_of ys) s) ys)
+        ≡ only_if (b && same_stats (stats_of xs) s) xs
     both true xs = refl
     both false xs = refl
 
 -- the same by a cut of the bytes
-pub list_by-cut : (s : Stats) (bytes rest read : List ℕ) (l : LineAndWidth) → params_at bytes ≡ Some (l, rest) → read ≡ rest → list_by 1 s bytes ≡ only_if (is_list s l read) (linear_items l read s.count)
-list_by-cut s bytes rest read l e same = list_by-line s bytes rest l e ∙ ap (λ b. only_if (is_list s l b) (linear_items l b s.count)) (sym same)
+pub list_by-cut : (s : Stats) (bytes rest read : List ℕ) (l : LineAndWidth) → params_at bytes ≡ Some (l, rest)
+    → read ≡ rest → list_by 1 s bytes ≡ only_if (is_list s l read) (linear_items l read s.count)
+list_by-cut s bytes rest read l e same =
+    list_by-line s bytes rest l e ∙ ap (λ b. only_if (is_list s l b) (linear_items l b s.count)) (sym same)
 
 -- the list by its two tests
-pub only_if-tests : (s : Stats) (l : LineAndWidth) (bytes : List ℕ) (packed same : Bool) → is_packed bytes (s.count * l.offset_width) ≡ packed → same_stats (stats_of (linear_items l bytes s.count)) s ≡ same → only_if (is_list s l bytes) (linear_items l bytes s.count) ≡ only_if (packed && same) (linear_items l bytes s.count)
+pub only_if-tests : (s : Stats) (l : LineAndWidth) (bytes : List ℕ) (packed same : Bool)
+    → is_packed bytes (s.count * l.offset_width) ≡ packed
+    → same_stats (stats_of (linear_items l bytes s.count)) s ≡ same
+    → only_if (is_list s l bytes) (linear_items l bytes s.count)
+    ≡ only_if (packed && same) (linear_items l bytes s.count)
 only_if-tests s l bytes packed same e f = ap₂ (λ p q. only_if (p && q) (linear_items l bytes s.count)) e f
 
 -- the test of statistics that were found at a width
-pub same_stats-found : (s found : Stats) (l : LineAndWidth) (bytes : List ℕ) (w : ℕ) (b test : Bool) → w ≡ l.offset_width → found ≡ stats_of (linear_items (record l { offset_width = w }) bytes s.count) → test ≡ same_stats found s → test ≡ b → same_stats (stats_of (linear_items l bytes s.count)) s ≡ b
+pub same_stats-found : (s found : Stats) (l : LineAndWidth) (bytes : List ℕ) (w : ℕ) (b test : Bool)
+    → w ≡ l.offset_width → found ≡ stats_of (linear_items (record l { offset_width = w }) bytes s.count)
+    → test ≡ same_stats found s → test ≡ b → same_stats (stats_of (linear_items l bytes s.count)) s ≡ b
 same_stats-found s found l bytes w b test wide stats is t =
-    ap (λ v. same_stats (stats_of (linear_items (record l { offset_width = v }) bytes s.count)) s) (sym wide) ∙ ap (λ f. same_stats f s) (sym stats) ∙ sym is ∙ t
+    ap (λ v. same_stats (stats_of (linear_items (record l { offset_width = v }) bytes s.count)) s) (sym wide)
+    ∙ ap (λ f. same_stats f s) (sym stats) ∙ sym is ∙ t
 
 -- the statistics of a list that passed both tests
-pub exact-stats : (s : Stats) (l : LineAndWidth) (bytes read : List ℕ) (w : ℕ) → read ≡ bytes → w ≡ l.offset_width → is_list s l read ≡ true → s ≡ stats_of (linear_items (record l { offset_width = w }) bytes s.count)
+pub exact-stats : (s : Stats) (l : LineAndWidth) (bytes read : List ℕ) (w : ℕ) → read ≡ bytes → w ≡ l.offset_width
+    → is_list s l read ≡ true → s ≡ stats_of (linear_items (record l { offset_width = w }) bytes s.count)
 exact-stats s l bytes read w same wide tests =
     let both = and_parts (is_packed read (s.count * l.offset_width)) (same_stats (stats_of (linear_items l read s.count)) s) tests in
     sym (ap (λ v. stats_of (linear_items (record l { offset_width = v }) bytes s.count)) wide
@@ -114,16 +138,20 @@ exact-stats s l bytes read w same wide tests =
 -- ---- items
 
 -- a part of the items
-pub linear_items-part : (l : LineAndWidth) (bytes : List ℕ) (n start m : ℕ) → start + m ≤ n → map (linear_item l bytes) (range_with_len start m) ≡ take m (drop start (linear_items l bytes n))
+pub linear_items-part : (l : LineAndWidth) (bytes : List ℕ) (n start m : ℕ) → start + m ≤ n
+    → map (linear_item l bytes) (range_with_len start m) ≡ take m (drop start (linear_items l bytes n))
 linear_items-part l bytes n start m h = range-part (linear_item l bytes) n start m h
 
-pub linear_items-get : (l : LineAndWidth) (bytes : List ℕ) (n i x : ℕ) → i < n → x ≡ linear_item l bytes i → slice_get (linear_items l bytes n) i ≡ Some x
+-- the item at a position below n is the one that the line's bytes have there
+pub linear_items-get : (l : LineAndWidth) (bytes : List ℕ) (n i x : ℕ) → i < n → x ≡ linear_item l bytes i
+    → slice_get (linear_items l bytes n) i ≡ Some x
 linear_items-get l bytes n i x h e =
     let within : i < length (linear_items l bytes n) = rw (length-linear_items l bytes n) h in
     slice_get-get_or (linear_items l bytes n) i 0 within ∙ ap Some (linear_items-at l bytes n i h ∙ sym e)
 
 -- what is written at each place
-pub filled_from : (f : ℕ → ℕ) (start m : ℕ) (xs : List ℕ) → length xs ≡ m → ((k : ℕ) → k < m → get_or xs k 0 ≡ f (start + k)) → xs ≡ map f (range_with_len start m)
+pub filled_from : (f : ℕ → ℕ) (start m : ℕ) (xs : List ℕ) → length xs ≡ m
+    → ((k : ℕ) → k < m → get_or xs k 0 ≡ f (start + k)) → xs ≡ map f (range_with_len start m)
 filled_from f start m xs long each =
     same_lists xs (map f (range_with_len start m)) (long ∙ sym (length-map-range_with_len f start m))
     (λ k d w.

@@ -20,11 +20,13 @@ pub record IsTaken (whole block : List ℕ) (n : ℕ) (left : List ℕ) : Type 0
   pub taken : take n block ≡ take n whole
   pub rest : left ≡ drop n whole
 
+-- before the first item none of the block is taken
 pub IsTaken-none : (whole block : List ℕ) → IsTaken whole block 0 whole
 IsTaken-none whole block = record { room = omega arith; there = omega arith; taken = refl; rest = refl }
 
 -- one item more
-pub IsTaken-push : (whole block left rest : List ℕ) (n x : ℕ) → IsTaken whole block n left → n < length block → left ≡ x ∷ rest → IsTaken whole (slice_set block n x) (n + 1) rest
+pub IsTaken-push : (whole block left rest : List ℕ) (n x : ℕ) → IsTaken whole block n left → n < length block
+    → left ≡ x ∷ rest → IsTaken whole (slice_set block n x) (n + 1) rest
 IsTaken-push whole block left rest n x h room e =
     let front : drop n whole ≡ x ∷ rest = sym h.rest ∙ e in
     let there : n < length whole = omega (arith, length-drop n whole, ap length front) in
@@ -33,7 +35,9 @@ IsTaken-push whole block left rest n x h room e =
     record {
       room = rw (length-set block n x) (omega (arith, room));
       there = omega (arith, there);
-      taken = take_more_set block n x room ∙ ap (λ ys. ys ++ x ∷ []) h.taken ∙ ap (λ y. take n whole ++ y ∷ []) (sym item) ∙ sym (take_more whole n 0 there);
+      taken =
+          take_more_set block n x room ∙ ap (λ ys. ys ++ x ∷ []) h.taken
+          ∙ ap (λ y. take n whole ++ y ∷ []) (sym item) ∙ sym (take_more whole n 0 there);
       rest = sym (tail-same (get_or whole n 0) x (drop (n + 1) whole) rest parts);
     }
 
@@ -42,7 +46,8 @@ pub IsTaken-end : (whole block left : List ℕ) (n : ℕ) → IsTaken whole bloc
 IsTaken-end whole block left n h e = omega (arith, h.room, h.there, length-drop n whole, ap length h.rest, ap length e)
 
 -- the block's end
-pub IsTaken-full : (whole block left : List ℕ) (n : ℕ) → IsTaken whole block n left → length block ≤ n → n ≡ min (length block) (length whole)
+pub IsTaken-full : (whole block left : List ℕ) (n : ℕ) → IsTaken whole block n left → length block ≤ n
+    → n ≡ min (length block) (length whole)
 IsTaken-full whole block left n h full = omega (arith, h.room, h.there)
 
 -- ---- items that are replaced in place
@@ -62,7 +67,8 @@ replaced-set f (x ∷ xs) zero h = refl
 replaced-set f (x ∷ xs) (suc n) h = ap (λ ys. f x ∷ ys) (replaced-set f xs n (omega arith))
 
 -- the next one is as it was
-pub next-as_it_was : (f : ℕ → ℕ) (xs ys : List ℕ) (n : ℕ) → ys ≡ replaced f xs n → n < length ys → (n < length xs) × (get_or ys n 0 ≡ get_or xs n 0)
+pub next-as_it_was : (f : ℕ → ℕ) (xs ys : List ℕ) (n : ℕ) → ys ≡ replaced f xs n → n < length ys
+    → (n < length xs) × (get_or ys n 0 ≡ get_or xs n 0)
 next-as_it_was f xs ys n e h =
     let long : length ys ≡ length xs = ap length e ∙ length-replaced f xs n in
     let within : n < length xs = omega (arith, long) in
@@ -74,27 +80,33 @@ next-as_it_was f xs ys n e h =
     length-replaced f (x ∷ xs) (suc n) = ap suc (length-replaced f xs n)
 
 -- what holds of each item as it was holds of the next one
-pub next-holds : (P : ℕ → Type 0) (f : ℕ → ℕ) (xs ys : List ℕ) (n : ℕ) → ys ≡ replaced f xs n → n < length ys → AllByRecursion P xs → P (get_or ys n 0)
+pub next-holds : (P : ℕ → Type 0) (f : ℕ → ℕ) (xs ys : List ℕ) (n : ℕ) → ys ≡ replaced f xs n → n < length ys
+    → AllByRecursion P xs → P (get_or ys n 0)
 next-holds P f xs ys n e h all =
     let next = next-as_it_was f xs ys n e h in
     subst P (sym next.1) (All-get_or P xs n 0 next.0 (All-from_recursion P xs all))
 
 -- one more is replaced
-pub replaced-push : (f : ℕ → ℕ) (xs ys : List ℕ) (n y : ℕ) → ys ≡ replaced f xs n → n < length ys → y ≡ f (get_or ys n 0) → slice_set ys n y ≡ replaced f xs (n + 1)
+pub replaced-push : (f : ℕ → ℕ) (xs ys : List ℕ) (n y : ℕ) → ys ≡ replaced f xs n → n < length ys
+    → y ≡ f (get_or ys n 0) → slice_set ys n y ≡ replaced f xs (n + 1)
 replaced-push f xs ys n y e h is =
     let next = next-as_it_was f xs ys n e h in
-    ap (slice_set ys n) (is ∙ ap f next.1) ∙ ap (λ zs. slice_set zs n (f (get_or xs n 0))) e ∙ replaced-set f xs n next.0 ∙ ap (replaced f xs) (sym (add-one n))
+    ap (slice_set ys n) (is ∙ ap f next.1) ∙ ap (λ zs. slice_set zs n (f (get_or xs n 0))) e
+    ∙ replaced-set f xs n next.0 ∙ ap (replaced f xs) (sym (add-one n))
 
 -- ---- bytes
 
 -- the low digits don't see what stands above them, and the digits from there on are those of what does
-digits-append : (base k m low high : ℕ) → 0 < base → low < base ^ k → digits base (k + m) (low + high * base ^ k) ≡ digits base k low ++ digits base m high
+digits-append : (base k m low high : ℕ) → 0 < base → low < base ^ k
+    → digits base (k + m) (low + high * base ^ k) ≡ digits base k low ++ digits base m high
 digits-append base zero m low high p h =
     let one : base ^ 0 ≡ 1 = pow-zero base in
     let whole : high * base ^ 0 ≡ high * 1 = ap (λ n. high * n) one in
     ap (λ n. digits base n (low + high * base ^ 0)) (zero-add m) ∙ ap (digits base m) (omega (arith, h, one, whole))
 digits-append base (suc k) m low high p h =
-    let above : high * base ^ suc k ≡ base * (high * base ^ k) = ap (λ n. high * n) (pow-suc base k) ∙ sym (mul_assoc high (base ^ k) base) ∙ mul_comm (high * base ^ k) base in
+    let above : high * base ^ suc k ≡ base * (high * base ^ k) =
+    ap (λ n. high * n) (pow-suc base k) ∙ sym (mul_assoc high (base ^ k) base)
+    ∙ mul_comm (high * base ^ k) base in
     let low_digit : (low + base * (high * base ^ k)) % base ≡ low % base = add-mul-mod_self_left low base (high * base ^ k) in
     let others : (low + base * (high * base ^ k)) / base ≡ low / base + high * base ^ k = add-mul-div_left low (high * base ^ k) p in
     ap (λ n. digits base n (low + high * base ^ suc k)) (suc-add k m)
@@ -104,7 +116,8 @@ digits-append base (suc k) m low high p h =
     ∙ ap (λ ds. low % base ∷ ds) (digits-append base k m (low / base) high p (div_below low base (base ^ k) p (rw (pow-suc base k) at h)))
 
 -- Where the bits of the first items fill whole bytes, the bytes of all are those of the first, and then those of the others.
-pub packed_bytes-append : (w : ℕ) (xs ys : List ℕ) → AreBelow (2 ^ w) xs → length xs % 8 ≡ 0 → packed_bytes w (xs ++ ys) ≡ packed_bytes w xs ++ packed_bytes w ys
+pub packed_bytes-append : (w : ℕ) (xs ys : List ℕ) → AreBelow (2 ^ w) xs → length xs % 8 ≡ 0
+    → packed_bytes w (xs ++ ys) ≡ packed_bytes w xs ++ packed_bytes w ys
 packed_bytes-append w xs ys all e =
     let q = length xs / 8 in
     let k = q * w in

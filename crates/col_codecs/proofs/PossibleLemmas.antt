@@ -14,7 +14,8 @@ use Rattle.col_model.proofs.U64ListLaws.{Describes, stats_of-describes, stats_at
 use Rattle.col_codecs.specs.ColumnStats.{IsPossible}
 
 -- where the test of the four numbers holds
-IsPossible-tested : (least divisor steps count : ℕ) → are_possible least divisor steps count ≡ true → IsPossible (of_parts least divisor steps count)
+IsPossible-tested : (least divisor steps count : ℕ) → are_possible least divisor steps count ≡ true
+    → IsPossible (of_parts least divisor steps count)
 IsPossible-tested least divisor steps count e =
     let some = nat_le 1 divisor in
     let fits = nat_lt (least + divisor * steps) (2 ^ 64) in
@@ -52,7 +53,8 @@ IsPossible-stats_at bytes s rest e =
     option_and_then_some (with_divisor least.0) (vint least.1) (s, rest) e1 (λ divisor _ e2.
     option_and_then_some (with_steps least.0 divisor.0) (vint divisor.1) (s, rest) e2 (λ steps _ e3.
     option_and_then_some (with_count least.0 divisor.0 steps.0) (vint steps.1) (s, rest) e3 (λ count _ e4.
-    let found = cond_some (are_possible least.0 divisor.0 steps.0 count.0) (of_parts least.0 divisor.0 steps.0 count.0, count.1) (s, rest) e4 in
+    let found = cond_some (are_possible least.0 divisor.0 steps.0 count.0)
+    (of_parts least.0 divisor.0 steps.0 count.0, count.1) (s, rest) e4 in
     subst IsPossible (ap (λ p. p.0) found.1) (IsPossible-tested least.0 divisor.0 steps.0 count.0 found.0)))))
 
 -- a number that the greatest item bounds bounds each
@@ -78,19 +80,27 @@ IsPossible-stats_of s xs e h =
     }
 
 -- what they are read back from, whatever follows
-pub stats_at-possible : (s : Stats) (rest : List ℕ) → IsPossible s → s.greatest < 2 ^ 64 → s.divisor < 2 ^ 64 → s.count < 2 ^ 32 → stats_at (stats_bytes s ++ rest) ≡ Some (s, rest)
+pub stats_at-possible : (s : Stats) (rest : List ℕ) → IsPossible s → s.greatest < 2 ^ 64 → s.divisor < 2 ^ 64
+    → s.count < 2 ^ 32 → stats_at (stats_bytes s ++ rest) ≡ Some (s, rest)
 stats_at-possible s rest p fits divisor count =
     let low = p.ordered in
     let some = p.positive in
     let most : steps_of s ≤ s.greatest - s.least = div-le_self (s.greatest - s.least) s.divisor in
     let flat : (nat_le 1 (steps_of s) || (s.divisor == 1)) ≡ true = elim (cases_eq (steps_of s) 0) [
-      | inl e ↦ or_right (nat_le 1 (steps_of s)) (s.divisor == 1) (eq-eqb s.divisor 1 (p.flat (let none : s.divisor * steps_of s ≡ 0 = ap (λ k. s.divisor * k) e ∙ mul-zero s.divisor in omega (arith, none, p.top))))
+      | inl e ↦ or_right (nat_le 1 (steps_of s)) (s.divisor == 1)
+          (eq-eqb s.divisor 1 (p.flat (let none : s.divisor * steps_of s ≡ 0 = ap (λ k. s.divisor * k) e
+          ∙ mul-zero s.divisor in omega (arith, none, p.top))))
       | inr n ↦ or_left _ _ (le-leb 1 (steps_of s) (omega (arith, n)))
     ] in
     let counted : (nat_le 1 s.count || ((s.least == 0) && (steps_of s == 0))) ≡ true = elim (cases_eq s.count 0) [
-      | inl e ↦ let z = p.empty e in or_right (nat_le 1 s.count) _ (and_from _ _ (eq-eqb s.least 0 (omega (arith, z, low))) (eq-eqb (steps_of s) 0 (omega (arith, most, z))))
+      | inl e ↦ let z = p.empty e in
+          or_right (nat_le 1 s.count) _ (and_from _ _ (eq-eqb s.least 0 (omega (arith, z, low)))
+          (eq-eqb (steps_of s) 0 (omega (arith, most, z))))
       | inr n ↦ or_left _ _ (le-leb 1 s.count (omega (arith, n)))
     ] in
     let below : nat_lt (s.least + s.divisor * steps_of s) (2 ^ 64) ≡ true = lt-ltb _ (2 ^ 64) (rw p.top fits) in
-    let test : are_possible s.least s.divisor (steps_of s) s.count ≡ true = and_from _ _ (and_from _ _ (and_from _ _ (and_from _ _ (le-leb 1 s.divisor some) below) (lt-ltb s.count (2 ^ 32) count)) flat) counted in
+    let test : are_possible s.least s.divisor (steps_of s) s.count ≡ true =
+    and_from _ _ (and_from _ _
+    (and_from _ _ (and_from _ _ (le-leb 1 s.divisor some) below) (lt-ltb s.count (2 ^ 32) count)) flat)
+    counted in
     stats_at-stats_bytes s rest (omega (arith, low, fits)) divisor (omega (arith, most, fits)) (omega (arith, count)) test p.top

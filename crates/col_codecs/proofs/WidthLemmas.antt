@@ -11,6 +11,7 @@ binary_digits-bound (suc k) n =
       | inr p ↦ rw (ne_eqb n 0 p) (omega (arith, binary_digits-bound k (n / 2)))
     ]
 
+-- a width is at most 64
 pub width-bound : (n : ℕ) → width n ≤ 64
 width-bound n =
     elim (cases_lt n (2 ^ 56)) [

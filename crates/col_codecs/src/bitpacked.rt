@@ -1,6 +1,5 @@
 //! Lists of u64 under the codec Bitpacked: steps from the least value, at the greatest one's width.
-ghost use Rattle.std.specs.Prelude.{◌≡◌, ℕ, ◌<◌, ◌≤◌, ◌+◌, ◌*◌, ◌^◌, true, map, IfOk};
-ghost use Rattle.std.specs.Int.{is_in_range};
+ghost use Rattle.std.specs.Prelude.{◌≡◌, ℕ, ◌<◌, ◌≤◌, ◌+◌, ◌*◌, ◌^◌, true, drop, length, map, IfOk};
 ghost use Rattle.std.specs.List.{AllByRecursion};
 ghost use Rattle.std.specs.Range.{range_inclusive_start, range_inclusive_end};
 ghost use Rattle.col_common.specs.Ascending.{is_rising};
@@ -18,16 +17,18 @@ ghost use Rattle.col_codecs.specs.Header.{checked, list_by};
 ghost use Rattle.col_codecs.specs.Bitpacked.{bitpacked_items};
 
 use crate::block_bounds::Bounds;
-use crate::bounded_items::{BoundedItems, find_ids, read_bounds};
+use crate::bounded_items::read_bounds;
 use crate::codec::{ColumnCodec, ColumnCodecEstimator};
 use crate::column_stats::ColumnStats;
+use crate::counted_codes::CountedCodes;
 use crate::header::take_stats;
+use crate::packed_items::{PackedItems, find_values};
 use crate::packing::take_steps;
 use crate::step_vals::{find_vals, read_vals};
 use crate::turning::{Turn, serialize_turned};
 use bytes::Bytes;
 use col_bits::{BitUnpacker, compute_num_bits, is_packed};
-use col_common::{BYTE_BITS, ColumnarError, Iterable, RowId, Sink, Steps};
+use col_common::{BYTE_BITS, ColumnarError, Iterable, RowId, Sink, Steps, Walk};
 use col_values::ColumnValues;
 use std::alloc::{AllocError, Global};
 use std::marker::{Brand, Model};
@@ -85,7 +86,7 @@ impl BitpackedReader {
     }
 
     /// The positions in a range whose values are from the first to the last, ascending. Both ends
-    /// become steps of the packed list, each by a step of `steps`, and no value is decoded.
+    /// become steps of the packed list, each by a step of `steps`.
     pub fn get_row_ids_counted<L: Ledger>(
         &self,
         value_range: RangeInclusive<u64>,
@@ -100,13 +101,13 @@ impl BitpackedReader {
         ensures steps { steps.new ≤ steps.old + 2 }
     {
         let (low, high) = value_range.into_inner();
-        let (first, last) = packed_between(&self.stats, low, high, steps).into_inner();
         let ids = row_ids.start..row_ids.end.min(self.stats.num_rows);
         let items = PackedItems {
             bit_unpacker: self.bit_unpacker,
             bytes: self.data.as_slice(),
         };
-        find_ids(&items, &self.bounds, first, last, ids, hits)
+        let codes = CountedCodes::new(self.stats);
+        find_values(&items, &self.bounds, &codes, low, high, ids, hits, steps)
     }
 
     /// The same list once more, which shares its bytes.
@@ -185,27 +186,21 @@ impl ColumnValues<u64> for BitpackedReader {
     }
 }
 
-// The packed numbers of the values from `low` to `high`: a step for each end.
-fn packed_between<L: Ledger>(
-    stats: &ColumnStats,
-    low: u64,
-    high: u64,
-    steps: &mut Steps<L>,
-) -> RangeInclusive<u64>
-    requires { 0 < stats.now.gcd }
-    ensures packed { (k : ℕ) →
-        is_in_range low high (stats.now.min_value + stats.now.gcd * k)
-        ≡ is_in_range (range_inclusive_start result) (range_inclusive_end result) k }
-    ensures steps { steps.new ≡ steps.old + 2 }
-{
-    let ColumnStats { gcd, min_value, .. } = *stats;
-    steps.tick();
-    let first = low.saturating_sub(min_value).div_ceil(gcd);
-    steps.tick();
-    if high < min_value {
-        return 1..=0;
+impl Iterable<u64> for BitpackedReader {
+    ghost items = { λ r. r };
+
+    ghost stands = { λ r w. w.place ≤ length r };
+
+    ghost left = { λ r w. drop w.place r };
+
+    fn walk(&self) -> Walk {
+        self.iter().walk()
     }
-    first..=(high - min_value) / gcd
+
+    #[inline]
+    fn next(&self, at: &mut Walk) -> Option<u64> {
+        self.iter().next(at)
+    }
 }
 
 // The lookup where steps count in a new ledger.
@@ -286,44 +281,6 @@ fn read_step_bounds(
         return Err(ColumnarError::InvalidData);
     }
     Ok(bounds)
-}
-
-// The packed steps of a list.
-#[derive(Clone, Copy)]
-struct PackedItems<'a> {
-    bit_unpacker: BitUnpacker,
-    bytes: &'a [u8],
-}
-
-impl BoundedItems for PackedItems<'_> {
-    ghost use Rattle.std.specs.Prelude.{◌^◌};
-    ghost use Rattle.col_bits.specs.Packed.{item};
-
-    ghost item = { λ p. item p.bytes.now p.bit_unpacker };
-
-    ghost count = { λ _. 2 ^ 32 };
-
-    ghost IsWhole = { λ _. Unit {0} };
-
-    fn read(&self, start: u32, output: &mut [u64]) {
-        self.bit_unpacker.get_range(start, self.bytes, output);
-    }
-
-    fn is_small(&self) -> bool {
-        u32::from(self.bit_unpacker.bit_width()) <= u32::BITS
-    }
-
-    fn push_ids(
-        &self,
-        low: u64,
-        high: u64,
-        ids: Range<u32>,
-        block: &mut [u32],
-        hits: &mut Vec<u32>,
-    ) -> Result<(), AllocError> {
-        self.bit_unpacker
-            .push_ids(low, high, ids, self.bytes, block, hits)
-    }
 }
 
 // Steps are packed in place of values.

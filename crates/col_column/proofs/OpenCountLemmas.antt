@@ -31,14 +31,18 @@ empty-exact rows values m =
 pub full-exact : (rows values : ℕ) → is_some (counts_exactly rows values full_shape) ≡ (rows == values)
 full-exact rows values = is_some-only_if _ _ ∙ ap (λ n. n == values) (sum-replicate rows 1 ∙ omega arith)
 
-pub optional-exact : (rows values : ℕ) (cs : List ℕ) → is_some (counts_exactly rows values (optional_shape cs)) ≡ ((length cs == rows) && (sum cs == values))
+pub optional-exact : (rows values : ℕ) (cs : List ℕ)
+    → is_some (counts_exactly rows values (optional_shape cs)) ≡ ((length cs == rows) && (sum cs == values))
 optional-exact rows values cs = is_some-tests (length cs == rows) _ _
 
-pub multivalued-exact : (rows values : ℕ) (cs : List ℕ) → is_some (counts_exactly rows values (multivalued_shape cs)) ≡ ((length cs == rows) && (sum cs == values))
+pub multivalued-exact : (rows values : ℕ) (cs : List ℕ)
+    → is_some (counts_exactly rows values (multivalued_shape cs)) ≡ ((length cs == rows) && (sum cs == values))
 multivalued-exact rows values cs = is_some-tests (length cs == rows) _ _
 
 -- rows with one value each
-pub set-exact : (rows values : ℕ) (s : RowSet) → AreRows s → is_some (counts_exactly rows values (optional_shape (set_counts s))) ≡ ((s.num_rows == rows) && (length s.rows == values))
+pub set-exact : (rows values : ℕ) (s : RowSet) → AreRows s
+    → is_some (counts_exactly rows values (optional_shape (set_counts s)))
+    ≡ ((s.num_rows == rows) && (length s.rows == values))
 set-exact rows values s a =
     optional-exact rows values (set_counts s)
     ∙ ap (λ n. (n == rows) && (sum (set_counts s) == values)) (length-set_counts s)
@@ -71,11 +75,14 @@ at_its_rows values full_shape e = rw (sum-replicate values 1, eq-eqb (values * 1
 at_its_rows values (optional_shape cs) e = rw (eq-eqb (length cs) (length cs) refl, eq-eqb (sum cs) values e) refl
 at_its_rows values (multivalued_shape cs) e = rw (eq-eqb (length cs) (length cs) refl, eq-eqb (sum cs) values e) refl
 
-pub counts_exactly-exact : (rows values : ℕ) (s : Shape) → IsExact rows values s → counts_exactly rows values s ≡ Some (counts_seen s values)
+pub counts_exactly-exact : (rows values : ℕ) (s : Shape) → IsExact rows values s
+    → counts_exactly rows values s ≡ Some (counts_seen s values)
 counts_exactly-exact rows values s x =
     ap (λ n. counts_exactly n values s) (sym x.rows_are) ∙ at_its_rows values s x.counted
 
-pub counts_exactly-seen : (rows values : ℕ) (s : Shape) → counts_exactly rows values s ≡ only_if (is_some (counts_exactly rows values s)) (counts_seen s values)
+-- where a shape has so many rows and values, the counts are those that are seen of it
+pub counts_exactly-seen : (rows values : ℕ) (s : Shape)
+    → counts_exactly rows values s ≡ only_if (is_some (counts_exactly rows values s)) (counts_seen s values)
 counts_exactly-seen rows values s = at (counts_exactly rows values s) refl
   where
     at : (o : Option Counts) → counts_exactly rows values s ≡ o → o ≡ only_if (is_some o) (counts_seen s values)

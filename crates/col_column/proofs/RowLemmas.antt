@@ -8,7 +8,7 @@ use Rattle.col_model.specs.Index.{Shape, empty_shape, full_shape, optional_shape
 use Rattle.col_model.specs.Positions.{start_of, count_in, positions_in, index_range}
 use Rattle.col_index.specs.Offsets.{positions_if_any}
 use Rattle.col_model.proofs.ListLaws.{sum-cons}
-use Rattle.col_column.specs.Columns.{Seen, row_count, docs_in, IsCounted, rows_by, rows_in, row_at, AreOf}
+use Rattle.col_column.specs.Columns.{Seen, row_count, num_docs_in, IsCounted, rows_by, rows_of_values, row_at, AreOf}
 
 -- how many runs a cut gives
 pub length-cut : {T : Type 0} (cs : List ℕ) (xs : List T) → length (cut cs xs) ≡ length cs
@@ -33,6 +33,7 @@ start-suc [] (suc d) = refl
 start-suc (c ∷ cs) zero = refl
 start-suc (c ∷ cs) (suc d) = omega (arith, sum-cons c (take (suc d) cs), sum-cons c (take d cs), start-suc cs d)
 
+-- a row starts behind the values of the row before it
 pub start-next : (cs : List ℕ) (d : ℕ) → start_of cs (d + 1) ≡ start_of cs d + get_or cs d 0
 start-next cs d = ap (start_of cs) (add-one d) ∙ start-suc cs d
 
@@ -43,11 +44,13 @@ start-up cs a (suc k) =
     let same : a + suc k ≡ a + k + 1 = omega arith in
     omega (arith, ap (start_of cs) same, start-next cs (a + k), start-up cs a k)
 
+-- a later row starts no earlier
 pub start-monotone : (cs : List ℕ) (a b : ℕ) → a ≤ b → start_of cs a ≤ start_of cs b
 start-monotone cs a b le =
     let same : a + (b - a) ≡ b = omega arith in
     omega (arith, ap (start_of cs) same, start-up cs a (b - a))
 
+-- each row starts within the values
 pub start-within : (cs : List ℕ) (a : ℕ) → start_of cs a ≤ sum cs
 start-within cs a = sum_by-take-le (λ c. c) cs a
 
@@ -62,6 +65,7 @@ abbrev pub one : {T : Type 0} → Option T → List T
 one None = []
 one (Some x) = x ∷ []
 
+-- where each row has one value, that of a row is the one at its place
 pub single : {T : Type 0} (xs : List T) (d : ℕ) → row_at (cut (replicate (length xs) 1) xs) d ≡ one (slice_get xs d)
 unfolding cut
 single [] d = refl
@@ -84,21 +88,25 @@ nothing zero d = refl
 nothing (suc m) zero = refl
 nothing (suc m) (suc d) = nothing m d
 
+-- rows without values are empty
 pub row-empty : {T : Type 0} (m : ℕ) (xs : List T) (d : ℕ) → row_at (cut (replicate m 0) xs) d ≡ []
 row-empty m xs d = row_at-cut (replicate m 0) xs d ∙ ap (λ n. take n (drop (start_of (replicate m 0) d) xs)) (nothing m d)
 
 -- ---- the positions of a row's values
 
-counted-row : {T : Type 0} (cs : List ℕ) (xs : List T) (d : ℕ) → sum cs ≡ length xs → d < length cs → AreOf xs (index_range cs d) (row_at (cut cs xs) d)
-counted-row cs xs d all inside = subst (λ b. AreOf xs (if b then (start_of cs d, start_of cs (d + 1)) else (0, 0)) (row_at (cut cs xs) d)) (sym (lt-ltb d (length cs) inside)) (record {
-  order = omega (arith, start-next cs d);
-  within = omega (arith, start-within cs (d + 1));
-  values =
-      let size : start_of cs (d + 1) - start_of cs d ≡ get_or cs d 0 = omega (arith, start-next cs d) in
-      ap (λ n. take n (drop (start_of cs d) xs)) size ∙ sym (row_at-cut cs xs d);
-})
+counted-row : {T : Type 0} (cs : List ℕ) (xs : List T) (d : ℕ) → sum cs ≡ length xs → d < length cs
+    → AreOf xs (index_range cs d) (row_at (cut cs xs) d)
+counted-row cs xs d all inside = subst (λ b. AreOf xs (if b then (start_of cs d, start_of cs (d + 1)) else (0, 0))
+    (row_at (cut cs xs) d)) (sym (lt-ltb d (length cs) inside)) (record {
+      order = omega (arith, start-next cs d);
+      within = omega (arith, start-within cs (d + 1));
+      values =
+          let size : start_of cs (d + 1) - start_of cs d ≡ get_or cs d 0 = omega (arith, start-next cs d) in
+          ap (λ n. take n (drop (start_of cs d) xs)) size ∙ sym (row_at-cut cs xs d);
+    })
 
-row_values : {T : Type 0} (s : Shape) (xs : List T) (d : ℕ) → IsCounted s (length xs) → d < row_count s (length xs) → AreOf xs (positions_in s d) (row_at (rows_by s xs) d)
+row_values : {T : Type 0} (s : Shape) (xs : List T) (d : ℕ) → IsCounted s (length xs) → d < row_count s (length xs)
+    → AreOf xs (positions_in s d) (row_at (rows_by s xs) d)
 unfolding rows_by
 row_values (empty_shape m) xs d none inside = record {
   order = omega arith;
@@ -122,7 +130,8 @@ row-none (optional_shape cs) xs d none = row_at-cut cs xs d ∙ ap (λ n. take n
 row-none (multivalued_shape cs) xs d none = row_at-cut cs xs d ∙ ap (λ n. take n (drop (start_of cs d) xs)) none
 
 -- the same from 0 to 0 where there are none
-pub row_values-if_any : {T : Type 0} (s : Shape) (xs : List T) (d : ℕ) → IsCounted s (length xs) → d < row_count s (length xs) → AreOf xs (positions_if_any s d) (row_at (rows_by s xs) d)
+pub row_values-if_any : {T : Type 0} (s : Shape) (xs : List T) (d : ℕ) → IsCounted s (length xs)
+    → d < row_count s (length xs) → AreOf xs (positions_if_any s d) (row_at (rows_by s xs) d)
 row_values-if_any s xs d counted inside = go (count_in s d == 0) refl
   where
     go : (b : Bool) → (count_in s d == 0) ≡ b → AreOf xs (cond b (0, 0) (positions_in s d)) (row_at (rows_by s xs) d)
@@ -134,7 +143,10 @@ row_values-if_any s xs d counted inside = go (count_in s d == 0) refl
     go false e = row_values s xs d counted inside
 
 -- the same of a column
-pub column_row : {V T : Type 0} (list : V → List T) (c : Seen V) (s : Shape) (v : V) (d start end : ℕ) → record { shape = s; values = v } ≡ c → IsCounted s (length (list v)) → d < docs_in list c → start ≡ (positions_if_any s d).0 → end ≡ (positions_if_any s d).1 → AreOf (list c.values) (start, end) (row_at (rows_in list c) d)
+pub column_row : {V T : Type 0} (list : V → List T) (c : Seen V) (s : Shape) (v : V) (d start end : ℕ)
+    → record { shape = s; values = v } ≡ c → IsCounted s (length (list v)) → d < num_docs_in list c
+    → start ≡ (positions_if_any s d).0 → end ≡ (positions_if_any s d).1
+    → AreOf (list c.values) (start, end) (row_at (rows_of_values list c) d)
 column_row list c s v d start end is counted inside first last =
-    subst (λ c. d < docs_in list c → AreOf (list c.values) (start, end) (row_at (rows_in list c) d)) is
+    subst (λ c. d < num_docs_in list c → AreOf (list c.values) (start, end) (row_at (rows_of_values list c) d)) is
     (λ within. rw (first, last) (row_values-if_any s (list v) d counted within)) inside

@@ -10,6 +10,7 @@ use Rattle.col_model.specs.Column.{number_rows, stored_numbers, is_stored}
 use Rattle.col_model.specs.ColumnType.{ColumnType}
 use Rattle.col_model.specs.Index.{Shape, empty_shape, full_shape, optional_shape, multivalued_shape, shape, counts, counts_over}
 use Rattle.col_model.specs.Spelling.{column_bytes}
+use Rattle.col_model.specs.Version.{current_version}
 use Rattle.col_model.proofs.FileLaws.{number_rows-column_bytes}
 use Rattle.col_column.specs.Columns.{row_count, counts_by, IsCounted, rows_by, counts_seen}
 use Rattle.col_column.specs.Opened.{counted_rows}
@@ -24,10 +25,12 @@ counts_over-seen full_shape n = refl
 counts_over-seen (optional_shape cs) n = rw (eq-eqb (length cs) (length cs) refl) refl
 counts_over-seen (multivalued_shape cs) n = rw (eq-eqb (length cs) (length cs) refl) refl
 
-counts-read : (index : List ℕ) (s : Shape) (n : ℕ) → shape index 2 ≡ Some s → counts index 2 (row_count s n) ≡ Some (counts_seen s n)
+counts-read : (index : List ℕ) (s : Shape) (n : ℕ) → shape index current_version ≡ Some s
+    → counts index current_version (row_count s n) ≡ Some (counts_seen s n)
 unfolding counts
 counts-read index s n e = rw e (counts_over-seen s n)
 
+-- the counts of the rows sum up to the values that the shape counts
 pub sum-counts_by : (s : Shape) (n : ℕ) → IsCounted s n → sum (counts_by s n) ≡ n
 sum-counts_by (empty_shape m) n h = sum_by-replicate (λ x. x) m 0 ∙ omega arith
 sum-counts_by full_shape n h = sum_by-replicate (λ x. x) n 1 ∙ omega arith
@@ -35,17 +38,30 @@ sum-counts_by (optional_shape cs) n h = h
 sum-counts_by (multivalued_shape cs) n h = h
 
 -- the rows are read from an index and values
-pub rows-read : (index values xs : List ℕ) (t : ColumnType) (s : Shape) → length index < 2 ^ 64 → shape index 2 ≡ Some s → IsCounted s (length xs) → stored_numbers t values ≡ Some xs → list_all (is_stored t) xs ≡ true → number_rows (column_bytes index values) t 2 (row_count s (length xs)) ≡ Some (counted_rows s xs)
+pub rows-read : (index values xs : List ℕ) (t : ColumnType) (s : Shape) → length index < 2 ^ 64
+    → shape index current_version ≡ Some s → IsCounted s (length xs) → stored_numbers t values ≡ Some xs
+    → list_all (is_stored t) xs ≡ true
+    → number_rows (column_bytes index values) t current_version (row_count s (length xs)) ≡ Some (counted_rows s xs)
 unfolding rows_by
-rows-read index values xs t s short is counted read all = number_rows-column_bytes index values t 2 (row_count s (length xs)) (counts_seen s (length xs)) xs short (counts-read index s (length xs) is) read (sum-counts_by s (length xs) counted) all
+rows-read index values xs t s short is counted read all =
+    number_rows-column_bytes index values t current_version (row_count s (length xs)) (counts_seen s (length xs)) xs short
+    (counts-read index s (length xs) is) read (sum-counts_by s (length xs) counted) all
 
 -- the same of numbers of 64 bits
-pub number_rows-read : (i : Index) (codecs xs : List ℕ) → length (index_bytes i) < 2 ^ 64 → shape (index_bytes i) 2 ≡ Some (index_shape i) → IsCounted (index_shape i) (length xs) → length xs < 2 ^ 32 → slice_get codecs 0 ≡ Some 0 → AreBelow (2 ^ 64) xs → StandForRows (number_column_bytes codecs i xs) (index_shape i) xs
+pub number_rows-read : (i : Index) (codecs xs : List ℕ) → length (index_bytes i) < 2 ^ 64
+    → shape (index_bytes i) current_version ≡ Some (index_shape i) → IsCounted (index_shape i) (length xs) → length xs < 2 ^ 32
+    → slice_get codecs 0 ≡ Some 0 → AreBelow (2 ^ 64) xs
+    → StandForRows (number_column_bytes codecs i xs) (index_shape i) xs
 unfolding number_column_bytes
-number_rows-read i codecs xs short is counted few first fit t stores = rows-read (index_bytes i) (numbers_bytes codecs xs) xs t (index_shape i) short is counted (stores.list (numbers_bytes codecs xs) ∙ numbers-read codecs xs first fit few) stores.images
+number_rows-read i codecs xs short is counted few first fit t stores =
+    rows-read (index_bytes i) (numbers_bytes codecs xs) xs t (index_shape i) short is counted
+    (stores.list (numbers_bytes codecs xs) ∙ numbers-read codecs xs first fit few) stores.images
 
 -- the same after Ok, where what is known is known of n values
-pub number_rows-again : (result : Result (Unit {0}) ColumnarError) (i : Index) (codecs xs : List ℕ) (n len : ℕ) → len ≡ length (index_bytes i) → len < 2 ^ 64 → shape (index_bytes i) 2 ≡ Some (index_shape i) → IsCounted (index_shape i) n → length xs ≡ n → n < 2 ^ 32 → slice_get codecs 0 ≡ Some 0 → OnOk result (AreBelow (2 ^ 64) xs)
+pub number_rows-again : (result : Result (Unit {0}) ColumnarError) (i : Index) (codecs xs : List ℕ) (n len : ℕ)
+    → len ≡ length (index_bytes i) → len < 2 ^ 64 → shape (index_bytes i) current_version ≡ Some (index_shape i)
+    → IsCounted (index_shape i) n → length xs ≡ n → n < 2 ^ 32 → slice_get codecs 0 ≡ Some 0
+    → OnOk result (AreBelow (2 ^ 64) xs)
     → OnOk result (StandForRows (number_column_bytes codecs i xs) (index_shape i) xs)
 number_rows-again (Ok done) i codecs xs n len e short is counted long few first fit =
     let below : length (index_bytes i) < 2 ^ 64 = omega arith in

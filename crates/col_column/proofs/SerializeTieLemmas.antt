@@ -11,6 +11,7 @@ use Rattle.col_model.specs.ColumnType as types
 use Rattle.col_model.specs.Dictionary.{cut}
 use Rattle.col_model.specs.Index.{full_shape, shape}
 use Rattle.col_model.specs.Table.{number}
+use Rattle.col_model.specs.Version.{current_version}
 use Rattle.col_model.specs.Written.{is_past_ties}
 use Rattle.col_values.specs.Codes.{i64_code, is_i64}
 use Rattle.col_model.proofs.CodeLaws.{i64_laws}
@@ -46,9 +47,13 @@ int_range_len-more start n =
     let e : (start +ℤ pos n) -ℤ start ≡ pos n = omega (arith, ints) in
     ap above_zero e
 
-pub ties-few : (start low high : ℤ) (n : ℕ) → low ≡ start → high ≡ start +ℤ pos n → n < 2 ^ 32 → length (int_range low (int_range_len low high)) < 2 ^ 32
+-- numbers that rise by 1 up to fewer than 2 ^ 32 further are fewer than 2 ^ 32
+pub ties-few : (start low high : ℤ) (n : ℕ) → low ≡ start → high ≡ start +ℤ pos n → n < 2 ^ 32
+    → length (int_range low (int_range_len low high)) < 2 ^ 32
 ties-few start low high n e f few =
-    let long : length (int_range low (int_range_len low high)) ≡ n = ap₂ (λ a b. length (int_range a (int_range_len a b))) e f ∙ length-int_range start (int_range_len start (start +ℤ pos n)) ∙ int_range_len-more start n in
+    let long : length (int_range low (int_range_len low high)) ≡ n =
+    ap₂ (λ a b. length (int_range a (int_range_len a b))) e f
+    ∙ length-int_range start (int_range_len start (start +ℤ pos n)) ∙ int_range_len-more start n in
     omega arith
 
 -- they are signed numbers of 32 bits
@@ -56,6 +61,7 @@ pub record IsWithin (start : ℤ) (n : ℕ) : Type 0 where
   pub low : negsuc (2 ^ 31 - 1) ≤ℤ start
   pub high : (start +ℤ pos n) ≤ℤ pos (2 ^ 31 - 1)
 
+-- numbers that rise from a start that isn't too far are signed numbers of 32 bits
 pub ties-within : (start : ℤ) (n : ℕ) → is_past_ties n (Some start) ≡ false → IsWithin start n
 ties-within start n e = record { low = grind (arith, ints, nat_tests); high = grind (arith, ints, nat_tests) }
 
@@ -68,22 +74,31 @@ all_stored [] = refl
 all_stored (x ∷ xs) = all_stored xs
 
 -- the numbers are those that the codes stand for, one in each row
-single-rows : (start : ℤ) (n : ℕ) → Fits start n → map (map (number_cell types.i64)) (rows_by full_shape (map i64_code (int_range start n))) ≡ map (map (λ z. number z)) (rows_by full_shape (int_range start n))
+single-rows : (start : ℤ) (n : ℕ) → Fits start n
+    → map (map (number_cell types.i64)) (rows_by full_shape (map i64_code (int_range start n)))
+    ≡ map (map (λ z. number z)) (rows_by full_shape (int_range start n))
 unfolding rows_by cut
 single-rows start zero h = refl
-single-rows start (suc n) h = ap₂ (λ z r. (number z ∷ []) ∷ r) (i64_laws.undoes start (first-fits start n h)) (single-rows (start +ℤ pos 1) n (later-fit start n h))
+single-rows start (suc n) h =
+    ap₂ (λ z r. (number z ∷ []) ∷ r) (i64_laws.undoes start (first-fits start n h))
+    (single-rows (start +ℤ pos 1) n (later-fit start n h))
 
-tie-rows : (start : ℤ) (n : ℕ) → n < 2 ^ 32 → Fits start n → number_rows (tie_column_bytes start n) types.i64 2 n ≡ Some (counted_rows full_shape (map i64_code (int_range start n)))
+tie-rows : (start : ℤ) (n : ℕ) → n < 2 ^ 32 → Fits start n
+    → number_rows (tie_column_bytes start n) types.i64 current_version n
+    ≡ Some (counted_rows full_shape (map i64_code (int_range start n)))
 unfolding shape index_bytes
 tie-rows start n few h =
     let xs = map i64_code (int_range start n) in
     let long : length xs ≡ n = length-map (int_range start n) i64_code ∙ length-int_range start n in
     let small : length xs < 2 ^ 32 = omega arith in
-    let read = number_rows-read full_index (0 ∷ 1 ∷ 2 ∷ []) xs (lit< tt) refl tt small refl (codes-fit start n h) types.i64 record { list = λ bytes. refl; images = all_stored xs } in
-    subst (λ m. number_rows (tie_column_bytes start n) types.i64 2 m ≡ Some (counted_rows full_shape xs)) long read
+    let read = number_rows-read full_index (0 ∷ 1 ∷ 2 ∷ []) xs (lit< tt) refl tt small refl (codes-fit start n h)
+    types.i64 record { list = λ bytes. refl; images = all_stored xs } in
+    subst (λ m. number_rows (tie_column_bytes start n) types.i64 current_version m ≡ Some (counted_rows full_shape xs)) long read
 
 -- the column that is written stands for them
-pub tie-read : (start : ℤ) (n : ℕ) → n < 2 ^ 32 → is_past_ties n (Some start) ≡ false → column (tie_column_bytes start n) types.i64 2 n ≡ Some (content_seen [] (λ z. number z) full_shape (int_range start n))
+pub tie-read : (start : ℤ) (n : ℕ) → n < 2 ^ 32 → is_past_ties n (Some start) ≡ false
+    → column (tie_column_bytes start n) types.i64 current_version n
+    ≡ Some (content_seen [] (λ z. number z) full_shape (int_range start n))
 unfolding column
 tie-read start n few e =
     let h = ties-fit start n e in

@@ -66,8 +66,8 @@ content_seen terms cell s xs = record {
 }
 
 -- the rows of a column, and how many there are, by what its values are as a list
-abbrev pub rows_in : {V T : Type 0} → (V → List T) → Seen V → List (List T)
-rows_in list c = rows_by c.shape (list c.values)
+abbrev pub rows_of_values : {V T : Type 0} → (V → List T) → Seen V → List (List T)
+rows_of_values list c = rows_by c.shape (list c.values)
 
-abbrev pub docs_in : {V T : Type 0} → (V → List T) → Seen V → ℕ
-docs_in list c = row_count c.shape (length (list c.values))
+abbrev pub num_docs_in : {V T : Type 0} → (V → List T) → Seen V → ℕ
+num_docs_in list c = row_count c.shape (length (list c.values))

@@ -15,13 +15,13 @@ abbrev pub counted_rows : {T : Type 0} → Shape → List T → Counts × List (
 counted_rows s xs = (counts_seen s (length xs), rows_by s xs)
 
 -- the shape with values, of which there are so many, where it has so many rows and counts them
-abbrev pub seen_by : {V : Type 0} → ℕ → ℕ → V → Shape → Option (Seen V)
-seen_by rows count values s =
+abbrev pub column_seen_by : {V : Type 0} → ℕ → ℕ → V → Shape → Option (Seen V)
+column_seen_by rows count values s =
     only_if (is_some (counts_exactly rows count s)) (record { shape = s; values = values })
 
 -- the shape that the bytes of an index stand for, with such values
 abbrev pub indexed_by : {V : Type 0} → List ℕ → ℕ → ℕ → ℕ → V → Option (Seen V)
-indexed_by bytes version rows count values = shape bytes version >>= seen_by rows count values
+indexed_by bytes version rows count values = shape bytes version >>= column_seen_by rows count values
 
 -- the codes, with their ranges, that the bytes of a column of addresses spell behind its index
 abbrev pub codes_behind : List ℕ → Option Coded

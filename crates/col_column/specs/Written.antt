@@ -13,6 +13,7 @@ use Rattle.col_model.specs.ColumnType.{ColumnType}
 use Rattle.col_model.specs.Index.{Shape}
 use Rattle.col_model.specs.Spelling.{column_bytes}
 use Rattle.col_model.specs.U64List.{values64}
+use Rattle.col_model.specs.Version.{current_version}
 use Rattle.col_values.specs.Codes.{i64_code}
 use Rattle.col_indexer.specs.Spelling.{Index, full_index, index_bytes}
 use Rattle.col_column.specs.Columns.{row_count}
@@ -38,7 +39,7 @@ pub record Stores64 (t : ColumnType) (xs : List ℕ) : Type 0 where
 -- bytes stand for these rows, in a column of any type that may store the numbers
 abbrev pub StandForRows : List ℕ → Shape → List ℕ → Type 0
 StandForRows bytes s xs = (t : ColumnType) → Stores64 t xs →
-    number_rows bytes t 2 (row_count s (length xs)) ≡ Some (counted_rows s xs)
+    number_rows bytes t current_version (row_count s (length xs)) ≡ Some (counted_rows s xs)
 
 -- Ok added bytes that stand for numbers of 128 bits, and others behind them; a refusal has a cause.
 pub record SerializesBehind (old new : SeenSink) (result : Result (Unit {0}) ColumnarError)
@@ -52,7 +53,7 @@ pub record SerializesRows (old new : SeenSink) (result : Result (Unit {0}) Colum
     (t : ColumnType) (s : Shape) (xs : List ℕ) : Type 0 where
   pub bytes : List ℕ
   pub again : OnOk result
-      (number_rows bytes t 2 (row_count s (length xs)) ≡ Some (counted_rows s xs))
+      (number_rows bytes t current_version (row_count s (length xs)) ≡ Some (counted_rows s xs))
   pub written : Serializes old new result bytes
 
 -- the answer is this refusal, or want of memory, or a fault of the sink; what the sink held stays

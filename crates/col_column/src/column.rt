@@ -1,16 +1,17 @@
 //! Columns: an index with values.
-ghost use Rattle.std.specs.Prelude.{◌≡◌, ◌<◌, ◌≤◌, true, length, map, slice_range};
+ghost use Rattle.std.specs.Prelude.{◌≡◌, ◌<◌, ◌≤◌, true, length, map, slice_range, IfErr};
 ghost use Rattle.std.specs.List.{All};
 ghost use Rattle.std.specs.Range.{range_inclusive_start, range_inclusive_end};
 ghost use Rattle.col_common.specs.Ascending.{AreBelow, is_rising};
 ghost use Rattle.col_common.specs.Replacing.{Replaces};
+ghost use Rattle.col_common.specs.declared.error.ColumnarError.TheVariants as refusals;
 ghost use Rattle.col_index.specs.Appending.{AppendsBoth};
 ghost use Rattle.col_index.specs.Indexes.{shape_of};
-ghost use Rattle.col_index.specs.Offsets.{cardinality_in, positions_of_rows, docs_of, positions_of};
+ghost use Rattle.col_index.specs.Offsets.{cardinality_in, positions_of_rows, found_rows, positions_of};
 ghost use Rattle.col_index.specs.Versions.{cardinality_of};
 ghost use Rattle.col_model.specs.Index.{empty_shape};
 ghost use Rattle.col_values.specs.Values.{IsAtMost, is_between};
-ghost use Rattle.col_column.specs.Columns.{IsCounted, AreOf, rows_by, rows_in, docs_in, row_at, first_at, firsts_or};
+ghost use Rattle.col_column.specs.Columns.{IsCounted, AreOf, rows_by, rows_of_values, num_docs_in, row_at, first_at, firsts_or};
 ghost use Rattle.col_column.specs.Lookups.{docs_passing};
 
 use crate::doc_values::DocValues;
@@ -22,7 +23,6 @@ use col_values::{
     ColumnValues, EmptyColumnValues, MonotonicColumn, MonotonicallyMappableToU64,
     StrictlyMonotonicMappingToInternal, monotonic_map_column,
 };
-use std::alloc::AllocError;
 use std::marker::{Model, PhantomData};
 use std::ops::{Range, RangeInclusive};
 
@@ -114,7 +114,7 @@ where
 
     /// How many documents there are.
     pub fn num_docs(&self) -> RowId
-        ensures { result ≡ docs_in V.values self.now }
+        ensures { result ≡ num_docs_in V.values self.now }
     {
         match &self.index {
             ColumnIndex::Empty { num_docs } => *num_docs,
@@ -143,8 +143,8 @@ where
     /// The first value of a document.
     #[inline]
     pub fn first(&self, doc_id: DocId) -> Option<T>
-        requires { doc_id < docs_in V.values self.now }
-        ensures { result ≡ first_at (rows_in V.values self.now) doc_id }
+        requires { doc_id < num_docs_in V.values self.now }
+        ensures { result ≡ first_at (rows_of_values V.values self.now) doc_id }
     {
         let rows = self.value_row_ids(doc_id);
         if rows.start == rows.end {
@@ -156,9 +156,9 @@ where
     /// The first value of each document, None of one without.
     #[inline]
     pub fn first_vals(&self, doc_ids: &[DocId], output: &mut [Option<T>])
-        requires below { AreBelow (docs_in V.values self.now) doc_ids.now }
+        requires below { AreBelow (num_docs_in V.values self.now) doc_ids.now }
         requires alike { length doc_ids.now ≡ length output.old }
-        ensures { output.new ≡ map (first_at (rows_in V.values self.now)) doc_ids.now }
+        ensures { output.new ≡ map (first_at (rows_of_values V.values self.now)) doc_ids.now }
     {
         match &self.index {
             ColumnIndex::Full => self.values.get_vals_opt(doc_ids, output),
@@ -168,9 +168,9 @@ where
 
     // The same, row by row.
     fn first_vals_by_rows(&self, doc_ids: &[DocId], output: &mut [Option<T>])
-        requires below { AreBelow (docs_in V.values self.now) doc_ids.now }
+        requires below { AreBelow (num_docs_in V.values self.now) doc_ids.now }
         requires alike { length doc_ids.now ≡ length output.old }
-        ensures { output.new ≡ map (first_at (rows_in V.values self.now)) doc_ids.now }
+        ensures { output.new ≡ map (first_at (rows_of_values V.values self.now)) doc_ids.now }
     {
         for at in 0..doc_ids.len() {
             output[at] = self.first(doc_ids[at]);
@@ -185,11 +185,12 @@ where
         doc_ids: &[DocId],
         doc_ids_out: &mut Vec<DocId>,
         row_ids: &mut Vec<RowId>,
-    ) -> Result<(), AllocError>
-        ensures { AppendsBoth doc_ids_out.old.items doc_ids_out.new.items
+    ) -> Result<(), ColumnarError>
+        ensures ok { AppendsBoth doc_ids_out.old.items doc_ids_out.new.items
             row_ids.old.items row_ids.new.items result
-            (docs_of (positions_of_rows self.now.shape doc_ids.now))
+            (found_rows (positions_of_rows self.now.shape doc_ids.now))
             (positions_of (positions_of_rows self.now.shape doc_ids.now)) }
+        ensures err { IfErr result (λ e. e ≡ refusals.OutOfMemory) }
     {
         self.index.docids_to_rowids(doc_ids, doc_ids_out, row_ids)
     }
@@ -197,8 +198,8 @@ where
     /// The values of a document, in order.
     #[inline]
     pub fn values_for_doc(&self, doc_id: DocId) -> DocValues<'_, T, V>
-        requires { doc_id < docs_in V.values self.now }
-        ensures { result ≡ row_at (rows_in V.values self.now) doc_id }
+        requires { doc_id < num_docs_in V.values self.now }
+        ensures { result ≡ row_at (rows_of_values V.values self.now) doc_id }
     {
         DocValues::between(&self.values, self.value_row_ids(doc_id))
     }
@@ -206,9 +207,9 @@ where
     // The positions of a document's values.
     #[inline]
     fn value_row_ids(&self, doc_id: DocId) -> Range<RowId>
-        requires { doc_id < docs_in V.values self.now }
+        requires { doc_id < num_docs_in V.values self.now }
         ensures { AreOf (V.values self.now.values) (result.start, result.end)
-            (row_at (rows_in V.values self.now) doc_id) }
+            (row_at (rows_of_values V.values self.now) doc_id) }
     {
         // That there are fewer than 2 ^ 32 values is known of the count.
         let _count = self.values.num_vals();
@@ -225,7 +226,7 @@ where
     ) -> Result<(), ColumnarError>
         ensures ok { Replaces result doc_ids.new.items
             (docs_passing (is_between T.partial_cmp (range_inclusive_start value_range)
-            (range_inclusive_end value_range)) (rows_in V.values self.now)
+            (range_inclusive_end value_range)) (rows_of_values V.values self.now)
             selected_docid_range.start selected_docid_range.end) }
         ensures rises { is_rising doc_ids.new.items ≡ true }
     {
@@ -272,7 +273,7 @@ where
 {
     /// The first value of each document, or a default: a list whose bounds include the default.
     pub fn first_or_default_col(self, default_value: T) -> FirstValueWithDefault<T, V>
-        ensures values { result.values ≡ firsts_or default_value (rows_in V.values self) }
+        ensures values { result.values ≡ firsts_or default_value (rows_of_values V.values self) }
         ensures low { IsAtMost T.partial_cmp result.low default_value }
         ensures high { IsAtMost T.partial_cmp default_value result.high }
     {
@@ -308,7 +309,7 @@ where
         ensures exact { AreExact number_cmp (λ n. n ≡ 0)
             result.values.values result.values.low result.values.high }
     {
-        self.values.tell();
+        self.values.values_are_in_type();
         let map = StrictlyMonotonicMappingToInternal::new();
         Column::new(self.index, monotonic_map_column(self.values, map))
     }

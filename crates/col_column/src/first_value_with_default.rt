@@ -1,6 +1,6 @@
 //! The first value of each document, or a default.
 ghost use Rattle.std.specs.Prelude.{◌≡◌, ◌≤◌, length, drop};
-ghost use Rattle.col_column.specs.Columns.{rows_in, firsts_or};
+ghost use Rattle.col_column.specs.Columns.{rows_of_values, firsts_or};
 ghost use Rattle.col_values.specs.Values.{IsAtMost};
 
 use crate::column::Column;
@@ -28,20 +28,20 @@ where
     V: ColumnValues<T>,
 {
     ghost use Rattle.std.specs.Prelude.{length};
-    ghost use Rattle.col_column.specs.Columns.{rows_in, firsts_or};
+    ghost use Rattle.col_column.specs.Columns.{rows_of_values, firsts_or};
     ghost use Rattle.col_values.specs.Values.{Bounded, Encloses};
 
     ghost Value = { Bounded T };
 
     ghost view = { λ s.
         record {
-          values = firsts_or s.default_value (rows_in V.values s.column);
+          values = firsts_or s.default_value (rows_of_values V.values s.column);
           low = s.min_value;
           high = s.max_value;
         } };
 
     ghost invariant = { λ s. Encloses T.partial_cmp s.min_value s.max_value
-        (firsts_or s.default_value (rows_in V.values s.column)) };
+        (firsts_or s.default_value (rows_of_values V.values s.column)) };
 }
 
 impl<T, V> FirstValueWithDefault<T, V>
@@ -51,7 +51,7 @@ where
 {
     // The first values of a column, or a default.
     pub(crate) fn new(column: Column<T, V>, default_value: T) -> FirstValueWithDefault<T, V>
-        ensures values { result.values ≡ firsts_or default_value (rows_in V.values column) }
+        ensures values { result.values ≡ firsts_or default_value (rows_of_values V.values column) }
         ensures low { IsAtMost T.partial_cmp result.low default_value }
         ensures high { IsAtMost T.partial_cmp default_value result.high }
     {

@@ -1,6 +1,6 @@
 //! Laws about columns, each the contract of a public call.
 ghost use Rattle.std.specs.Prelude.{◌≡◌, ◌<◌, length};
-ghost use Rattle.col_column.specs.Columns.{rows_in, row_at, docs_in};
+ghost use Rattle.col_column.specs.Columns.{rows_of_values, row_at, num_docs_in};
 ghost use Rattle.col_column.specs.Laws.{LookupsAreThoseOfCells};
 
 use crate::column::Column;
@@ -13,8 +13,8 @@ pub fn count_doc_values<T, V>(column: &Column<T, V>, doc: DocId) -> u64
 where
     T: PartialOrd + Copy,
     V: ColumnValues<T>,
-    requires { doc < docs_in V.values column.now }
-    ensures { result ≡ length (row_at (rows_in V.values column.now) doc) }
+    requires { doc < num_docs_in V.values column.now }
+    ensures { result ≡ length (row_at (rows_of_values V.values column.now) doc) }
 {
     let mut count = 0;
     for _value in column.values_for_doc(doc) {

@@ -11,6 +11,7 @@ ghost use Rattle.col_model.specs.ColumnType as types;
 ghost use Rattle.col_model.specs.Column.{column};
 ghost use Rattle.col_model.specs.Index.{full_shape};
 ghost use Rattle.col_model.specs.Table.{number};
+ghost use Rattle.col_model.specs.Version.{current_version};
 ghost use Rattle.col_model.specs.Written.{is_past_ties};
 ghost use Rattle.col_numbers.specs.CodecTypes.{code_of};
 ghost use Rattle.col_indexer.specs.Spelling.{IsIndex, index_shape, is_past_limit};
@@ -174,7 +175,7 @@ pub fn serialize_generated_tie_breaker_column<K: Sink>(
         Serializes (K.seen sink.old) (K.seen sink.new) result (tie_column_bytes start num_docs) }
     // What was written stands for the rows.
     ensures again { is_past_ties num_docs (Some start) ≡ false →
-        column (tie_column_bytes start num_docs) types.i64 2 num_docs
+        column (tie_column_bytes start num_docs) types.i64 current_version num_docs
         ≡ Some (content_seen [] number full_shape (int_range start num_docs)) }
     ensures tie_breaker_start { is_past_ties num_docs (Some start) ≡ true →
         Stopped sink.old sink.new result refusals.TieBreakerStart }

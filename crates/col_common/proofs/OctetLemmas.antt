@@ -12,12 +12,14 @@ use Rattle.std.specs.declared.cmp.Ordering.{Ordering}
 use Rattle.std.specs.declared.cmp.Ordering.TheVariants.{Less, Equal, Greater}
 use Rattle.col_common.specs.Ascending.{AreBelow}
 
-then_assoc : (a b c : Ordering) → ordering_then (ordering_then a b) c ≡ ordering_then a (ordering_then b c)
+-- orders one after another, in either bracketing
+pub then_assoc : (a b c : Ordering) → ordering_then (ordering_then a b) c ≡ ordering_then a (ordering_then b c)
 then_assoc Less b c = refl
 then_assoc Equal b c = refl
 then_assoc Greater b c = refl
 
-then_nothing : (a : Ordering) → ordering_then a Equal ≡ a
+-- a tie behind an order changes nothing
+pub then_nothing : (a : Ordering) → ordering_then a Equal ≡ a
 then_nothing Less = refl
 then_nothing Equal = refl
 then_nothing Greater = refl
@@ -26,7 +28,9 @@ then_nothing Greater = refl
 cmp_more : (m n x y : ℕ) → x < 256 → y < 256 → nat_cmp (m * 256 + x) (n * 256 + y) ≡ ordering_then (nat_cmp m n) (nat_cmp x y)
 cmp_more m n x y p q = grind (arith, nat_tests)
 
-cmp_after : (m n : ℕ) (xs ys : List ℕ) → length xs ≡ length ys → AreBelow 256 xs → AreBelow 256 ys → nat_cmp (number_from_digits_after 256 m xs) (number_from_digits_after 256 n ys) ≡ ordering_then (nat_cmp m n) (slice_cmp nat_cmp xs ys)
+cmp_after : (m n : ℕ) (xs ys : List ℕ) → length xs ≡ length ys → AreBelow 256 xs → AreBelow 256 ys
+    → nat_cmp (number_from_digits_after 256 m xs) (number_from_digits_after 256 n ys)
+    ≡ ordering_then (nat_cmp m n) (slice_cmp nat_cmp xs ys)
 cmp_after m n [] [] e p q = sym (then_nothing (nat_cmp m n))
 cmp_after m n [] (y ∷ ys) e p q = absurd (omega arith)
 cmp_after m n (x ∷ xs) [] e p q = absurd (omega arith)
@@ -36,7 +40,8 @@ cmp_after m n (x ∷ xs) (y ∷ ys) e p q =
     ∙ then_assoc (nat_cmp m n) (nat_cmp x y) (slice_cmp nat_cmp xs ys)
 
 -- numbers are ordered as their octets
-pub octets_ordered : (xs ys : List ℕ) → length xs ≡ length ys → AreBelow 256 xs → AreBelow 256 ys → slice_cmp nat_cmp xs ys ≡ nat_cmp (number_from_digits 256 xs) (number_from_digits 256 ys)
+pub octets_ordered : (xs ys : List ℕ) → length xs ≡ length ys → AreBelow 256 xs → AreBelow 256 ys
+    → slice_cmp nat_cmp xs ys ≡ nat_cmp (number_from_digits 256 xs) (number_from_digits 256 ys)
 octets_ordered xs ys e p q = sym (cmp_after 0 0 xs ys e p q)
 
 pow_above : (k : ℕ) → 0 < 256 ^ k
@@ -78,9 +83,11 @@ bytes_are : (k n : ℕ) → AreBelow 256 (bytes_high_first k n)
 bytes_are zero n = tt
 bytes_are (suc k) n = (rw (byte_is k n) (mod_below (n / 256 ^ k) 256 (lit< tt)), bytes_are k n)
 
+-- the octets of a number are below 256
 pub are_octets : (n : ℕ) → AreBelow 256 (to_be_bytes w128 n)
 are_octets n = bytes_are 16 n
 
+-- an order of two parts is equal where both are
 pub then_equal : (a b : Ordering) → ordering_then a b ≡ Equal → (a ≡ Equal) × (b ≡ Equal)
 then_equal Less b h = cc
 then_equal Equal b h = (refl, h)
@@ -100,7 +107,8 @@ same_from_order (x ∷ xs) (y ∷ ys) e h =
     cc
 
 -- no other octets spell the number
-pub octets_closed : (xs ys : List ℕ) → length xs ≡ length ys → AreBelow 256 xs → AreBelow 256 ys → number_from_digits 256 xs ≡ number_from_digits 256 ys → xs ≡ ys
+pub octets_closed : (xs ys : List ℕ) → length xs ≡ length ys → AreBelow 256 xs → AreBelow 256 ys
+    → number_from_digits 256 xs ≡ number_from_digits 256 ys → xs ≡ ys
 octets_closed xs ys e p q same =
     let n : ℕ = number_from_digits 256 ys in
     same_from_order xs ys e (octets_ordered xs ys e p q ∙ (ap (λ m. nat_cmp m n) same ∙ tied_itself nat_cmp_total n))

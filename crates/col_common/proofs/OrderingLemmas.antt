@@ -32,9 +32,11 @@ lt_le Equal h = cc
 lt_le Greater h = cc
 
 module _ {T : Type 0} {R : T → T → Ordering} (o : IsTotalOrder R) where
+  -- an item is at most itself
   pub le_itself : (x : T) → is_le (R x x) ≡ true
   le_itself x = ap is_le (tied_itself o x)
 
+  -- what is at most an item that is at most another is at most this
   pub le_chain : (x y z : T) → is_le (R x y) ≡ true → is_le (R y z) ≡ true → is_le (R x z) ≡ true
   le_chain x y z h k = not_gt_le (R x z) (upto o x y z (le_not_gt (R x y) h) (le_not_gt (R y z) k))
 
@@ -64,7 +66,9 @@ increasing_rises (x ∷ y ∷ zs) h =
     rw (lt-ltb x y first) (increasing_rises (y ∷ zs) (λ k within. next k (h (k + 1) (omega arith))))
   where
     next : (k : ℕ) → get_or (x ∷ y ∷ zs) (k + 1) 0 < get_or (x ∷ y ∷ zs) (k + 1 + 1) 0 → get_or (y ∷ zs) k 0 < get_or (y ∷ zs) (k + 1) 0
-    next k l = subst (λ m. get_or (x ∷ y ∷ zs) m 0 < get_or (y ∷ zs) (k + 1) 0) (add-one k) (subst (λ m. get_or (x ∷ y ∷ zs) (k + 1) 0 < get_or (x ∷ y ∷ zs) m 0) (add-one (k + 1)) l)
+    next k l =
+        subst (λ m. get_or (x ∷ y ∷ zs) m 0 < get_or (y ∷ zs) (k + 1) 0) (add-one k)
+        (subst (λ m. get_or (x ∷ y ∷ zs) (k + 1) 0 < get_or (x ∷ y ∷ zs) m 0) (add-one (k + 1)) l)
 
 -- the numbers of a range that pass a test rise
 pub filtered_rises : (test : ℕ → Bool) (a n : ℕ) → is_rising (filter test (range_with_len a n)) ≡ true

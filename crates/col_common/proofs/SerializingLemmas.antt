@@ -12,7 +12,8 @@ told_none None = refl
 told_none (Some held) = ap Some (sym (append-nil held))
 
 -- two lists behind what is told, one behind the other
-told_more : (a b c : Told) (xs ys : List ℕ) → b ≡ option_map (λ held. held ++ xs) a → c ≡ option_map (λ held. held ++ ys) b → c ≡ option_map (λ held. held ++ (xs ++ ys)) a
+told_more : (a b c : Told) (xs ys : List ℕ) → b ≡ option_map (λ held. held ++ xs) a
+    → c ≡ option_map (λ held. held ++ ys) b → c ≡ option_map (λ held. held ++ (xs ++ ys)) a
 told_more None b c xs ys first second = second ∙ ap (option_map (λ held. held ++ ys)) first
 told_more (Some held) b c xs ys first second = second ∙ ap (option_map (λ held. held ++ ys)) first ∙ ap Some (append_assoc held xs ys)
 
@@ -28,7 +29,9 @@ grows_more : (a b c : SeenSink) → Grows a b → Grows b c → Grows a c
 grows_more a b c first second = (first.0 ++ second.0, appends_more a b c first.0 second.0 first.1 second.1)
 
 -- a call behind one that was Ok
-pub serializes-then : (a b c : SeenSink) (done : Unit {0}) (result : Result (Unit {0}) ColumnarError) (xs ys : List ℕ) → Serializes a b (Ok done) xs → Serializes b c result ys → Serializes a c result (xs ++ ys)
+pub serializes-then :
+    (a b c : SeenSink) (done : Unit {0}) (result : Result (Unit {0}) ColumnarError) (xs ys : List ℕ)
+    → Serializes a b (Ok done) xs → Serializes b c result ys → Serializes a c result (xs ++ ys)
 serializes-then a b c done (Ok end) xs ys first second = record {
   ok = appends_more a b c xs ys first.ok second.ok;
   grown = grows_more a b c first.grown second.grown;
@@ -75,13 +78,17 @@ serializes-nothing a done = record {
 }
 
 -- the same, of bytes that are equal
-pub serializes-as : (a b : SeenSink) (result : Result (Unit {0}) ColumnarError) (xs ys : List ℕ) → Serializes a b result xs → xs ≡ ys → Serializes a b result ys
+pub serializes-as : (a b : SeenSink) (result : Result (Unit {0}) ColumnarError) (xs ys : List ℕ)
+    → Serializes a b result xs → xs ≡ ys → Serializes a b result ys
 serializes-as a b result xs ys first e = subst (λ bytes. Serializes a b result bytes) e first
 
 -- a refusal behind a call that was Ok, whatever was to be added
-pub serializes-refused : (a b c : SeenSink) (done : Unit {0}) (e : ColumnarError) (xs ys zs : List ℕ) → Serializes a b (Ok done) xs → Serializes b c (Err e) ys → Serializes a c (Err e) zs
-serializes-refused a b c done e xs ys zs first second = serializes-stopped a c e (xs ++ ys) zs (serializes-then a b c done (Err e) xs ys first second)
+pub serializes-refused : (a b c : SeenSink) (done : Unit {0}) (e : ColumnarError) (xs ys zs : List ℕ)
+    → Serializes a b (Ok done) xs → Serializes b c (Err e) ys → Serializes a c (Err e) zs
+serializes-refused a b c done e xs ys zs first second =
+    serializes-stopped a c e (xs ++ ys) zs (serializes-then a b c done (Err e) xs ys first second)
 
 -- what a buffer has after Ok
-pub added_in_memory : (old new bytes : List ℕ) (done : Unit {0}) → Serializes (in_memory old) (in_memory new) (Ok done) bytes → new ≡ old ++ bytes
+pub added_in_memory : (old new bytes : List ℕ) (done : Unit {0})
+    → Serializes (in_memory old) (in_memory new) (Ok done) bytes → new ≡ old ++ bytes
 added_in_memory old new bytes done added = same_Some new (old ++ bytes) added.ok

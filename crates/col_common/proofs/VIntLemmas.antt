@@ -13,14 +13,17 @@ unfolding groups
 groups-last b bytes h = rw (le-ltb b 128 h)
 
 -- a byte below 128 goes on
-pub groups-more : (b high : ℕ) (bytes rest : List ℕ) → b < 128 → 0 < high → groups bytes ≡ Some (high, rest) → groups (b ∷ bytes) ≡ Some (b + 128 * high, rest)
+pub groups-more : (b high : ℕ) (bytes rest : List ℕ) → b < 128 → 0 < high → groups bytes ≡ Some (high, rest)
+    → groups (b ∷ bytes) ≡ Some (b + 128 * high, rest)
 unfolding groups
 groups-more b high bytes rest p q e = rw (lt-ltb b 128 p, e, le-leb 1 high (omega arith))
 
+-- a number below 128 is one group, which ends it
 pub group_bytes-short : (k n : ℕ) → n < 128 → group_bytes (suc k) n ≡ (n + 128) ∷ []
 unfolding group_bytes
 group_bytes-short k n h = rw (lt-ltb n 128 h)
 
+-- a number from 128 on is its lowest group, and the groups of what is above
 pub group_bytes-long : (k n : ℕ) → 128 ≤ n → group_bytes (suc k) n ≡ n % 128 ∷ group_bytes k (n / 128)
 unfolding group_bytes
 group_bytes-long k n h = rw (le-ltb n 128 h)
@@ -28,9 +31,14 @@ group_bytes-long k n h = rw (le-ltb n 128 h)
 short-form : (k n : ℕ) (rest : List ℕ) → n < 128 → groups (group_bytes (suc k) n ++ rest) ≡ Some (n, rest)
 short-form k n rest p = rw (group_bytes-short k n p, groups-last (n + 128) rest (omega arith), add-sub_cancel)
 
-long-form : (k n : ℕ) (rest : List ℕ) → 128 ≤ n → groups (group_bytes (suc k) (n / 128) ++ rest) ≡ Some (n / 128, rest) → groups (group_bytes (suc (suc k)) n ++ rest) ≡ Some (n, rest)
-long-form k n rest p e = rw (group_bytes-long (suc k) n p) (groups-more (n % 128) (n / 128) _ rest (omega arith) (omega arith) e ∙ ap (λ m. Some (m, rest)) (mod-add-div n 128))
+long-form : (k n : ℕ) (rest : List ℕ) → 128 ≤ n
+    → groups (group_bytes (suc k) (n / 128) ++ rest) ≡ Some (n / 128, rest)
+    → groups (group_bytes (suc (suc k)) n ++ rest) ≡ Some (n, rest)
+long-form k n rest p e =
+    rw (group_bytes-long (suc k) n p) (groups-more (n % 128) (n / 128) _ rest (omega arith) (omega arith) e
+    ∙ ap (λ m. Some (m, rest)) (mod-add-div n 128))
 
+-- what is above the lowest of a number's groups takes one group less
 pub higher : (k n : ℕ) → n < 128 ^ suc (suc k) → n / 128 < 128 ^ suc k
 higher k n h = div_below n 128 (128 ^ suc k) (omega arith) (rw (pow-suc 128 (suc k)) at h)
 
@@ -52,15 +60,18 @@ pub vint_u128-vint_bytes : (n : ℕ) (rest : List ℕ) → n < 2 ^ 128 → vint_
 vint_u128-vint_bytes n rest h = rw (groups-group_bytes 18 n rest (omega arith), lt-ltb n (2 ^ 128) h)
 
 -- what is read of a byte below 128
-pub more-parts : (c : ℕ) (bytes : List ℕ) (n : ℕ) (rest : List ℕ) → c < 128 → groups (c ∷ bytes) ≡ Some (n, rest) → (high : ℕ) × (0 < high) × (groups bytes ≡ Some (high, rest)) × (n ≡ c + 128 * high)
+pub more-parts : (c : ℕ) (bytes : List ℕ) (n : ℕ) (rest : List ℕ) → c < 128 → groups (c ∷ bytes) ≡ Some (n, rest)
+    → (high : ℕ) × (0 < high) × (groups bytes ≡ Some (high, rest)) × (n ≡ c + 128 * high)
 unfolding groups
 more-parts c bytes n rest p e =
-    option_and_then_some (λ high. only_if (nat_le 1 high.0) (c + 128 * high.0, high.1)) (groups bytes) (n, rest) (rw (lt-ltb c 128 p) at e) (λ x o f.
+    option_and_then_some (λ high. only_if (nat_le 1 high.0) (c + 128 * high.0, high.1)) (groups bytes) (n, rest)
+    (rw (lt-ltb c 128 p) at e) (λ x o f.
     let parts = cond_some (nat_le 1 x.0) (c + 128 * x.0, x.1) (n, rest) f in
     let positive : 0 < x.0 = omega (arith, leb-true 1 x.0 parts.0) in
     (x.0, positive, o ∙ ap (λ r. Some (x.0, r)) (ap (λ q. q.1) parts.1), sym (ap (λ q. q.0) parts.1)))
 
-last-parts : (c : ℕ) (bytes : List ℕ) (n : ℕ) (rest : List ℕ) → 128 ≤ c → groups (c ∷ bytes) ≡ Some (n, rest) → (n ≡ c - 128) × (bytes ≡ rest)
+last-parts : (c : ℕ) (bytes : List ℕ) (n : ℕ) (rest : List ℕ) → 128 ≤ c → groups (c ∷ bytes) ≡ Some (n, rest)
+    → (n ≡ c - 128) × (bytes ≡ rest)
 last-parts c bytes n rest p e = let q = same_Some _ _ (sym (groups-last c bytes p) ∙ e) in (sym (ap (λ q. q.0) q), ap (λ q. q.1) q)
 
 later_bytes : (c : ℕ) (bytes : List ℕ) → IsBytes (c ∷ bytes) → IsBytes bytes
@@ -70,14 +81,16 @@ later_bytes c bytes b i = b (suc i)
 last-spelled : (c k n : ℕ) (rest : List ℕ) → c < 256 → 128 ≤ c → n ≡ c - 128 → c ∷ rest ≡ group_bytes (suc k) n ++ rest
 last-spelled c k n rest b p e = rw (group_bytes-short k n (omega arith)) (ap (λ d. d ∷ rest) (omega arith))
 
-more-spelled : (c k n high : ℕ) (bytes rest : List ℕ) → c < 128 → 0 < high → n ≡ c + 128 * high → bytes ≡ group_bytes (suc k) high ++ rest → c ∷ bytes ≡ group_bytes (suc (suc k)) n ++ rest
+more-spelled : (c k n high : ℕ) (bytes rest : List ℕ) → c < 128 → 0 < high → n ≡ c + 128 * high
+    → bytes ≡ group_bytes (suc k) high ++ rest → c ∷ bytes ≡ group_bytes (suc (suc k)) n ++ rest
 more-spelled c k n high bytes rest p q e later =
     let low : n % 128 ≡ c = omega arith in
     let up : n / 128 ≡ high = omega arith in
     rw (group_bytes-long (suc k) n (omega arith), low, up) (ap (λ r. c ∷ r) later)
 
 -- what is read is spelled so
-pub group_bytes-groups : (bytes : List ℕ) (k n : ℕ) (rest : List ℕ) → IsBytes bytes → n < 128 ^ suc k → groups bytes ≡ Some (n, rest) → bytes ≡ group_bytes (suc k) n ++ rest
+pub group_bytes-groups : (bytes : List ℕ) (k n : ℕ) (rest : List ℕ) → IsBytes bytes → n < 128 ^ suc k
+    → groups bytes ≡ Some (n, rest) → bytes ≡ group_bytes (suc k) n ++ rest
 unfolding groups
 group_bytes-groups [] k n rest b h e = absurd (none-some (n, rest) e)
 group_bytes-groups (c ∷ bytes) zero n rest b h e =

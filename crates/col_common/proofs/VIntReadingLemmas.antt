@@ -7,7 +7,8 @@ use Rattle.col_common.specs.VInt.{groups, vint_u128, GoesOn}
 use Rattle.col_common.proofs.VIntLemmas.{groups-last, groups-more, more-parts}
 
 -- from place i on the bytes have the number v, which isn't 0: then from the front on they have one that is no less
-groups-front : (bytes : List ℕ) (i v : ℕ) (rest : List ℕ) → i ≤ length bytes → GoesOn bytes i → 0 < v → groups (drop i bytes) ≡ Some (v, rest) → (n : ℕ) × (v ≤ n) × (groups bytes ≡ Some (n, rest))
+groups-front : (bytes : List ℕ) (i v : ℕ) (rest : List ℕ) → i ≤ length bytes → GoesOn bytes i → 0 < v
+    → groups (drop i bytes) ≡ Some (v, rest) → (n : ℕ) × (v ≤ n) × (groups bytes ≡ Some (n, rest))
 groups-front bytes zero v rest h on p e = (v, omega arith, e)
 groups-front [] (suc i) v rest h on p e = absurd (omega arith)
 groups-front (b ∷ bytes) (suc i) v rest h on p e =
@@ -25,18 +26,26 @@ groups-long (b ∷ bytes) (suc k) n rest on p e =
     rw (pow-suc 128 k) (omega (arith, later, x.3))
 
 -- the bytes from place i on
-groups-at_last : (bytes : List ℕ) (i : ℕ) → i < length bytes → 128 ≤ slice_index bytes i → groups (drop i bytes) ≡ Some (slice_index bytes i - 128, drop (i + 1) bytes)
+groups-at_last : (bytes : List ℕ) (i : ℕ) → i < length bytes → 128 ≤ slice_index bytes i
+    → groups (drop i bytes) ≡ Some (slice_index bytes i - 128, drop (i + 1) bytes)
 groups-at_last bytes i h p = rw (drop-cons bytes i 0 h, add-one) (groups-last (slice_index bytes i) (drop (suc i) bytes) p)
 
-groups-at_more : (bytes : List ℕ) (i high : ℕ) (rest : List ℕ) → i < length bytes → slice_index bytes i < 128 → 0 < high → groups (drop (i + 1) bytes) ≡ Some (high, rest) → groups (drop i bytes) ≡ Some (slice_index bytes i + 128 * high, rest)
-groups-at_more bytes i high rest h p q e = rw (drop-cons bytes i 0 h) (groups-more (slice_index bytes i) high (drop (suc i) bytes) rest p q (rw add-one at e))
+groups-at_more : (bytes : List ℕ) (i high : ℕ) (rest : List ℕ) → i < length bytes → slice_index bytes i < 128
+    → 0 < high → groups (drop (i + 1) bytes) ≡ Some (high, rest)
+    → groups (drop i bytes) ≡ Some (slice_index bytes i + 128 * high, rest)
+groups-at_more bytes i high rest h p q e =
+    rw (drop-cons bytes i 0 h)
+    (groups-more (slice_index bytes i) high (drop (suc i) bytes) rest p q (rw add-one at e))
 
 -- groups that stand for 0 behind another byte are no form
-groups-zero : (bytes : List ℕ) (i : ℕ) (rest : List ℕ) → i < length bytes → GoesOn bytes (suc i) → groups (drop (suc i) bytes) ≡ Some (0, rest) → groups bytes ≡ None
+groups-zero : (bytes : List ℕ) (i : ℕ) (rest : List ℕ) → i < length bytes → GoesOn bytes (suc i)
+    → groups (drop (suc i) bytes) ≡ Some (0, rest) → groups bytes ≡ None
 unfolding groups
 groups-zero [] i rest h on e = absurd (omega arith)
 groups-zero (b ∷ bytes) zero rest h on e = rw (lt-ltb b 128 (on 0 (omega arith)), e)
-groups-zero (b ∷ bytes) (suc i) rest h on e = rw (lt-ltb b 128 (on 0 (omega arith)), groups-zero bytes i rest (omega arith) (λ k q. on (suc k) (omega arith)) e)
+groups-zero (b ∷ bytes) (suc i) rest h on e =
+    rw
+    (lt-ltb b 128 (on 0 (omega arith)), groups-zero bytes i rest (omega arith) (λ k q. on (suc k) (omega arith)) e)
 
 -- bytes that all go on are no form
 groups-endless : (bytes : List ℕ) → GoesOn bytes (length bytes) → groups bytes ≡ None
@@ -74,9 +83,12 @@ vint_u128-long bytes on =
     ]
 
 -- groups that stand for 0 behind others are no form
-pub vint_u128-zero_behind : (bytes : List ℕ) (i : ℕ) → 0 < i → i < length bytes → GoesOn bytes i → slice_index bytes i ≡ 128 → vint_u128 bytes ≡ None
+pub vint_u128-zero_behind : (bytes : List ℕ) (i : ℕ) → 0 < i → i < length bytes → GoesOn bytes i
+    → slice_index bytes i ≡ 128 → vint_u128 bytes ≡ None
 vint_u128-zero_behind bytes zero p h on e = absurd (omega arith)
-vint_u128-zero_behind bytes (suc i) p h on e = vint_u128-none bytes (groups-zero bytes i (drop (suc i + 1) bytes) (omega arith) on (groups-at_last bytes (suc i) h (omega arith) ∙ ap (λ n. Some (n, drop (suc i + 1) bytes)) (omega arith)))
+vint_u128-zero_behind bytes (suc i) p h on e =
+    vint_u128-none bytes (groups-zero bytes i (drop (suc i + 1) bytes) (omega arith) on
+    (groups-at_last bytes (suc i) h (omega arith) ∙ ap (λ n. Some (n, drop (suc i + 1) bytes)) (omega arith)))
 
 -- from the index on the bytes up to the last group have the value, which isn't 0 unless it has one byte
 pub record IsRead (bytes : List ℕ) (last index value : ℕ) : Type 0 where
@@ -84,30 +96,41 @@ pub record IsRead (bytes : List ℕ) (last index value : ℕ) : Type 0 where
   pub positive : 0 < last → 0 < value
   pub so_far : groups (drop index bytes) ≡ Some (value, drop (last + 1) bytes)
 
-pub read-last : (bytes : List ℕ) (last value : ℕ) → last < length bytes → 128 ≤ slice_index bytes last → value ≡ slice_index bytes last - 128 → (0 < last → 0 < value) → IsRead bytes last last value
+-- the last group of a number is read as its value, which is 0 only where it is the only one
+pub read-last : (bytes : List ℕ) (last value : ℕ) → last < length bytes → 128 ≤ slice_index bytes last
+    → value ≡ slice_index bytes last - 128 → (0 < last → 0 < value) → IsRead bytes last last value
 read-last bytes last value h p e positive = record {
   within = omega arith;
   positive = positive;
   so_far = rw e (groups-at_last bytes last h p);
 }
 
-pub read-more : (bytes : List ℕ) (last i j value more : ℕ) → i + 1 ≡ j → last < length bytes → GoesOn bytes last → more ≡ value * 128 + slice_index bytes i → IsRead bytes last j value → IsRead bytes last i more
+-- a group before those that were read adds its value below theirs
+pub read-more : (bytes : List ℕ) (last i j value more : ℕ) → i + 1 ≡ j → last < length bytes → GoesOn bytes last
+    → more ≡ value * 128 + slice_index bytes i → IsRead bytes last j value → IsRead bytes last i more
 read-more bytes last i j value more e h on sum so =
     let positive = so.positive (omega (arith, so.within)) in
     let behind : groups (drop (i + 1) bytes) ≡ Some (value, drop (last + 1) bytes) = rw e so.so_far in
     record {
       within = omega (arith, so.within);
       positive = λ _. omega arith;
-      so_far = groups-at_more bytes i value (drop (last + 1) bytes) (omega (arith, so.within)) (on i (omega (arith, so.within))) positive behind ∙ ap (λ n. Some (n, drop (last + 1) bytes)) (omega arith);
+      so_far =
+          groups-at_more bytes i value (drop (last + 1) bytes) (omega (arith, so.within))
+          (on i (omega (arith, so.within))) positive behind
+          ∙ ap (λ n. Some (n, drop (last + 1) bytes)) (omega arith);
     }
 
 -- a number past 2 ^ 128 at a place is one at the front
-pub read-past : (bytes : List ℕ) (last i j value : ℕ) → i + 1 ≡ j → last < length bytes → GoesOn bytes last → 2 ^ 128 ≤ value * 128 + slice_index bytes i → IsRead bytes last j value → vint_u128 bytes ≡ None
+pub read-past : (bytes : List ℕ) (last i j value : ℕ) → i + 1 ≡ j → last < length bytes → GoesOn bytes last
+    → 2 ^ 128 ≤ value * 128 + slice_index bytes i → IsRead bytes last j value → vint_u128 bytes ≡ None
 read-past bytes last i j value e h on p so =
     let more = read-more bytes last i j value _ e h on refl so in
-    let front = groups-front bytes i _ _ (omega (arith, more.within)) (λ k q. on k (omega (arith, more.within))) (omega arith) more.so_far in
+    let front = groups-front bytes i _ _ (omega (arith, more.within)) (λ k q. on k (omega (arith, more.within)))
+    (omega arith) more.so_far in
     vint_u128-too_large bytes front.0 _ (omega (arith, front.1)) front.2
 
 -- the number at the front
-pub read-whole : (bytes : List ℕ) (last i value : ℕ) → i ≡ 0 → value < 2 ^ 128 → IsRead bytes last i value → vint_u128 bytes ≡ Some (value, take (length bytes - (last + 1)) (drop (last + 1) bytes))
-read-whole bytes last i value e h so = rw (take_rest bytes (last + 1)) (vint_u128-some bytes value (drop (last + 1) bytes) h (rw e at so.so_far))
+pub read-whole : (bytes : List ℕ) (last i value : ℕ) → i ≡ 0 → value < 2 ^ 128 → IsRead bytes last i value
+    → vint_u128 bytes ≡ Some (value, take (length bytes - (last + 1)) (drop (last + 1) bytes))
+read-whole bytes last i value e h so =
+    rw (take_rest bytes (last + 1)) (vint_u128-some bytes value (drop (last + 1) bytes) h (rw e at so.so_far))

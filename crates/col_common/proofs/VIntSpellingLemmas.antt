@@ -21,17 +21,23 @@ pub record IsSpelled (len rest : ℕ) (bytes all : List ℕ) : Type 0 where
   pub few : rest < 128 ^ (19 - len)
   pub so_far : take len bytes ++ group_bytes (19 - len) rest ≡ all
 
-pub spelled-more : (len rest : ℕ) (bytes all : List ℕ) → length bytes ≡ 19 → 128 ≤ rest → IsSpelled len rest bytes all → IsSpelled (len + 1) (rest / 128) (set bytes len (rest % 128)) all
+-- a group that isn't the last is put behind those before it, and the rest goes on
+pub spelled-more : (len rest : ℕ) (bytes all : List ℕ) → length bytes ≡ 19 → 128 ≤ rest
+    → IsSpelled len rest bytes all → IsSpelled (len + 1) (rest / 128) (set bytes len (rest % 128)) all
 spelled-more len rest bytes all long p so =
     let fewer = fewer-groups (19 - len) (19 - (len + 1)) rest (omega (arith, so.within)) so.few p in
     let inside : len < length bytes = omega (arith, so.within) in
     record {
       within = omega (arith, fewer.0);
       few = fewer.1;
-      so_far = rw (take_more_set bytes len (rest % 128) inside, append_assoc) (rw (first-group (19 - len) (19 - (len + 1)) rest (omega (arith, so.within)) p) at so.so_far);
+      so_far =
+          rw (take_more_set bytes len (rest % 128) inside, append_assoc)
+          (rw (first-group (19 - len) (19 - (len + 1)) rest (omega (arith, so.within)) p) at so.so_far);
     }
 
-pub spelled-last : (len rest : ℕ) (bytes all : List ℕ) → length bytes ≡ 19 → rest < 128 → IsSpelled len rest bytes all → take (len + 1) (set bytes len (rest + 128)) ≡ all
+-- the last group put behind those before it ends the number
+pub spelled-last : (len rest : ℕ) (bytes all : List ℕ) → length bytes ≡ 19 → rest < 128
+    → IsSpelled len rest bytes all → take (len + 1) (set bytes len (rest + 128)) ≡ all
 spelled-last len rest bytes all long p so =
     let inside : len < length bytes = omega (arith, so.within) in
     rw (take_more_set bytes len (rest + 128) inside) (rw (only-group (19 - len) (18 - len) rest (omega (arith, so.within)) p) at so.so_far)

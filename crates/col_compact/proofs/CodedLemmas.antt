@@ -24,7 +24,9 @@ use Rattle.col_compact.proofs.ReadingLemmas.{untrue}
 
 -- ---- numbers rise with their codes
 
-number_less : (floor code : ℕ) (ms : List RangeMapping) (ceiling code_end j k : ℕ) → AreMapped floor code ms ceiling code_end → 1 ≤ j → j < k → k ≤ code_count (ranges_of ms) → coded_number (ranges_of ms) j < coded_number (ranges_of ms) k
+number_less : (floor code : ℕ) (ms : List RangeMapping) (ceiling code_end j k : ℕ)
+    → AreMapped floor code ms ceiling code_end → 1 ≤ j → j < k → k ≤ code_count (ranges_of ms)
+    → coded_number (ranges_of ms) j < coded_number (ranges_of ms) k
 unfolding AreMapped coded_number
 number_less floor code [] ceiling code_end j k h one less upto = absurd (omega (arith, one, less, upto))
 number_less floor code (m ∷ ms) ceiling code_end j k h one less upto = elim (cases_lt (m.end + 1 - m.start) k) [
@@ -33,9 +35,11 @@ number_less floor code (m ∷ ms) ceiling code_end j k h one less upto = elim (c
       let inside : k - (m.end + 1 - m.start) ≤ code_count (ranges_of ms) = omega (arith, all, upto, past) in
       elim (cases_lt (m.end + 1 - m.start) j) [
         | inl later ↦ rw (lt-leb k (m.end + 1 - m.start) past, lt-leb j (m.end + 1 - m.start) later)
-            (number_less (m.end + 4) (code + range_size (m.start, m.end)) ms ceiling code_end (j - (m.end + 1 - m.start)) (k - (m.end + 1 - m.start)) h.3 (omega arith) (omega arith) inside)
+            (number_less (m.end + 4) (code + range_size (m.start, m.end)) ms ceiling code_end
+            (j - (m.end + 1 - m.start)) (k - (m.end + 1 - m.start)) h.3 (omega arith) (omega arith) inside)
         | inr here ↦
-            let from = number_from (m.end + 4) (code + range_size (m.start, m.end)) ms ceiling code_end (k - (m.end + 1 - m.start)) h.3 (omega arith) inside in
+            let from = number_from (m.end + 4) (code + range_size (m.start, m.end)) ms ceiling code_end
+            (k - (m.end + 1 - m.start)) h.3 (omega arith) inside in
             rw (lt-leb k (m.end + 1 - m.start) past, le-leb j (m.end + 1 - m.start) here) (omega (arith, h.1, from, here, one))
       ]
   | inr here ↦
@@ -44,7 +48,9 @@ number_less floor code (m ∷ ms) ceiling code_end j k h one less upto = elim (c
 ]
 
 -- the first code is that of the first number
-number_first : (floor code : ℕ) (ms : List RangeMapping) (ceiling code_end : ℕ) → AreMapped floor code ms ceiling code_end → 1 ≤ length ms → coded_number (ranges_of ms) 1 ≡ first_start (ranges_of ms)
+number_first : (floor code : ℕ) (ms : List RangeMapping) (ceiling code_end : ℕ)
+    → AreMapped floor code ms ceiling code_end → 1 ≤ length ms
+    → coded_number (ranges_of ms) 1 ≡ first_start (ranges_of ms)
 unfolding AreMapped coded_number
 number_first floor code [] ceiling code_end h some = absurd (omega (arith, some))
 number_first floor code (m ∷ ms) ceiling code_end h some =
@@ -61,7 +67,10 @@ unfolding coded_number
 only_number r rs k here = rw (le-leb k (range_size r) here) refl
 
 -- the last code is that of the last number
-number_last : (floor code : ℕ) (m : RangeMapping) (ms : List RangeMapping) (ceiling code_end e : ℕ) → AreMapped floor code (m ∷ ms) ceiling code_end → coded_number (ranges_of (m ∷ ms)) (code_count (ranges_of (m ∷ ms))) ≡ fold (λ e (r : ℕ × ℕ). r.1) e (ranges_of (m ∷ ms))
+number_last : (floor code : ℕ) (m : RangeMapping) (ms : List RangeMapping) (ceiling code_end e : ℕ)
+    → AreMapped floor code (m ∷ ms) ceiling code_end
+    → coded_number (ranges_of (m ∷ ms)) (code_count (ranges_of (m ∷ ms)))
+    ≡ fold (λ e (r : ℕ × ℕ). r.1) e (ranges_of (m ∷ ms))
 unfolding AreMapped
 number_last floor code m [] ceiling code_end e h =
     let all = counted_more m [] in
@@ -76,11 +85,14 @@ number_last floor code m (n ∷ ms) ceiling code_end e h =
     ∙ ap (coded_number (ranges_of (n ∷ ms))) rest
     ∙ number_last (m.end + 4) (code + range_size (m.start, m.end)) n ms ceiling code_end m.end h.3
 
-whole_last : (floor code : ℕ) (ms : List RangeMapping) (ceiling code_end : ℕ) → AreMapped floor code ms ceiling code_end → 1 ≤ length ms → coded_number (ranges_of ms) (code_count (ranges_of ms)) ≡ last_end (ranges_of ms)
+whole_last : (floor code : ℕ) (ms : List RangeMapping) (ceiling code_end : ℕ)
+    → AreMapped floor code ms ceiling code_end → 1 ≤ length ms
+    → coded_number (ranges_of ms) (code_count (ranges_of ms)) ≡ last_end (ranges_of ms)
 whole_last floor code [] ceiling code_end h some = absurd (omega (arith, some))
 whole_last floor code (m ∷ ms) ceiling code_end h some = number_last floor code m ms ceiling code_end 0 h
 
-some_numbers : (floor code : ℕ) (ms : List RangeMapping) (ceiling code_end : ℕ) → AreMapped floor code ms ceiling code_end → 1 ≤ length ms → 1 ≤ code_count (ranges_of ms)
+some_numbers : (floor code : ℕ) (ms : List RangeMapping) (ceiling code_end : ℕ)
+    → AreMapped floor code ms ceiling code_end → 1 ≤ length ms → 1 ≤ code_count (ranges_of ms)
 unfolding AreMapped
 some_numbers floor code [] ceiling code_end h some = absurd (omega (arith, some))
 some_numbers floor code (m ∷ ms) ceiling code_end h some = let all = counted_more m ms in omega (arith, all, h.1)
@@ -91,6 +103,7 @@ some_numbers floor code (m ∷ ms) ceiling code_end h some = let all = counted_m
 abbrev IsCode : ℕ → ℕ → Type 0
 IsCode n x = (1 ≤ x) × (x ≤ n)
 
+-- numbers in the range from 1 to n are codes, told by recursion
 pub all_codes : (n : ℕ) (xs : List ℕ) → list_all (is_in_range 1 n) xs ≡ true → AllByRecursion (IsCode n) xs
 all_codes n [] e = tt
 all_codes n (x ∷ xs) e =
@@ -103,7 +116,8 @@ codes_all n [] h = refl
 codes_all n (x ∷ xs) h = rw (le-leb 1 x h.0.0, le-leb x n h.0.1, codes_all n xs h.1) refl
 
 module _ (n : ℕ) (f : ℕ → ℕ) (rises : (a b : ℕ) → 1 ≤ a → a < b → b ≤ n → f a < f b) where
-  lesser : (x y : ℕ) → IsCode n x → IsCode n y → (min (f x) (f y) ≡ f (min x y)) × (max (f x) (f y) ≡ f (max x y)) × IsCode n (min x y) × IsCode n (max x y)
+  lesser : (x y : ℕ) → IsCode n x → IsCode n y
+      → (min (f x) (f y) ≡ f (min x y)) × (max (f x) (f y) ≡ f (max x y)) × IsCode n (min x y) × IsCode n (max x y)
   lesser x y p q = elim (cases_lt x y) [
     | inl h ↦
         let up = rises x y p.0 h q.1 in
@@ -131,14 +145,16 @@ module _ (n : ℕ) (f : ℕ → ℕ) (rises : (a b : ℕ) → 1 ≤ a → a < b 
     ]
   ]
 
-  least_mapped : (x : ℕ) (xs : List ℕ) → IsCode n x → AllByRecursion (IsCode n) xs → (fold min (f x) (map f xs) ≡ f (fold min x xs)) × IsCode n (fold min x xs)
+  least_mapped : (x : ℕ) (xs : List ℕ) → IsCode n x → AllByRecursion (IsCode n) xs
+      → (fold min (f x) (map f xs) ≡ f (fold min x xs)) × IsCode n (fold min x xs)
   least_mapped x [] p all = (refl, p)
   least_mapped x (y ∷ ys) p all =
       let here = lesser x y p all.0 in
       let rest = least_mapped (min x y) ys here.2 all.1 in
       (ap (λ a. fold min a (map f ys)) here.0 ∙ rest.0, rest.1)
 
-  greatest_mapped : (x : ℕ) (xs : List ℕ) → IsCode n x → AllByRecursion (IsCode n) xs → (fold max (f x) (map f xs) ≡ f (fold max x xs)) × IsCode n (fold max x xs)
+  greatest_mapped : (x : ℕ) (xs : List ℕ) → IsCode n x → AllByRecursion (IsCode n) xs
+      → (fold max (f x) (map f xs) ≡ f (fold max x xs)) × IsCode n (fold max x xs)
   greatest_mapped x [] p all = (refl, p)
   greatest_mapped x (y ∷ ys) p all =
       let here = lesser x y p all.0 in
@@ -161,7 +177,8 @@ between n x xs low high =
     let highs = (fold-max 0 (x ∷ xs)).1 in
     both (x ∷ xs) (lows.0, lows.1) highs
   where
-    both : (ys : List ℕ) → AllByRecursion (λ y. fold min x xs ≤ y) ys → AllByRecursion (λ y. y ≤ fold max 0 (x ∷ xs)) ys → AllByRecursion (IsCode n) ys
+    both : (ys : List ℕ) → AllByRecursion (λ y. fold min x xs ≤ y) ys
+        → AllByRecursion (λ y. y ≤ fold max 0 (x ∷ xs)) ys → AllByRecursion (IsCode n) ys
     both [] p q = tt
     both (y ∷ ys) p q = ((omega (arith, p.0, low), omega (arith, q.0, high)), both ys p.1 q.1)
 
@@ -170,7 +187,9 @@ max_zero x = omega arith
 
 -- the three tests of codes
 abbrev pub are_all_codes : List (ℕ × ℕ) → List ℕ → Bool
-are_all_codes rs codes = list_all (is_in_range 1 (code_count rs)) codes && (least_of (map (coded_number rs) codes) == first_start rs) && (greatest_of (map (coded_number rs) codes) == last_end rs)
+are_all_codes rs codes =
+    list_all (is_in_range 1 (code_count rs)) codes && (least_of (map (coded_number rs) codes) == first_start rs)
+    && (greatest_of (map (coded_number rs) codes) == last_end rs)
 
 module _ (ms : List RangeMapping) (space : IsSpace ms) where
   abbrev rs : List (ℕ × ℕ)
@@ -189,18 +208,25 @@ module _ (ms : List RangeMapping) (space : IsSpace ms) where
   some_codes = some_numbers 0 1 ms (2 ^ 128 + 3) (1 + code_count rs) space.mapped space.some
 
   -- the least is the first code, and the greatest the last one
-  pub ends_told : (codes : List ℕ) → 0 < length codes → are_all_codes rs codes ≡ ((least_of codes == 1) && (greatest_of codes == code_count rs))
+  pub ends_told : (codes : List ℕ) → 0 < length codes
+      → are_all_codes rs codes ≡ ((least_of codes == 1) && (greatest_of codes == code_count rs))
   ends_told [] some = absurd (omega (arith, some))
   ends_told (x ∷ xs) some = go (list_all (is_in_range 1 (code_count rs)) (x ∷ xs)) refl
     where
-      go : (b : Bool) → list_all (is_in_range 1 (code_count rs)) (x ∷ xs) ≡ b → are_all_codes rs (x ∷ xs) ≡ ((least_of (x ∷ xs) == 1) && (greatest_of (x ∷ xs) == code_count rs))
+      go : (b : Bool) → list_all (is_in_range 1 (code_count rs)) (x ∷ xs) ≡ b
+          → are_all_codes rs (x ∷ xs) ≡ ((least_of (x ∷ xs) == 1) && (greatest_of (x ∷ xs) == code_count rs))
       go true e =
           let f = coded_number rs in
           let all = all_codes (code_count rs) (x ∷ xs) e in
           let low = least_mapped (code_count rs) f rising x xs all.0 all.1 in
           let high = greatest_mapped (code_count rs) f rising x xs all.0 all.1 in
-          let first : (f (fold min x xs) == first_start rs) ≡ (fold min x xs == 1) = ap (λ n. f (fold min x xs) == n) (sym first_is) ∙ same_test (code_count rs) f rising (fold min x xs) 1 low.1 (omega arith, some_codes) in
-          let last : (f (fold max x xs) == last_end rs) ≡ (fold max x xs == code_count rs) = ap (λ n. f (fold max x xs) == n) (sym last_is) ∙ same_test (code_count rs) f rising (fold max x xs) (code_count rs) high.1 (some_codes, omega arith) in
+          let first : (f (fold min x xs) == first_start rs) ≡ (fold min x xs == 1) =
+          ap (λ n. f (fold min x xs) == n) (sym first_is)
+          ∙ same_test (code_count rs) f rising (fold min x xs) 1 low.1 (omega arith, some_codes) in
+          let last : (f (fold max x xs) == last_end rs) ≡ (fold max x xs == code_count rs) =
+          ap (λ n. f (fold max x xs) == n) (sym last_is)
+          ∙ same_test (code_count rs) f rising (fold max x xs) (code_count rs) high.1
+          (some_codes, omega arith) in
           let greatest : greatest_of (map f (x ∷ xs)) ≡ f (fold max x xs) = ap (λ a. fold max a (map f xs)) (max_zero (f x)) ∙ high.0 in
           let top : fold max x xs ≡ greatest_of (x ∷ xs) = ap (λ a. fold max a xs) (sym (max_zero x)) in
           ap (λ b. b && (least_of (map f (x ∷ xs)) == first_start rs) && (greatest_of (map f (x ∷ xs)) == last_end rs)) e
@@ -209,15 +235,23 @@ module _ (ms : List RangeMapping) (space : IsSpace ms) where
           ∙ ap (λ b. b && (f (fold max x xs) == last_end rs)) first
           ∙ ap (λ b. (fold min x xs == 1) && b) (last ∙ ap (λ n. n == code_count rs) top)
       go false e =
-          let within : ((least_of (x ∷ xs) == 1) && (greatest_of (x ∷ xs) == code_count rs)) ≡ true → list_all (is_in_range 1 (code_count rs)) (x ∷ xs) ≡ true = λ h.
+          let within : ((least_of (x ∷ xs) == 1) && (greatest_of (x ∷ xs) == code_count rs)) ≡ true → list_all
+          (is_in_range 1 (code_count rs)) (x ∷ xs) ≡ true = λ h.
           (let parts = and_parts (least_of (x ∷ xs) == 1) (greatest_of (x ∷ xs) == code_count rs) h in
-          codes_all (code_count rs) (x ∷ xs) (between (code_count rs) x xs (eqb-true (least_of (x ∷ xs)) 1 parts.0) (eqb-true (greatest_of (x ∷ xs)) (code_count rs) parts.1))) in
-          ap (λ b. b && (least_of (map (coded_number rs) (x ∷ xs)) == first_start rs) && (greatest_of (map (coded_number rs) (x ∷ xs)) == last_end rs)) e
+          codes_all (code_count rs) (x ∷ xs) (between (code_count rs) x xs (eqb-true (least_of (x ∷ xs)) 1 parts.0)
+          (eqb-true (greatest_of (x ∷ xs)) (code_count rs) parts.1))) in
+          ap (λ b. b && (least_of (map (coded_number rs) (x ∷ xs)) == first_start rs)
+          && (greatest_of (map (coded_number rs) (x ∷ xs)) == last_end rs)) e
           ∙ sym (untrue _ _ within e)
 
-pub ends_known : (ms : List RangeMapping) → IsSpace ms → (codes : List ℕ) → 0 < length codes → are_all_codes (ranges_of ms) codes ≡ true → (least_of codes ≡ 1) × (greatest_of codes ≡ code_count (ranges_of ms))
+-- codes that meet the first and the last number of a space have 1 as least and the last code as
+-- greatest
+pub ends_known : (ms : List RangeMapping) → IsSpace ms → (codes : List ℕ) → 0 < length codes
+    → are_all_codes (ranges_of ms) codes ≡ true
+    → (least_of codes ≡ 1) × (greatest_of codes ≡ code_count (ranges_of ms))
 ends_known ms space codes some e =
-    let parts = and_parts (least_of codes == 1) (greatest_of codes == code_count (ranges_of ms)) (sym (ends_told ms space codes some) ∙ e) in
+    let parts = and_parts (least_of codes == 1) (greatest_of codes == code_count (ranges_of ms))
+    (sym (ends_told ms space codes some) ∙ e) in
     (eqb-true (least_of codes) 1 parts.0, eqb-true (greatest_of codes) (code_count (ranges_of ms)) parts.1)
 
 -- ---- codes that are read one after another
@@ -228,41 +262,52 @@ pub record AreBounds (bytes : List ℕ) (w n least greatest : ℕ) : Type 0 wher
   pub least_is : least ≡ least_of (items bytes w 0 n)
   pub greatest_is : greatest ≡ greatest_of (items bytes w 0 n)
 
-pub bounds_more : (bytes : List ℕ) (w n low high x low2 high2 : ℕ) → AreBounds bytes w n low high → x ≡ item bytes w n → low2 ≡ min low x → high2 ≡ max high x → AreBounds bytes w (n + 1) low2 high2
+-- one more item makes its minimum and maximum with the bounds the bounds of all
+pub bounds_more : (bytes : List ℕ) (w n low high x low2 high2 : ℕ) → AreBounds bytes w n low high
+    → x ≡ item bytes w n → low2 ≡ min low x → high2 ≡ max high x → AreBounds bytes w (n + 1) low2 high2
 bounds_more bytes w zero low high x low2 high2 b e l h = absurd (let some = b.some in omega arith)
 bounds_more bytes w (suc n) low high x low2 high2 b e l h = record {
   some = omega arith;
   least_is = l ∙ ap (λ a. min a x) b.least_is ∙ ap (λ a. min (least_of (items bytes w 0 (suc n))) a) e
-      ∙ sym (fold-append min (item bytes w 0) (map (item bytes w) (range_with_len 1 n)) (item bytes w (suc n) ∷ [])) ∙ ap least_of (sym (items-push bytes w (suc n)));
+      ∙ sym (fold-append min (item bytes w 0) (map (item bytes w) (range_with_len 1 n)) (item bytes w (suc n) ∷ []))
+      ∙ ap least_of (sym (items-push bytes w (suc n)));
   greatest_is = h ∙ ap (λ a. max a x) b.greatest_is ∙ ap (λ a. max (greatest_of (items bytes w 0 (suc n))) a) e
       ∙ sym (fold-append max 0 (items bytes w 0 (suc n)) (item bytes w (suc n) ∷ [])) ∙ ap greatest_of (sym (items-push bytes w (suc n)));
 }
 
 -- the same by an item of a block
-pub bounds_block : (bytes block : List ℕ) (w start n at low high low2 high2 : ℕ) → AreBounds bytes w (start + at) low high → block ≡ items bytes w start n → at < n
-    → low2 ≡ min low (slice_index_or block at 0) → high2 ≡ max high (slice_index_or block at 0) → AreBounds bytes w (start + (at + 1)) low2 high2
+pub bounds_block : (bytes block : List ℕ) (w start n at low high low2 high2 : ℕ)
+    → AreBounds bytes w (start + at) low high → block ≡ items bytes w start n → at < n
+    → low2 ≡ min low (slice_index_or block at 0) → high2 ≡ max high (slice_index_or block at 0)
+    → AreBounds bytes w (start + (at + 1)) low2 high2
 bounds_block bytes block w start n at low high low2 high2 b e below l h =
-    let there : slice_index_or block at 0 ≡ item bytes w (start + at) = ap (λ ys. slice_index_or ys at 0) e ∙ get_or-map-range_with_len (item bytes w) start n at (start + at) 0 below refl in
+    let there : slice_index_or block at 0 ≡ item bytes w (start + at) =
+    ap (λ ys. slice_index_or ys at 0) e
+    ∙ get_or-map-range_with_len (item bytes w) start n at (start + at) 0 below refl in
     let next : start + at + 1 ≡ start + (at + 1) = omega arith in
-    subst (λ k. AreBounds bytes w k low2 high2) next (bounds_more bytes w (start + at) low high (slice_index_or block at 0) low2 high2 b there l h)
+    subst (λ k. AreBounds bytes w k low2 high2) next
+    (bounds_more bytes w (start + at) low high (slice_index_or block at 0) low2 high2 b there l h)
 
 -- ---- lists by their parts
 
 -- without numbers all is right
-pub none_coded : (f : AddressFooter) (bytes : List ℕ) → f.count ≡ 0 → f.least ≡ 0 → f.greatest ≡ 0 → true ≡ are_codes f (items bytes f.code_width 0 f.count)
+pub none_coded : (f : AddressFooter) (bytes : List ℕ) → f.count ≡ 0 → f.least ≡ 0 → f.greatest ≡ 0
+    → true ≡ are_codes f (items bytes f.code_width 0 f.count)
 none_coded f bytes none low high = sym (
     ap (λ n. are_codes f (items bytes f.code_width 0 n)) none
     ∙ ap (λ b. b && (0 == f.greatest)) (eq-eqb 0 f.least (sym low))
     ∙ eq-eqb 0 f.greatest (sym high)
     )
 
+-- there are as many items as are asked for
 pub length_items : (bytes : List ℕ) (w n : ℕ) → length (items bytes w 0 n) ≡ n
 length_items bytes w n = length-map-range_with_len (item bytes w) 0 n
 
 -- the count of no numbers fits bounds of 0 alone
 pub no_bounds : (least greatest count : ℕ) → are_bounds least greatest count ≡ true → count ≡ 0 → (least ≡ 0) × (greatest ≡ 0)
 no_bounds least greatest count e none =
-    let parts = and_parts (nat_lt 0 (2 ^ 32) && (nat_le 2 0 || (least == greatest))) (nat_le 1 0 || (greatest == 0)) (ap (are_bounds least greatest) (sym none) ∙ e) in
+    let parts = and_parts (nat_lt 0 (2 ^ 32) && (nat_le 2 0 || (least == greatest))) (nat_le 1 0 || (greatest == 0))
+    (ap (are_bounds least greatest) (sym none) ∙ e) in
     let equal = (and_parts (nat_lt 0 (2 ^ 32)) (nat_le 2 0 || (least == greatest)) parts.0).1 in
     let high = eqb-true greatest 0 parts.1 in
     (eqb-true least greatest equal ∙ high, high)
@@ -270,23 +315,36 @@ no_bounds least greatest count e none =
 abbrev coded_with : AddressFooter → List ℕ → Option Coded
 coded_with f found = only_if (are_codes f found) (record { ranges = f.ranges; codes = found })
 
+-- codes with bytes that are no footer stand for nothing
 pub coded_by-none : (codes footer : List ℕ) → address_footer footer ≡ None → coded_by codes footer ≡ None
 unfolding coded_by
 coded_by-none codes footer e = rw e refl
 
-pub coded_by-loose : (codes footer : List ℕ) (f : AddressFooter) → address_footer footer ≡ Some f → is_packed codes (f.count * f.code_width) ≡ false → coded_by codes footer ≡ None
+-- bytes that aren't packed codes, as many and as wide as their footer says, stand for nothing
+pub coded_by-loose : (codes footer : List ℕ) (f : AddressFooter) → address_footer footer ≡ Some f
+    → is_packed codes (f.count * f.code_width) ≡ false → coded_by codes footer ≡ None
 unfolding coded_by
-coded_by-loose codes footer f e loose = rw e (ap (λ o. o >>= coded_with f) (packed-items codes f.code_width f.count ∙ ap (λ b. only_if b (items codes f.code_width 0 f.count)) loose))
+coded_by-loose codes footer f e loose =
+    rw e (ap (λ o. o >>= coded_with f)
+    (packed-items codes f.code_width f.count ∙ ap (λ b. only_if b (items codes f.code_width 0 f.count)) loose))
 
-pub coded_by-packed : (codes footer : List ℕ) (f : AddressFooter) (b : Bool) → address_footer footer ≡ Some f → is_packed codes (f.count * f.code_width) ≡ true → are_codes f (items codes f.code_width 0 f.count) ≡ b → coded_by codes footer ≡ only_if b (coded_in f codes)
+-- packed codes stand for their numbers if each is a code and the bounds are the footer's
+pub coded_by-packed : (codes footer : List ℕ) (f : AddressFooter) (b : Bool) → address_footer footer ≡ Some f
+    → is_packed codes (f.count * f.code_width) ≡ true → are_codes f (items codes f.code_width 0 f.count) ≡ b
+    → coded_by codes footer ≡ only_if b (coded_in f codes)
 unfolding coded_by
 coded_by-packed codes footer f b e packed test =
-    rw e (ap (λ o. o >>= coded_with f) (packed-items codes f.code_width f.count ∙ ap (λ t. only_if t (items codes f.code_width 0 f.count)) packed) ∙ ap (λ t. only_if t (coded_in f codes)) test)
+    rw e (ap (λ o. o >>= coded_with f)
+    (packed-items codes f.code_width f.count ∙ ap (λ t. only_if t (items codes f.code_width 0 f.count)) packed)
+    ∙ ap (λ t. only_if t (coded_in f codes)) test)
 
+-- bytes that have no two parts stand for no codes
 pub coded_list-none : (bytes : List ℕ) → parts_by_second w64 bytes ≡ None → coded_list bytes ≡ None
 unfolding coded_list
 coded_list-none bytes e = rw e refl
 
-pub coded_list-some : (bytes codes footer : List ℕ) → parts_by_second w64 bytes ≡ Some (codes, footer) → coded_list bytes ≡ coded_by codes footer
+-- bytes that have two parts stand for what the codes stand for with their footer
+pub coded_list-some : (bytes codes footer : List ℕ) → parts_by_second w64 bytes ≡ Some (codes, footer)
+    → coded_list bytes ≡ coded_by codes footer
 unfolding coded_list
 coded_list-some bytes codes footer e = rw e refl

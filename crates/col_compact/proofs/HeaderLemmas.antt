@@ -38,7 +38,8 @@ header-spelled bytes rest n b e =
     ∙ ap (λ xs. vint_bytes n ++ xs) (byte_in_front number.1 kind.1 kind.0 p ∙ (λ i. one i ∷ tail i))))
 
 -- what stands behind a header ends with the bytes
-pub header-behind : (bytes rest : List ℕ) (n : ℕ) → IsBytes bytes → header_at bytes ≡ Some (n, rest) → (length rest ≤ length bytes) × (drop (length bytes - length rest) bytes ≡ rest)
+pub header-behind : (bytes rest : List ℕ) (n : ℕ) → IsBytes bytes → header_at bytes ≡ Some (n, rest)
+    → (length rest ≤ length bytes) × (drop (length bytes - length rest) bytes ≡ rest)
 header-behind bytes rest n b e =
     let front = vint_bytes n ++ 1 ∷ [] in
     let spelled : bytes ≡ front ++ rest = header-spelled bytes rest n b e ∙ sym (append_assoc (vint_bytes n) (1 ∷ []) rest) in
@@ -51,9 +52,14 @@ header-behind bytes rest n b e =
 below : (limit a b : ℕ) → a ≤ b → b < limit → is_below limit a ≡ true
 below limit a b h k = lt-ltb a limit (omega arith)
 
-pub numbers-mapped : (xs : List ℕ) (greatest : ℕ) → greatest ≡ greatest_of xs → greatest < 2 ^ 128 → AllMapped (is_below (2 ^ 128)) xs (λ v. v ≡ least_of xs) (λ v. v ≡ greatest_of xs)
+-- numbers whose greatest is below 2 ^ 128 are all below it, and so are their least and their
+-- greatest
+pub numbers-mapped : (xs : List ℕ) (greatest : ℕ) → greatest ≡ greatest_of xs → greatest < 2 ^ 128
+    → AllMapped (is_below (2 ^ 128)) xs (λ v. v ≡ least_of xs) (λ v. v ≡ greatest_of xs)
 numbers-mapped xs greatest e fits = record {
-  each = All-from_recursion (Passes (is_below (2 ^ 128))) xs (all_by (λ x h. below (2 ^ 128) x greatest (omega (arith, h, e)) fits) xs (fold-max 0 xs).1);
+  each =
+      All-from_recursion (Passes (is_below (2 ^ 128))) xs
+      (all_by (λ x h. below (2 ^ 128) x greatest (omega (arith, h, e)) fits) xs (fold-max 0 xs).1);
   least = λ x some is. below (2 ^ 128) x greatest (let h = low xs some in omega (arith, h, is, e)) fits;
   greatest = λ x some is. below (2 ^ 128) x greatest (omega (arith, is, e)) fits;
 }

@@ -1,3 +1,4 @@
+pub mod CodeLemmas
 pub mod SpaceLemmas
 pub mod BuildLemmas
 pub mod SortedLemmas

@@ -17,10 +17,12 @@ has_width n code bits small upto e =
     rw e (omega (arith, above, upto))
 
 -- the next item of a block stands before what is left
-pub block-next : (block left : List ℕ) (n i : ℕ) → i < n → n ≤ length block → drop i (take n block) ++ left ≡ get_or block i 0 ∷ (drop (i + 1) (take n block) ++ left)
+pub block-next : (block left : List ℕ) (n i : ℕ) → i < n → n ≤ length block
+    → drop i (take n block) ++ left ≡ get_or block i 0 ∷ (drop (i + 1) (take n block) ++ left)
 block-next block left n i below room =
     let long : length (take n block) ≡ n = length-take-le n block room in
-    ap (λ ys. ys ++ left) (drop_more (take n block) i 0 (omega (arith, long, below)) ∙ ap (λ x. x ∷ drop (i + 1) (take n block)) (get_or-take n block i 0 below))
+    ap (λ ys. ys ++ left) (drop_more (take n block) i 0 (omega (arith, long, below))
+    ∙ ap (λ x. x ∷ drop (i + 1) (take n block)) (get_or-take n block i 0 below))
 
 -- a block that took nothing, before nothing
 pub block-none : (block left whole : List ℕ) (n : ℕ) → take n block ++ left ≡ whole → left ≡ [] → n ≡ 0 → whole ≡ []
@@ -34,8 +36,10 @@ width-most n = elim (or_cases (nat_le (width n) 56) (width n == 64) (is_width-wi
 ]
 
 -- one code more
-pub packs-more : (f : ℕ → ℕ) (w : ℕ) (found : List ℕ) (x code : ℕ) (held now : Held) (bytes out : List ℕ) → IsPacking [] w (map f found) held bytes → code ≡ f x
-    → bits_of now out ≡ bits_of held bytes + code * 2 ^ count_of held bytes → count_of now out ≡ count_of held bytes + w → AddsBytes bytes out
+pub packs-more : (f : ℕ → ℕ) (w : ℕ) (found : List ℕ) (x code : ℕ) (held now : Held) (bytes out : List ℕ)
+    → IsPacking [] w (map f found) held bytes → code ≡ f x
+    → bits_of now out ≡ bits_of held bytes + code * 2 ^ count_of held bytes
+    → count_of now out ≡ count_of held bytes + w → AddsBytes bytes out
     → IsPacking [] w (map f (found ++ x ∷ [])) now out
 packs-more f w found x code held now bytes out h e bits count adds =
     subst (λ items. IsPacking [] w items now out) (ap (λ c. map f found ++ c ∷ []) e ∙ sym (map-append f found (x ∷ [])))
@@ -45,4 +49,5 @@ packs-more f w found x code held now bytes out h e bits count adds =
 pub packs-all : (f : ℕ → ℕ) (w n : ℕ) (xs : List ℕ) (held : Held) (bytes out : List ℕ) → w ≡ n → IsPacking [] w (map f xs) held bytes
     → number_of 256 out ≡ bits_of held bytes → length out ≡ div_ceil (count_of held bytes) 8 → AddsBytes bytes out
     → out ≡ packed_bytes n (map f xs)
-packs-all f w n xs held bytes out e h bits count adds = IsPacking-close [] w (map f xs) held bytes out h bits count adds ∙ ap (λ v. packed_bytes v (map f xs)) e
+packs-all f w n xs held bytes out e h bits count adds =
+    IsPacking-close [] w (map f xs) held bytes out h bits count adds ∙ ap (λ v. packed_bytes v (map f xs)) e

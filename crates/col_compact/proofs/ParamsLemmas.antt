@@ -21,7 +21,9 @@ head_by l g c w = record { least = l; greatest = g; count = c; code_width = w }
 -- ---- with all tests at the end
 
 abbrev late_ranges : Bool → ℕ → ℕ → ℕ → ℕ → List (ℕ × ℕ) × List ℕ → Option (AddressFooter × List ℕ)
-late_ranges b l g c w rs = only_if (b && (w == width (code_count rs.0)) && (first_start rs.0 == l) && (last_end rs.0 == g)) (footer_by (head_by l g c w) rs.0, rs.1)
+late_ranges b l g c w rs =
+    only_if (b && (w == width (code_count rs.0)) && (first_start rs.0 == l) && (last_end rs.0 == g))
+    (footer_by (head_by l g c w) rs.0, rs.1)
 
 abbrev late_width : Bool → ℕ → ℕ → ℕ → ℕ × List ℕ → Option (AddressFooter × List ℕ)
 late_width z l g c w = ranges_at w.1 >>= late_ranges (z && are_bounds l g c) l g c w.0
@@ -40,6 +42,7 @@ late p = vint_u128 p.1 >>= late_least (are_zeros p.0)
 
 -- ---- with each test where it stands
 
+-- a footer made of its head and ranges, where these fit the head
 abbrev pub with_ranges : Head → List (ℕ × ℕ) × List ℕ → Option (AddressFooter × List ℕ)
 with_ranges h rs = only_if (is_head_of h rs.0) (footer_by h rs.0, rs.1)
 
@@ -85,7 +88,8 @@ none_least (Some l) = none_greatest l.0 (vint_u128 l.1)
 
 -- ---- flags that are 0
 
-same_ranges : (b : Bool) (l g c : ℕ) (w : ℕ × List ℕ) → (ranges_at w.1 >>= late_ranges b l g c w.0) ≡ (only_if b (head_by l g c w.0, w.1) >>= with_head)
+same_ranges : (b : Bool) (l g c : ℕ) (w : ℕ × List ℕ)
+    → (ranges_at w.1 >>= late_ranges b l g c w.0) ≡ (only_if b (head_by l g c w.0, w.1) >>= with_head)
 same_ranges true l g c w = refl
 same_ranges false l g c w = none_ranges false l g c w.0 (ranges_at w.1) refl
 
@@ -122,14 +126,20 @@ footer_is bytes = by_head (front 8 bytes)
 
 -- ---- for a reader
 
+-- bytes without a head are no footer
 pub footer-none : (bytes : List ℕ) → head_at bytes ≡ None → address_footer_at bytes ≡ None
 footer-none bytes e = footer_is bytes ∙ ap (λ o. o >>= with_head) e
 
-pub footer-head : (bytes rest : List ℕ) (h : Head) → head_at bytes ≡ Some (h, rest) → address_footer_at bytes ≡ (ranges_at rest >>= with_ranges h)
+-- bytes with a head are the footer of this and of the ranges behind it
+pub footer-head : (bytes rest : List ℕ) (h : Head) → head_at bytes ≡ Some (h, rest)
+    → address_footer_at bytes ≡ (ranges_at rest >>= with_ranges h)
 footer-head bytes rest h e = footer_is bytes ∙ ap (λ o. o >>= with_head) e
 
-pub footer-other : (bytes rest tail : List ℕ) (h : Head) (rs : List (ℕ × ℕ)) → head_at bytes ≡ Some (h, rest) → ranges_at rest ≡ Some (rs, tail) → is_head_of h rs ≡ false → address_footer_at bytes ≡ None
-footer-other bytes rest tail h rs e f is = footer-head bytes rest h e ∙ ap (λ o. o >>= with_ranges h) f ∙ ap (λ b. only_if b (footer_by h rs, tail)) is
+-- ranges that don't fit the head are no footer
+pub footer-other : (bytes rest tail : List ℕ) (h : Head) (rs : List (ℕ × ℕ)) → head_at bytes ≡ Some (h, rest)
+    → ranges_at rest ≡ Some (rs, tail) → is_head_of h rs ≡ false → address_footer_at bytes ≡ None
+footer-other bytes rest tail h rs e f is =
+    footer-head bytes rest h e ∙ ap (λ o. o >>= with_ranges h) f ∙ ap (λ b. only_if b (footer_by h rs, tail)) is
 
 -- the head says what the ranges say
 record IsHeadOf (h : Head) (rs : List (ℕ × ℕ)) : Type 0 where
@@ -147,11 +157,27 @@ is_head h rs e =
       ends = eqb-true (last_end rs) h.greatest outer.1;
     }
 
-pub count-fits : (h : Head) (rs : List (ℕ × ℕ)) → are_bounds h.least h.greatest h.count ≡ true → is_head_of h rs ≡ true → CountFits rs h.count
-count-fits h rs b e = let is = is_head h rs e in ap (λ l. are_bounds l (last_end rs) h.count) is.starts ∙ ap (λ g. are_bounds h.least g h.count) is.ends ∙ b
+-- ranges that fit a head fit its count, where the head's bounds do
+pub count-fits : (h : Head) (rs : List (ℕ × ℕ)) → are_bounds h.least h.greatest h.count ≡ true
+    → is_head_of h rs ≡ true → CountFits rs h.count
+count-fits h rs b e =
+    let is = is_head h rs e in ap (λ l. are_bounds l (last_end rs) h.count) is.starts ∙ ap
+    (λ g. are_bounds h.least g h.count) is.ends ∙ b
 
-pub footer-some : (bytes rest tail : List ℕ) (h : Head) (rs : List (ℕ × ℕ)) → head_at bytes ≡ Some (h, rest) → ranges_at rest ≡ Some (rs, tail) → is_head_of h rs ≡ true → address_footer_at bytes ≡ Some (footer_of rs h.count (width (code_count rs)), tail)
+-- ranges that fit the head are the footer's, with its count and the width of their codes
+pub footer-some : (bytes rest tail : List ℕ) (h : Head) (rs : List (ℕ × ℕ)) → head_at bytes ≡ Some (h, rest)
+    → ranges_at rest ≡ Some (rs, tail) → is_head_of h rs ≡ true
+    → address_footer_at bytes ≡ Some (footer_of rs h.count (width (code_count rs)), tail)
 footer-some bytes rest tail h rs e f is =
     let s = is_head h rs is in
     footer-head bytes rest h e ∙ ap (λ o. o >>= with_ranges h) f ∙ ap (λ b. only_if b (footer_by h rs, tail)) is
-    ∙ (λ i. Some (record { least = sym s.starts i; greatest = sym s.ends i; count = h.count; code_width = s.width_is i; ranges = rs }, tail))
+    ∙ (λ i. Some (
+      record {
+        least = sym s.starts i;
+        greatest = sym s.ends i;
+        count = h.count;
+        code_width = s.width_is i;
+        ranges = rs;
+      },
+      tail,
+    ))

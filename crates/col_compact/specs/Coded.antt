@@ -37,29 +37,29 @@ coded_list bytes = do
   coded_by parts.0 parts.1
 
 -- a list with just so many codes
-abbrev pub counted : ℕ → Coded → Option Coded
-counted n d = only_if (length d.codes == n) d
+abbrev pub with_codes : ℕ → Coded → Option Coded
+with_codes n d = only_if (length d.codes == n) d
 
 -- the same behind a header, whose count is that of the codes
 unfoldable pub headed_list : List ℕ → Option Coded
 headed_list bytes = do
   header ← header_at bytes
   list ← coded_list header.1
-  counted header.0 list
+  with_codes header.0 list
 
 -- the codes that stand in bytes, by their footer
 abbrev pub coded_in : AddressFooter → List ℕ → Coded
 coded_in f bytes = record { ranges = f.ranges; codes = items bytes f.code_width 0 f.count }
 
 -- the codes that stand in bytes are those of the footer
-abbrev pub AreRead : AddressFooter → List ℕ → Type 0
-AreRead f bytes = are_codes f (items bytes f.code_width 0 f.count) ≡ true
+abbrev pub CodesAreRead : AddressFooter → List ℕ → Type 0
+CodesAreRead f bytes = are_codes f (items bytes f.code_width 0 f.count) ≡ true
 
 -- a reader of codes that are those of a footer, at its width
 pub record IsReader (f : AddressFooter) (bytes : List ℕ) : Type 0 where
   pub width_is : f.code_width ≡ width (code_count f.ranges)
   pub few : code_count f.ranges < 2 ^ 32
-  pub coded : AreRead f bytes
+  pub coded : CodesAreRead f bytes
 
 -- the first bytes of others
 pub record IsFrontOf (front bytes : List ℕ) : Type 0 where

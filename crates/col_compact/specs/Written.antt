@@ -8,7 +8,7 @@ use Rattle.col_common.specs.VInt.{vint_bytes}
 use Rattle.col_common.specs.declared.error.ColumnarError.{ColumnarError}
 use Rattle.col_bits.specs.Packed.{packed_bytes, width}
 use Rattle.col_model.specs.AddressList.{AddressFooter, code_count, values128}
-use Rattle.col_compact.specs.Ranges.{code_of}
+use Rattle.col_compact.specs.Hits.{code_of}
 use Rattle.col_compact.specs.Covers.{Trained}
 use Rattle.col_compact.specs.Params.{footer_of}
 

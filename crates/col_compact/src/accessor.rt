@@ -1,5 +1,5 @@
 //! Codes in place of numbers.
-ghost use Rattle.std.specs.Prelude.{◌≡◌, ◌≤◌};
+ghost use Rattle.std.specs.Prelude.{◌≡◌, ◌≤◌, length, drop};
 ghost use Rattle.col_common.specs.Decoding.{Decodes};
 ghost use Rattle.col_model.specs.Stats.{least_of, greatest_of};
 ghost use Rattle.col_model.specs.AddressList.{code_count, coded_number};
@@ -9,7 +9,7 @@ ghost use Rattle.col_compact.specs.Hits.{hit_at};
 use crate::compact_space::CompactHit;
 use crate::decompressor::CompactSpaceDecompressor;
 use bytes::Bytes;
-use col_common::{ColumnarError, RowId};
+use col_common::{ColumnarError, Iterable, RowId, Walk};
 use col_values::ColumnValues;
 use std::alloc::Global;
 use std::marker::Model;
@@ -97,5 +97,22 @@ impl ColumnValues<u64> for CompactSpaceU64Accessor {
         hits: &mut Vec<RowId>,
     ) -> Result<(), ColumnarError> {
         self.list.get_row_ids_by_codes(low..=high, row_ids, hits)
+    }
+}
+
+impl Iterable<u64> for CompactSpaceU64Accessor {
+    ghost items = { λ list. list.codes };
+
+    ghost stands = { λ list w. w.place ≤ length list.codes };
+
+    ghost left = { λ list w. drop w.place list.codes };
+
+    fn walk(&self) -> Walk {
+        self.iter().walk()
+    }
+
+    #[inline]
+    fn next(&self, at: &mut Walk) -> Option<u64> {
+        self.iter().next(at)
     }
 }

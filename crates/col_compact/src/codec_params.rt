@@ -1,24 +1,21 @@
 //! What stands behind the codes of a list.
-ghost use Rattle.std.specs.Prelude.{◌≡◌, ℕ, List, length, ◌^◌, ◌<◌, ◌≤◌, ◌+◌, ◌&&◌, ◌==◌, option_map, true, IfSome};
+ghost use Rattle.std.specs.Prelude.{◌≡◌, ℕ, List, length, ◌^◌, ◌<◌, ◌≤◌, ◌&&◌, ◌==◌, option_map, true, IfSome};
 ghost use Rattle.col_common.specs.Decoding.{Decodes, DecodesFront};
 ghost use Rattle.col_bits.specs.Packed.{width};
 ghost use Rattle.col_model.specs.AddressList.{address_footer_at, address_footer, are_zeros, are_bounds, code_count, coded_number, first_start, last_end};
 ghost use Rattle.col_compact.specs.Params.{behind_flags, head_at, footer_of, CountFits};
 ghost use Rattle.col_model.specs.Stats.{least_of, greatest_of};
 ghost use Rattle.col_compact.specs.Coded.{are_codes};
-ghost use Rattle.std.specs.Int.{is_in_range};
-ghost use Rattle.std.specs.Range.{range_inclusive_start, range_inclusive_end};
 ghost use Rattle.col_compact.specs.Hits.{hit_at};
 ghost use Rattle.col_compact.specs.Heads.{head_seen};
 
 use crate::compact_space::{CompactHit, CompactSpace};
+use crate::counted_codes::CountedCodes;
 use crate::reading::read_space;
 use col_bits::{BitUnpacker, compute_num_bits};
-use col_common::{ColumnarError, Steps, read_vint_u128};
+use col_common::{ColumnarError, read_vint_u128};
 use std::alloc::Global;
 use std::marker::Model;
-use std::ops::RangeInclusive;
-use std::sync::ledger::Ledger;
 
 // The bytes of the flags, which are all 0.
 const FLAGS_NUM_BYTES: usize = 8;
@@ -89,15 +86,14 @@ impl IPCodecParams {
         self.bit_unpacker
     }
 
-    // Nothing happens; the width of codes, how many there are, and where they begin and end become
-    // known.
-    pub(crate) fn tell(&self)
+    // That codes have the width of their count, how many there are, and where they begin and end.
+    pub(crate) fn codes_have_their_width(&self)
         ensures width { self.now.code_width ≡ width (code_count self.now.ranges) }
         ensures few { code_count self.now.ranges < 2 ^ 32 }
         ensures ends { (codes : List ℕ) → 0 < length codes → are_codes self.now codes ≡ true →
             (least_of codes ≡ 1) × (greatest_of codes ≡ code_count self.now.ranges) }
     {
-        self.compact_space.tell_ends();
+        self.compact_space.codes_end_as_ranges_do();
         let _width = &self.bit_unpacker;
         let _count = self.compact_space.amplitude_compact_space();
     }
@@ -112,23 +108,11 @@ impl IPCodecParams {
         self.compact_space.compact_to_u128(compact)
     }
 
-    // The first and the last code of the numbers from `low` to `high`: a step for each end.
-    pub(crate) fn codes_between<L: Ledger>(
-        &self,
-        low: u128,
-        high: u128,
-        steps: &mut Steps<L>,
-    ) -> RangeInclusive<u64>
-        ensures codes { (k : ℕ) → 1 ≤ k → k ≤ code_count self.now.ranges →
-            is_in_range low high (coded_number self.now.ranges k)
-            ≡ is_in_range (range_inclusive_start result) (range_inclusive_end result) k }
-        ensures steps { steps.new ≡ steps.old + 2 }
+    // The codes of the ranges, each turn of which is a step.
+    pub(crate) fn counted_codes(&self) -> CountedCodes<'_>
+        ensures { result ≡ self.now.ranges }
     {
-        steps.tick();
-        let first = self.compact_space.code_up(low);
-        steps.tick();
-        let past = self.compact_space.code_above(high);
-        first..=past.saturating_sub(1)
+        CountedCodes::new(&self.compact_space)
     }
 
     // The code of a number, else of the next one that a range has.

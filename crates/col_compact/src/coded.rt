@@ -6,7 +6,7 @@ ghost use Rattle.col_common.specs.Reading.{parts_by_second, back};
 ghost use Rattle.col_bits.specs.Packed.{items};
 ghost use Rattle.col_model.specs.Stats.{least_of, greatest_of};
 ghost use Rattle.col_model.specs.AddressList.{code_count};
-ghost use Rattle.col_compact.specs.Coded.{are_codes, coded_by, coded_list, coded_in, AreRead, IsFrontOf};
+ghost use Rattle.col_compact.specs.Coded.{are_codes, coded_by, coded_list, coded_in, CodesAreRead, IsFrontOf};
 
 use crate::codec_params::{IPCodecParams, read_footer};
 use crate::compact_space::CompactSpace;
@@ -26,7 +26,7 @@ pub(crate) fn read_list(
     bytes: &[u8],
 ) -> Result<(IPCodecParams, usize), ColumnarError>
     ensures list { Decodes (λ r. coded_in r.0 (take r.1 bytes.now)) result (coded_list bytes.now) }
-    ensures coded { IfOk result (λ r. AreRead r.0 (take r.1 bytes.now)) }
+    ensures coded { IfOk result (λ r. CodesAreRead r.0 (take r.1 bytes.now)) }
     ensures within { IfOk result (λ r. r.1 ≤ length bytes.now) }
 {
     let Some((codes, footer)) = cut_parts(bytes) else {
@@ -39,7 +39,7 @@ pub(crate) fn read_list(
 fn read_codes(alloc: Global, codes: &[u8], footer: &[u8]) -> Result<IPCodecParams, ColumnarError>
     ensures list { Decodes (λ params. coded_in params codes.now) result
         (coded_by codes.now footer.now) }
-    ensures coded { IfOk result (λ params. AreRead params codes.now) }
+    ensures coded { IfOk result (λ params. CodesAreRead params codes.now) }
 {
     let params = read_footer(alloc, footer)?;
     let num_bits = params.bit_unpacker().bit_width() as usize;
@@ -122,8 +122,9 @@ impl CompactSpace {
     ghost use Rattle.std.specs.List.{list_all};
     ghost use Rattle.col_model.specs.AddressList.{coded_number, first_start, last_end};
 
-    // Nothing happens; where numbers begin and end where the ranges do becomes known of codes.
-    pub(crate) fn tell_ends(&self)
+    // That codes begin with 1 and end with their count, where their numbers begin and end as the
+    // ranges do.
+    pub(crate) fn codes_end_as_ranges_do(&self)
         ensures { (codes : List ℕ) → 0 < length codes →
             (list_all (is_in_range 1 (code_count self.now)) codes
             && (least_of (map (coded_number self.now) codes) == first_start self.now)

@@ -1,5 +1,7 @@
 //! Lists of numbers, read in place behind their codes.
-ghost use Rattle.std.specs.Prelude.{◌≡◌, ℕ, ◌<◌, ◌≤◌, ◌+◌, length, slice_get, Some, true};
+ghost use Rattle.std.specs.Prelude.{◌≡◌, ℕ, ◌<◌, ◌≤◌, ◌+◌, length, drop, slice_get, Some, true};
+ghost use Rattle.std.specs.Int.{is_in_range};
+ghost use Rattle.std.specs.List.{list_all};
 ghost use Rattle.std.specs.Range.{range_inclusive_start, range_inclusive_end};
 ghost use Rattle.col_common.specs.Ascending.{is_rising};
 ghost use Rattle.col_common.specs.Decoding.{Decodes};
@@ -14,8 +16,9 @@ ghost use Rattle.col_compact.specs.Hits.{hit_at};
 use crate::codec_params::IPCodecParams;
 use crate::coded::read_list;
 use crate::compact_space::CompactHit;
+use crate::packed_codes::{PackedCodes, find_numbers};
 use bytes::Bytes;
-use col_common::{ColumnarError, RowId, Steps};
+use col_common::{ColumnarError, Iterable, RowId, Steps, Walk};
 use col_values::ColumnValues;
 use std::alloc::Global;
 use std::marker::{Brand, Model};
@@ -47,7 +50,7 @@ impl CompactSpaceDecompressor {
         ensures numbers { Decodes numbers_of result (coded_values bytes) }
     {
         let (params, len) = read_list(alloc, bytes.as_slice())?;
-        params.tell();
+        params.codes_have_their_width();
         let mut data = bytes;
         data.truncate(len);
         Ok(CompactSpaceDecompressor { data, params })
@@ -100,7 +103,7 @@ impl CompactSpaceDecompressor {
         ensures least { result.0 ≡ least_of self.now.codes }
         ensures greatest { result.1 ≡ greatest_of self.now.codes }
     {
-        self.params.tell();
+        self.params.codes_have_their_width();
         if self.params.num_vals() == 0 {
             return (0, 0);
         }
@@ -131,7 +134,7 @@ impl CompactSpaceDecompressor {
     }
 
     /// The positions in a range whose numbers are from the first to the last, ascending. Both ends
-    /// become codes, each by a step, and no number is decoded.
+    /// become codes, each by a step.
     pub fn get_row_ids_counted<L: Ledger>(
         &self,
         value_range: RangeInclusive<u128>,
@@ -146,8 +149,16 @@ impl CompactSpaceDecompressor {
         ensures steps { steps.new ≤ steps.old + 2 }
     {
         let (low, high) = value_range.into_inner();
-        let codes = self.params.codes_between(low, high, steps);
-        self.get_row_ids_by_codes(codes, row_ids, hits)
+        let codes = self.params.counted_codes();
+        find_numbers(
+            &self.packed_codes(),
+            &codes,
+            low,
+            high,
+            row_ids,
+            hits,
+            steps,
+        )
     }
 
     // The same by codes.
@@ -162,13 +173,20 @@ impl CompactSpaceDecompressor {
             (range_inclusive_end codes) row_ids.start row_ids.end) }
         ensures rises { is_rising hits.new.items ≡ true }
     {
-        let end = row_ids.end.min(self.params.num_vals());
-        let unpacker = self.params.bit_unpacker();
-        let data = self.data.as_slice();
-        match unpacker.get_ids_for_value_range(codes, row_ids.start..end, data, hits) {
-            Ok(()) => Ok(()),
-            Err(_) => Err(ColumnarError::OutOfMemory),
-        }
+        self.packed_codes().find(codes, row_ids, hits)
+    }
+
+    // The packed codes of the numbers.
+    fn packed_codes(&self) -> PackedCodes<'_>
+        ensures value { result ≡ self.now.codes }
+        ensures codes { list_all (is_in_range 1 (code_count self.now.ranges)) self.now.codes
+            ≡ true }
+    {
+        PackedCodes::new(
+            self.params.bit_unpacker(),
+            self.data.as_slice(),
+            self.params.num_vals(),
+        )
     }
 }
 
@@ -223,5 +241,22 @@ impl ColumnValues<u128> for CompactSpaceDecompressor {
         hits: &mut Vec<RowId>,
     ) -> Result<(), ColumnarError> {
         find_row_ids::<Brand>(self, low..=high, row_ids, hits, Blank::new(1))
+    }
+}
+
+impl Iterable<u128> for CompactSpaceDecompressor {
+    ghost items = { numbers_of };
+
+    ghost stands = { λ list w. w.place ≤ length (numbers_of list) };
+
+    ghost left = { λ list w. drop w.place (numbers_of list) };
+
+    fn walk(&self) -> Walk {
+        self.iter().walk()
+    }
+
+    #[inline]
+    fn next(&self, at: &mut Walk) -> Option<u128> {
+        self.iter().next(at)
     }
 }

@@ -1,5 +1,8 @@
 //! Ranges as a space keeps them.
 ghost use Rattle.std.specs.Prelude.{◌≡◌, ◌-◌, ◌<◌, ◌≤◌, ◌^◌};
+ghost use Rattle.std.proofs.Common.{rules};
+ghost use Rattle.std.specs.Cmp.Rules.{comparing};
+ghost use Rattle.std.specs.Ordering.{on};
 
 use crate::compact_space::RangeMapping;
 use std::marker::Model;
@@ -79,5 +82,18 @@ impl KeptRange {
     /// The code of its last number, as far as one has 32 bits. No promise is made of it.
     pub(crate) fn last_code(&self) -> u32 {
         self.compact_start.saturating_add(self.span)
+    }
+}
+
+// Ranges are equal where their numbers are.
+impl PartialEq for KeptRange {
+    ghost use Rattle.col_compact.specs.Mapped.{range_of, same_range};
+
+    ghost eq = { on range_of same_range };
+
+    ghost laws = { Prim.search (comparing, rules) };
+
+    fn eq(&self, other: &KeptRange) -> bool {
+        self.start() == other.start() && self.get().end == other.get().end
     }
 }

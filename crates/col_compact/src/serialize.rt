@@ -7,7 +7,7 @@ ghost use Rattle.col_compact.specs.Covers.{IsTooLarge};
 ghost use Rattle.col_compact.specs.Written.{SerializesList};
 
 use crate::CompactSpaceCompressor;
-use col_common::{ColumnarError, Iterable, Sink, VInt, Walk, serialize_bytes};
+use col_common::{ColumnarError, Iterable, Sink, Walk};
 use col_values::MonotonicallyMappableToU128;
 use std::alloc::Global;
 use std::marker::PhantomData;

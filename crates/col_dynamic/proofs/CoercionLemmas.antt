@@ -28,7 +28,8 @@ all-append : {A : Type 0} (p : A → Bool) (xs ys : List A) → list_all p (xs +
 all-append p [] ys = refl
 all-append p (x ∷ xs) ys = by (p x) (all-append p xs ys)
   where
-    by : (b : Bool) → list_all p (xs ++ ys) ≡ (list_all p xs && list_all p ys) → (b && list_all p (xs ++ ys)) ≡ ((b && list_all p xs) && list_all p ys)
+    by : (b : Bool) → list_all p (xs ++ ys) ≡ (list_all p xs && list_all p ys)
+        → (b && list_all p (xs ++ ys)) ≡ ((b && list_all p xs) && list_all p ys)
     by true e = e
     by false e = refl
 
@@ -40,7 +41,8 @@ all-map p f [] = refl
 all-map p f (x ∷ xs) = ap (λ b. p (f x) && b) (all-map p f xs)
 
 -- a test of all cells of rows that have all values
-all-cut : {T : Type 0} (p : Cell → Bool) (cell : T → Cell) (cs : List ℕ) (xs : List T) → sum cs ≡ length xs → list_all (list_all p) (map (map cell) (cut cs xs)) ≡ list_all (λ x. p (cell x)) xs
+all-cut : {T : Type 0} (p : Cell → Bool) (cell : T → Cell) (cs : List ℕ) (xs : List T) → sum cs ≡ length xs
+    → list_all (list_all p) (map (map cell) (cut cs xs)) ≡ list_all (λ x. p (cell x)) xs
 unfolding cut
 all-cut p cell [] [] e = refl
 all-cut p cell [] (x ∷ xs) e = absurd (omega arith)
@@ -56,7 +58,9 @@ sum-counts full_shape xs any = sum_by-replicate (λ c. c) (length xs) 1 ∙ omeg
 sum-counts (optional_shape cs) xs all = all
 sum-counts (multivalued_shape cs) xs all = all
 
-pub all-rows : {T : Type 0} (p : Cell → Bool) (cell : T → Cell) (s : Shape) (xs : List T) → IsCounted s (length xs) → list_all (list_all p) (map (map cell) (rows_by s xs)) ≡ list_all (λ x. p (cell x)) xs
+-- a test that the cells of all rows pass is one that the values pass
+pub all-rows : {T : Type 0} (p : Cell → Bool) (cell : T → Cell) (s : Shape) (xs : List T) → IsCounted s (length xs)
+    → list_all (list_all p) (map (map cell) (rows_by s xs)) ≡ list_all (λ x. p (cell x)) xs
 unfolding rows_by
 all-rows p cell s xs counted = all-cut p cell (counts_by s (length xs)) xs (sum-counts s xs counted)
 
@@ -71,10 +75,14 @@ unsigned-is n = grind (arith, ints, nat_tests)
 unsigned-all : (xs : List ℕ) → All (Passes (is_below (2 ^ 64))) xs → list_all (λ n. is_of types.u64 (unsigned_cell n)) xs ≡ true
 unsigned-all xs h = ap (λ p. list_all p xs) (λ i n. unsigned-is n i) ∙ list_all-from_AllPass (is_below (2 ^ 64)) xs h
 
-pub own_i64 : (s : Shape) (xs : List ℤ) → IsCounted s (length xs) → All (Passes is_i64) xs → fits_type types.i64 types.i64 (content_seen [] number s xs) ≡ true
+-- a column of signed numbers of 64 bits fits i64
+pub own_i64 : (s : Shape) (xs : List ℤ) → IsCounted s (length xs) → All (Passes is_i64) xs
+    → fits_type types.i64 types.i64 (content_seen [] number s xs) ≡ true
 own_i64 s xs counted all = all-rows (is_of types.i64) number s xs counted ∙ signed-all xs all
 
-pub own_u64 : (s : Shape) (xs : List ℕ) → IsCounted s (length xs) → All (Passes (is_below (2 ^ 64))) xs → fits_type types.u64 types.u64 (content_seen [] unsigned_cell s xs) ≡ true
+-- a column of numbers below 2 ^ 64 fits u64
+pub own_u64 : (s : Shape) (xs : List ℕ) → IsCounted s (length xs) → All (Passes (is_below (2 ^ 64))) xs
+    → fits_type types.u64 types.u64 (content_seen [] unsigned_cell s xs) ≡ true
 own_u64 s xs counted all = all-rows (is_of types.u64) unsigned_cell s xs counted ∙ unsigned-all xs all
 
 -- ---- numbers of the other type
@@ -82,11 +90,14 @@ own_u64 s xs counted all = all-rows (is_of types.u64) unsigned_cell s xs counted
 fits-is : (n : ℕ) → is_of types.i64 (unsigned_cell n) ≡ fits_i64 n
 fits-is n = grind (arith, ints, nat_tests)
 
-pub other_i64 : (s : Shape) (xs : List ℕ) → IsCounted s (length xs) → fits_type types.i64 types.u64 (content_seen [] unsigned_cell s xs) ≡ list_all fits_i64 xs
+-- a column of u64 fits i64 where each of its numbers does
+pub other_i64 : (s : Shape) (xs : List ℕ) → IsCounted s (length xs)
+    → fits_type types.i64 types.u64 (content_seen [] unsigned_cell s xs) ≡ list_all fits_i64 xs
 other_i64 s xs counted = all-rows (is_of types.i64) unsigned_cell s xs counted ∙ ap (λ p. list_all p xs) (λ i n. fits-is n i)
 
 -- ---- the same numbers under another type
 
+-- rows that are mapped twice are mapped by both in one
 pub maps : {A B C : Type 0} (g : B → C) (f : A → B) (rows : List (List A)) → map (map g) (map (map f) rows) ≡ map (map (λ x. g (f x))) rows
 maps g f [] = refl
 maps g f (row ∷ rows) = ap₂ (λ a b. a ∷ b) (map-map g f row) (maps g f rows)
@@ -96,7 +107,8 @@ seen_signed : (s : Shape) (ys : List ℕ) → content_seen [] number s (map pos 
 unfolding rows_by
 seen_signed s ys =
     let long : counts_by s (length (map pos ys)) ≡ counts_by s (length ys) = ap (counts_by s) (length-map ys pos) in
-    let rows : map (map number) (cut (counts_by s (length (map pos ys))) (map pos ys)) ≡ map (map unsigned_cell) (cut (counts_by s (length ys)) ys) =
+    let rows : map (map number) (cut (counts_by s (length (map pos ys))) (map pos ys)) ≡ map (map unsigned_cell)
+    (cut (counts_by s (length ys)) ys) =
     ap (λ cs. map (map number) (cut cs (map pos ys))) long
     ∙ ap (map (map number)) (cut-map pos (counts_by s (length ys)) ys)
     ∙ maps number pos (cut (counts_by s (length ys)) ys)
@@ -108,12 +120,16 @@ is_some-map f None = refl
 is_some-map f (Some x) = refl
 
 -- an answer is there exactly where the values are
-pub there : {D V B : Type 0} (view : D → Content) (g : V → Content) (list : V → List B) (r : Option D) (o : Option V) (b : Bool) (ys : List B) → option_map view r ≡ option_map g o → option_map list o ≡ only_if b ys → is_some r ≡ b
+pub there : {D V B : Type 0} (view : D → Content) (g : V → Content) (list : V → List B) (r : Option D)
+    (o : Option V) (b : Bool) (ys : List B) → option_map view r ≡ option_map g o → option_map list o ≡ only_if b ys
+    → is_some r ≡ b
 there view g list r o b ys seen made =
     sym (is_some-map view r) ∙ ap is_some seen ∙ is_some-map g o ∙ sym (is_some-map list o) ∙ ap is_some made ∙ is_some-only_if b ys
 
 -- and then it has the same cells
-pub as_signed : {D V : Type 0} (view : D → Content) (list : V → List ℤ) (r : Option D) (o : Option V) (s : Shape) (xs : List ℕ) (b : Bool) → option_map view r ≡ option_map (λ v. content_seen [] number s (list v)) o → option_map list o ≡ only_if b (map pos xs) → IfSome r (λ d. view d ≡ content_seen [] unsigned_cell s xs)
+pub as_signed : {D V : Type 0} (view : D → Content) (list : V → List ℤ) (r : Option D) (o : Option V) (s : Shape)
+    (xs : List ℕ) (b : Bool) → option_map view r ≡ option_map (λ v. content_seen [] number s (list v)) o
+    → option_map list o ≡ only_if b (map pos xs) → IfSome r (λ d. view d ≡ content_seen [] unsigned_cell s xs)
 as_signed view list None o s xs b seen made = tt
 as_signed view list (Some d) None s xs b seen made = cc
 as_signed view list (Some d) (Some v) s xs false seen made = cc
@@ -138,10 +154,16 @@ all-fit (z ∷ xs) h =
     let p = and_parts (is_i64 z) (list_all is_i64 xs) h in
     ap₂ (λ a b. a && b) (fits-u64 z p.0) (all-fit xs p.1)
 
-pub other_u64 : (s : Shape) (xs : List ℤ) → IsCounted s (length xs) → All (Passes is_i64) xs → fits_type types.u64 types.i64 (content_seen [] number s xs) ≡ list_all is_not_negative xs
+-- a column of i64 fits u64 where none of its numbers is negative
+pub other_u64 : (s : Shape) (xs : List ℤ) → IsCounted s (length xs) → All (Passes is_i64) xs
+    → fits_type types.u64 types.i64 (content_seen [] number s xs) ≡ list_all is_not_negative xs
 other_u64 s xs counted each = all-rows (is_of types.u64) number s xs counted ∙ all-fit xs (list_all-from_AllPass is_i64 xs each)
 
-pub as_unsigned : {D V : Type 0} (view : D → Content) (list : V → List ℕ) (r : Option D) (o : Option V) (s : Shape) (xs : List ℤ) (b : Bool) → list_all is_not_negative xs ≡ b → option_map view r ≡ option_map (λ v. content_seen [] unsigned_cell s (list v)) o → option_map list o ≡ only_if b (map nat_abs xs) → IfSome r (λ d. view d ≡ content_seen [] number s xs)
+-- a column of i64 that is seen as u64 holds the same cells
+pub as_unsigned : {D V : Type 0} (view : D → Content) (list : V → List ℕ) (r : Option D) (o : Option V) (s : Shape)
+    (xs : List ℤ) (b : Bool) → list_all is_not_negative xs ≡ b
+    → option_map view r ≡ option_map (λ v. content_seen [] unsigned_cell s (list v)) o
+    → option_map list o ≡ only_if b (map nat_abs xs) → IfSome r (λ d. view d ≡ content_seen [] number s xs)
 as_unsigned view list None o s xs b all seen made = tt
 as_unsigned view list (Some d) None s xs b all seen made = cc
 as_unsigned view list (Some d) (Some v) s xs false all seen made = cc
@@ -152,7 +174,10 @@ as_unsigned view list (Some d) (Some v) s xs true all seen made =
     ∙ ap (content_seen [] number s) (back xs all)
 
 -- the index counts the numbers as it counted the others
-pub still_counted : {A B V : Type 0} (list : V → List B) (o : Option V) (s : Shape) (f : A → B) (xs : List A) (b : Bool) → IsCounted s (length xs) → option_map list o ≡ only_if b (map f xs) → IfSome o (λ v. IsCounted s (length (list v)))
+pub still_counted :
+    {A B V : Type 0} (list : V → List B) (o : Option V) (s : Shape) (f : A → B) (xs : List A) (b : Bool)
+    → IsCounted s (length xs) → option_map list o ≡ only_if b (map f xs)
+    → IfSome o (λ v. IsCounted s (length (list v)))
 still_counted list None s f xs b counted made = tt
 still_counted list (Some v) s f xs false counted made = cc
 still_counted list (Some v) s f xs true counted made =

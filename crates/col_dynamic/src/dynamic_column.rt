@@ -307,7 +307,7 @@ fn i64_column(column: NumColumn<i64>) -> DynamicColumn
     ensures fits { fits_type types.i64 types.i64 (content_of (columns.I64 column)) ≡ true }
 {
     let (index, values) = column.into_parts();
-    values.tell();
+    values.values_are_in_type();
     DynamicColumn::I64(Column::new(index, values))
 }
 
@@ -317,7 +317,7 @@ fn u64_column(column: NumColumn<u64>) -> DynamicColumn
     ensures fits { fits_type types.u64 types.u64 (content_of (columns.U64 column)) ≡ true }
 {
     let (index, values) = column.into_parts();
-    values.tell();
+    values.values_are_in_type();
     DynamicColumn::U64(Column::new(index, values))
 }
 
@@ -340,7 +340,7 @@ fn u64_column_of(column: NumColumn<i64>) -> Option<DynamicColumn>
     ensures kind { IfSome result (λ c. type_of c ≡ types.u64) }
 {
     let (index, values) = column.into_parts();
-    values.tell();
+    values.values_are_in_type();
     with_u64_values(index, coerce_to_u64(values))
 }
 

@@ -1,17 +1,16 @@
 -- The end of a file, part by part.
-use Rattle.std.proofs.Common.{◌≡◌, ℕ, ◌+◌, ◌-◌, ◌<◌, ◌≤◌, ◌==◌, Bool, true, false, List, length, take, drop, slice_range, map, Option, Some, None, Result, Ok, Err, IfSome, IfOk, refl, sym, ap, ◌∙◌, subst, arith}
+use Rattle.std.proofs.Common.{◌≡◌, ℕ, ◌+◌, ◌-◌, ◌<◌, ◌≤◌, ◌==◌, Bool, true, false, List, length, take, drop, slice_range, Option, Some, None, Result, Ok, Err, IfSome, IfOk, refl, sym, ap, ◌∙◌, subst, arith}
 use Rattle.std.specs.List.{AllByRecursion}
 use Rattle.std.proofs.lemmas.Bool.{le-leb, lt-leb, eqb-true}
 use Rattle.std.proofs.lemmas.List.{length-take, length-take-le, length-drop, take_all, drop-take}
 use Rattle.std.proofs.lemmas.Option.{same_Some}
-use Rattle.col_common.specs.Reading.{◌>>=◌, only_if, back, nothing_left, items}
+use Rattle.col_common.specs.Reading.{◌>>=◌, only_if, back}
 use Rattle.col_common.specs.Decoding.{Decodes}
 use Rattle.col_common.specs.declared.error.ColumnarError.{ColumnarError}
 use Rattle.col_common.specs.declared.error.ColumnarError.TheVariants.{OutOfMemory, InvalidData}
-use Rattle.col_common.specs.VInt.{vint}
-use Rattle.col_model.specs.Keys.{Key, FileFooter, FileKeys, are_keys, entries_from, file_footer, key_table, keyed_length, keys, total_length}
+use Rattle.col_model.specs.Keys.{Key, FileFooter, FileKeys, entries_from, file_footer, key_table, keys, total_length}
 use Rattle.col_file.specs.Ends.{keys_found, keys_behind}
-use Rattle.col_file.specs.Files.{SeenFile, IsExpected, Answers}
+use Rattle.col_file.specs.Files.{SeenFile, IsExpected, AnswersForHandle}
 use Rattle.col_file.specs.Readers.{IsWithin}
 use Rattle.col_file.proofs.PlaceLemmas.{within-entries}
 
@@ -54,7 +53,12 @@ module _ (bytes : List ℕ) (n m : ℕ) (long : n + 20 ≡ length bytes) (end_ :
   module _ (f : FileFooter) (read : file_footer (slice_range bytes n m) ≡ Some f) where
     pub no_table : n < f.table_length → keys bytes ≡ None
     unfolding keys
-    no_table h = rw (back-is 20 n bytes long, footed (Some f) read, back-none f.table_length (take n bytes) (omega (arith, length-take n bytes))) refl
+    no_table h =
+        rw (
+          back-is 20 n bytes long,
+          footed (Some f) read,
+          back-none f.table_length (take n bytes) (omega (arith, length-take n bytes)),
+        ) refl
 
     pub keys-read : (b : ℕ) → b + f.table_length ≡ n → keys bytes ≡ keys_behind f b (slice_range bytes b n)
     unfolding keys
@@ -62,34 +66,28 @@ module _ (bytes : List ℕ) (n m : ℕ) (long : n + 20 ≡ length bytes) (end_ :
         let front : length (take n bytes) ≡ n = length-take-le n bytes (omega arith) in
         let body : length (take b (take n bytes)) ≡ b = length-take-le b (take n bytes) (omega arith) in
         let cut : b + f.table_length ≡ length (take n bytes) = omega arith in
-        rw (back-is 20 n bytes long, footed (Some f) read, back-is f.table_length b (take n bytes) cut, range-take b f.table_length n bytes e)
+        rw (
+          back-is 20 n bytes long,
+          footed (Some f) read,
+          back-is f.table_length b (take n bytes) cut,
+          range-take b f.table_length n bytes e,
+        )
         (ap (λ k. key_table (slice_range bytes b n) >>= keys_found f k) body)
 
 -- ---- what a key table gives
 
-pub table-keys : (table : List ℕ) (found : List (Key × ℕ)) → key_table table ≡ Some found → are_keys (map (λ p. p.0) found) ≡ true
-unfolding key_table
-table-keys table found e = with_count (vint table) e
-  where
-    tested : (ks : List (Key × ℕ)) (t : Bool) → are_keys (map (λ p. p.0) ks) ≡ t → only_if t ks ≡ Some found → are_keys (map (λ p. p.0) found) ≡ true
-    tested ks true all h = subst (λ (ps : List (Key × ℕ)). are_keys (map (λ p. p.0) ps) ≡ true) (same_Some ks found h) all
-    tested ks false all h = cc
-
-    with_found : (o : Option (List (Key × ℕ))) → (o >>= λ ks. only_if (are_keys (map (λ p. p.0) ks)) ks) ≡ Some found → are_keys (map (λ p. p.0) found) ≡ true
-    with_found None h = cc
-    with_found (Some ks) h = tested ks (are_keys (map (λ p. p.0) ks)) refl h
-
-    with_count : (o : Option (ℕ × List ℕ)) → (o >>= λ n. (items keyed_length n.0 n.1 >>= nothing_left) >>= λ ks. only_if (are_keys (map (λ p. p.0) ks)) ks) ≡ Some found → are_keys (map (λ p. p.0) found) ≡ true
-    with_count None h = cc
-    with_count (Some n) h = with_found (items keyed_length n.0 n.1 >>= nothing_left) h
-
-pub found-within : (f : FileFooter) (b size : ℕ) (table : List ℕ) (k : FileKeys) → b ≤ size → keys_behind f b table ≡ Some k → AllByRecursion (IsWithin size) k.entries
+pub found-within : (f : FileFooter) (b size : ℕ) (table : List ℕ) (k : FileKeys) → b ≤ size
+    → keys_behind f b table ≡ Some k → AllByRecursion (IsWithin size) k.entries
 found-within f b size table k h e = with_table (key_table table) e
   where
-    tested : (ps : List (Key × ℕ)) (t : Bool) → (total_length ps == b) ≡ t → only_if {A = FileKeys} t (record { row_count = f.row_count; version = f.version; entries = entries_from 0 ps }) ≡ Some k → AllByRecursion (IsWithin size) k.entries
+    tested : (ps : List (Key × ℕ)) (t : Bool) → (total_length ps == b) ≡ t
+        → only_if {A = FileKeys} t
+        (record { row_count = f.row_count; version = f.version; entries = entries_from 0 ps }) ≡ Some k
+        → AllByRecursion (IsWithin size) k.entries
     tested ps true all g =
         let same : total_length ps ≡ b = eqb-true (total_length ps) b all in
-        subst (λ (j : FileKeys). AllByRecursion (IsWithin size) j.entries) (same_Some {A = FileKeys} _ k g) (within-entries 0 size ps (omega arith))
+        subst (λ (j : FileKeys). AllByRecursion (IsWithin size) j.entries) (same_Some {A = FileKeys} _ k g)
+        (within-entries 0 size ps (omega arith))
     tested ps false all g = cc
 
     with_table : (o : Option (List (Key × ℕ))) → (o >>= keys_found f b) ≡ Some k → AllByRecursion (IsWithin size) k.entries
@@ -99,6 +97,7 @@ found-within f b size table k h e = with_table (key_table table) e
 -- ---- the same where a file tells its bytes
 
 module _ (told : Option (List ℕ)) (size : ℕ) (whole : IfSome told (λ bytes. length bytes ≡ size)) where
+  -- a file of fewer than 20 bytes has no keys
   pub told-too_short : size < 20 → IfSome told (λ bytes. keys bytes ≡ None)
   told-too_short h = at told whole
     where
@@ -106,41 +105,54 @@ module _ (told : Option (List ℕ)) (size : ℕ) (whole : IfSome told (λ bytes.
       at None w = tt
       at (Some bytes) w = too_short bytes (omega arith)
 
-  module _ (n m : ℕ) (footer : List ℕ) (long : n + 20 ≡ size) (end_ : m ≡ size) (part : IfSome told (λ bytes. footer ≡ slice_range bytes n m)) where
+  module _ (n m : ℕ) (footer : List ℕ) (long : n + 20 ≡ size) (end_ : m ≡ size)
+      (part : IfSome told (λ bytes. footer ≡ slice_range bytes n m)) where
+    -- a file whose last bytes are no footer has no keys
     pub told-no_footer : file_footer footer ≡ None → IfSome told (λ bytes. keys bytes ≡ None)
     told-no_footer e = at told whole part
       where
-        at : (o : Option (List ℕ)) → IfSome o (λ bytes. length bytes ≡ size) → IfSome o (λ bytes. footer ≡ slice_range bytes n m) → IfSome o (λ bytes. keys bytes ≡ None)
+        at : (o : Option (List ℕ)) → IfSome o (λ bytes. length bytes ≡ size)
+            → IfSome o (λ bytes. footer ≡ slice_range bytes n m) → IfSome o (λ bytes. keys bytes ≡ None)
         at None w p = tt
         at (Some bytes) w p = no_footer bytes n m (omega arith) (omega arith) (ap file_footer (sym p) ∙ e)
 
     module _ (f : FileFooter) (read : file_footer footer ≡ Some f) where
+      -- a file that is shorter than the table that its footer tells has no keys
       pub told-no_table : n < f.table_length → IfSome told (λ bytes. keys bytes ≡ None)
       told-no_table h = at told whole part
         where
-          at : (o : Option (List ℕ)) → IfSome o (λ bytes. length bytes ≡ size) → IfSome o (λ bytes. footer ≡ slice_range bytes n m) → IfSome o (λ bytes. keys bytes ≡ None)
+          at : (o : Option (List ℕ)) → IfSome o (λ bytes. length bytes ≡ size)
+              → IfSome o (λ bytes. footer ≡ slice_range bytes n m) → IfSome o (λ bytes. keys bytes ≡ None)
           at None w p = tt
           at (Some bytes) w p = no_table bytes n m (omega arith) (omega arith) f (ap file_footer (sym p) ∙ read) h
 
       -- what the end says is what stands behind the columns
-      pub told-read : (b : ℕ) (table : List ℕ) → b + f.table_length ≡ n → IfSome told (λ bytes. table ≡ slice_range bytes b n) → IfSome told (λ bytes. keys bytes ≡ keys_behind f b table)
+      pub told-read : (b : ℕ) (table : List ℕ) → b + f.table_length ≡ n
+          → IfSome told (λ bytes. table ≡ slice_range bytes b n)
+          → IfSome told (λ bytes. keys bytes ≡ keys_behind f b table)
       told-read b table e tabled = at told whole part tabled
         where
-          at : (o : Option (List ℕ)) → IfSome o (λ bytes. length bytes ≡ size) → IfSome o (λ bytes. footer ≡ slice_range bytes n m) → IfSome o (λ bytes. table ≡ slice_range bytes b n) → IfSome o (λ bytes. keys bytes ≡ keys_behind f b table)
+          at : (o : Option (List ℕ)) → IfSome o (λ bytes. length bytes ≡ size)
+              → IfSome o (λ bytes. footer ≡ slice_range bytes n m)
+              → IfSome o (λ bytes. table ≡ slice_range bytes b n)
+              → IfSome o (λ bytes. keys bytes ≡ keys_behind f b table)
           at None w p t = tt
           at (Some bytes) w p t =
               keys-read bytes n m (omega arith) (omega arith) f (ap file_footer (sym p) ∙ read) b e
               ∙ ap (keys_behind f b) (sym t)
 
 -- an answer of the keys that are expected
-pub answers-keys : (old new : SeenFile) (o : Option FileKeys) (r : Result FileKeys ColumnarError) → IfSome old.told (λ bytes. keys bytes ≡ o) → Decodes (λ k. k) r o → Answers (λ (expected k : FileKeys). k ≡ expected) old new r keys
+pub answers-keys : (old new : SeenFile) (o : Option FileKeys) (r : Result FileKeys ColumnarError)
+    → IfSome old.told (λ bytes. keys bytes ≡ o) → Decodes (λ k. k) r o
+    → AnswersForHandle (λ (expected k : FileKeys). k ≡ expected) old new r keys
 answers-keys old new o (Ok k) told d = at old.told told
   where
     expected : (p q : Option FileKeys) → p ≡ q → q ≡ Some k → IsExpected (λ (expected k : FileKeys). k ≡ expected) k p
     expected None q e f = cc
     expected (Some j) q e f = sym (same_Some j k (e ∙ f))
 
-    at : (t : Option (List ℕ)) → IfSome t (λ bytes. keys bytes ≡ o) → IfSome t (λ bytes. IsExpected (λ (expected k : FileKeys). k ≡ expected) k (keys bytes))
+    at : (t : Option (List ℕ)) → IfSome t (λ bytes. keys bytes ≡ o)
+        → IfSome t (λ bytes. IsExpected (λ (expected k : FileKeys). k ≡ expected) k (keys bytes))
     at None h = tt
     at (Some bytes) h = expected (keys bytes) o h d
 answers-keys old new o (Err OutOfMemory) told d = tt
@@ -152,7 +164,8 @@ answers-keys old new o (Err InvalidData) told d = at old.told told
 answers-keys old new o (Err _) told d = absurd d
 
 -- the entries that were found are among the bytes
-pub answer-within : (f : FileFooter) (b size : ℕ) (table : List ℕ) (r : Result FileKeys ColumnarError) → b ≤ size → Decodes (λ k. k) r (keys_behind f b table) → IfOk r (λ k. AllByRecursion (IsWithin size) k.entries)
+pub answer-within : (f : FileFooter) (b size : ℕ) (table : List ℕ) (r : Result FileKeys ColumnarError) → b ≤ size
+    → Decodes (λ k. k) r (keys_behind f b table) → IfOk r (λ k. AllByRecursion (IsWithin size) k.entries)
 answer-within f b size table (Ok k) h d = found-within f b size table k h d
 answer-within f b size table (Err e) h d = tt
 

@@ -11,7 +11,8 @@ take-next [] n x e = cc
 take-next (y ∷ xs) zero x e = ap (λ z. z ∷ []) (same_Some y x e)
 take-next (y ∷ xs) (suc n) x e = ap (λ ys. y ∷ ys) (take-next xs n x e)
 
-pub range-next : {A : Type 0} (xs : List A) (start at next : ℕ) (x : A) → start ≤ at → next ≡ at + 1 → slice_get xs at ≡ Some x → slice_range xs start next ≡ slice_range xs start at ++ x ∷ []
+pub range-next : {A : Type 0} (xs : List A) (start at next : ℕ) (x : A) → start ≤ at → next ≡ at + 1
+    → slice_get xs at ≡ Some x → slice_range xs start next ≡ slice_range xs start at ++ x ∷ []
 range-next [] start at next x h n e = cc
 range-next (y ∷ xs) zero at next x h n e =
     let one : next - 0 ≡ suc at = omega arith in
@@ -34,20 +35,27 @@ drop-at (y ∷ xs) (suc at) next x n e =
     rw one (drop-at xs at (at + 1) x refl e)
 
 -- the names and handles left from one on
-pub drop-listed : (es : List Entry) (at next : ℕ) (name : List ℕ) (h : Handle) → next ≡ at + 1 → option_map (λ e. e.key.name) (slice_get es at) ≡ Some name → option_map handle_of (slice_get es at) ≡ Some h → map listed (drop at es) ≡ (name, h) ∷ map listed (drop next es)
+pub drop-listed : (es : List Entry) (at next : ℕ) (name : List ℕ) (h : Handle) → next ≡ at + 1
+    → option_map (λ e. e.key.name) (slice_get es at) ≡ Some name → option_map handle_of (slice_get es at) ≡ Some h
+    → map listed (drop at es) ≡ (name, h) ∷ map listed (drop next es)
 drop-listed es at next name h one n e = with_entry (slice_get es at) refl n e
   where
-    with_entry : (o : Option Entry) → slice_get es at ≡ o → option_map (λ e. e.key.name) o ≡ Some name → option_map handle_of o ≡ Some h → map listed (drop at es) ≡ (name, h) ∷ map listed (drop next es)
+    with_entry : (o : Option Entry) → slice_get es at ≡ o → option_map (λ e. e.key.name) o ≡ Some name
+        → option_map handle_of o ≡ Some h → map listed (drop at es) ≡ (name, h) ∷ map listed (drop next es)
     with_entry None is n e = cc
     with_entry (Some x) is n e =
         ap (map listed) (drop-at es at next x one is)
         ∙ ap₂ (λ name h. (name, h) ∷ map listed (drop next es)) (same_Some x.key.name name n) (same_Some (handle_of x) h e)
 
 -- one more handle
-pub handles-next : (es : List Entry) (start at next : ℕ) (h : Handle) (so_far : List Handle) → start ≤ at → next ≡ at + 1 → option_map handle_of (slice_get es at) ≡ Some h → so_far ≡ map handle_of (slice_range es start at) → so_far ++ h ∷ [] ≡ map handle_of (slice_range es start next)
+pub handles-next : (es : List Entry) (start at next : ℕ) (h : Handle) (so_far : List Handle) → start ≤ at
+    → next ≡ at + 1 → option_map handle_of (slice_get es at) ≡ Some h
+    → so_far ≡ map handle_of (slice_range es start at)
+    → so_far ++ h ∷ [] ≡ map handle_of (slice_range es start next)
 handles-next es start at next h so_far o one e was = with_entry (slice_get es at) refl e
   where
-    with_entry : (f : Option Entry) → slice_get es at ≡ f → option_map handle_of f ≡ Some h → so_far ++ h ∷ [] ≡ map handle_of (slice_range es start next)
+    with_entry : (f : Option Entry) → slice_get es at ≡ f → option_map handle_of f ≡ Some h
+        → so_far ++ h ∷ [] ≡ map handle_of (slice_range es start next)
     with_entry None is e = cc
     with_entry (Some x) is e =
         ap₂ (λ hs h. hs ++ h ∷ []) was (sym (same_Some (handle_of x) h e))
@@ -55,10 +63,14 @@ handles-next es start at next h so_far o one e was = with_entry (slice_get es at
         ∙ ap (map handle_of) (sym (range-next es start at next x o one is))
 
 -- one more name with its handle
-pub listed-next : (es : List Entry) (at next : ℕ) (name : List ℕ) (h : Handle) (so_far : List (List ℕ × Handle)) → next ≡ at + 1 → option_map (λ e. e.key.name) (slice_get es at) ≡ Some name → option_map handle_of (slice_get es at) ≡ Some h → so_far ≡ map listed (take at es) → so_far ++ (name, h) ∷ [] ≡ map listed (take next es)
+pub listed-next : (es : List Entry) (at next : ℕ) (name : List ℕ) (h : Handle) (so_far : List (List ℕ × Handle))
+    → next ≡ at + 1 → option_map (λ e. e.key.name) (slice_get es at) ≡ Some name
+    → option_map handle_of (slice_get es at) ≡ Some h → so_far ≡ map listed (take at es)
+    → so_far ++ (name, h) ∷ [] ≡ map listed (take next es)
 listed-next es at next name h so_far one n e was = with_entry (slice_get es at) refl n e
   where
-    with_entry : (f : Option Entry) → slice_get es at ≡ f → option_map (λ e. e.key.name) f ≡ Some name → option_map handle_of f ≡ Some h → so_far ++ (name, h) ∷ [] ≡ map listed (take next es)
+    with_entry : (f : Option Entry) → slice_get es at ≡ f → option_map (λ e. e.key.name) f ≡ Some name
+        → option_map handle_of f ≡ Some h → so_far ++ (name, h) ∷ [] ≡ map listed (take next es)
     with_entry None is n e = cc
     with_entry (Some x) is n e =
         let suc_at : next ≡ suc at = omega arith in

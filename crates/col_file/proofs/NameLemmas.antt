@@ -38,18 +38,25 @@ first-less Less p e = inl refl
 first-less Equal p e = inr refl
 first-less Greater p e = cc
 
-keys-up_to : (a b : ColumnEntry) → is_before (key_bytes (key_seen a.key)) (key_bytes (key_seen b.key)) ≡ true → IsUpTo (name_of a) (name_of b)
+keys-up_to : (a b : ColumnEntry) → is_before (key_bytes (key_seen a.key)) (key_bytes (key_seen b.key)) ≡ true
+    → IsUpTo (name_of a) (name_of b)
 keys-up_to a b e =
     let p = and_parts _ _ a.key.named in
     let q = and_parts _ _ b.key.named in
-    first-less (slice_cmp nat_cmp (name_of a) (name_of b)) (nat_cmp (type_code (kind_of a.key.column_type)) (type_code (kind_of b.key.column_type)))
-    (sym (slice_cmp-keys (name_of a) (name_of b) (type_code (kind_of a.key.column_type)) (type_code (kind_of b.key.column_type)) p.1 q.1) ∙ less_where _ e)
+    first-less (slice_cmp nat_cmp (name_of a) (name_of b))
+    (nat_cmp (type_code (kind_of a.key.column_type)) (type_code (kind_of b.key.column_type)))
+    (sym (slice_cmp-keys (name_of a) (name_of b) (type_code (kind_of a.key.column_type))
+    (type_code (kind_of b.key.column_type)) p.1 q.1) ∙ less_where _ e)
 
-adjacent : (es : List ColumnEntry) (k : ℕ) (d : ColumnEntry) → suc k < length es → is_ascending (map key_bytes (map (λ e. e.key) (entries_seen es))) ≡ true → IsUpTo (name_of (get_or es k d)) (name_of (get_or es (suc k) d))
+adjacent : (es : List ColumnEntry) (k : ℕ) (d : ColumnEntry) → suc k < length es
+    → is_ascending (map key_bytes (map (λ e. e.key) (entries_seen es))) ≡ true
+    → IsUpTo (name_of (get_or es k d)) (name_of (get_or es (suc k) d))
 adjacent [] k d h e = absurd (omega arith)
 adjacent (x ∷ []) k d h e = absurd (omega arith)
 adjacent (x ∷ y ∷ es) zero d h e = keys-up_to x y (and_parts (is_before (key_bytes (key_seen x.key)) (key_bytes (key_seen y.key))) _ e).0
-adjacent (x ∷ y ∷ es) (suc k) d h e = adjacent (y ∷ es) k d (omega arith) (and_parts (is_before (key_bytes (key_seen x.key)) (key_bytes (key_seen y.key))) _ e).1
+adjacent (x ∷ y ∷ es) (suc k) d h e =
+    adjacent (y ∷ es) k d (omega arith)
+    (and_parts (is_before (key_bytes (key_seen x.key)) (key_bytes (key_seen y.key))) _ e).1
 
 -- ---- how they compare with another
 
@@ -58,7 +65,8 @@ index-bound Less = omega arith
 index-bound Equal = omega arith
 index-bound Greater = omega arith
 
-less-rises : (o : Ordering) (a b c : List ℕ) → slice_cmp nat_cmp a b ≡ Less → slice_cmp nat_cmp b c ≡ o → ordering_index (slice_cmp nat_cmp a c) ≤ ordering_index o
+less-rises : (o : Ordering) (a b c : List ℕ) → slice_cmp nat_cmp a b ≡ Less → slice_cmp nat_cmp b c ≡ o
+    → ordering_index (slice_cmp nat_cmp a c) ≤ ordering_index o
 less-rises Less a b c e f = rw (nat_list_cmp_total.trans a b c e f) (omega arith)
 less-rises Equal a b c e f =
     let same : slice_cmp nat_cmp a c ≡ Less = subst (λ t. slice_cmp nat_cmp a t ≡ Less) (exact_bytes b c f) e in
@@ -68,16 +76,21 @@ less-rises Greater a b c e f = index-bound (slice_cmp nat_cmp a c)
 -- a name compares no higher than one behind it
 rises : (a b c : List ℕ) → IsUpTo a b → ordering_index (slice_cmp nat_cmp a c) ≤ ordering_index (slice_cmp nat_cmp b c)
 rises a b c (inl less) = less-rises (slice_cmp nat_cmp b c) a b c less refl
-rises a b c (inr same) = let e = exact_bytes a b same in subst (λ t. ordering_index (slice_cmp nat_cmp a c) ≤ ordering_index (slice_cmp nat_cmp t c)) e (omega arith)
+rises a b c (inr same) =
+    let e = exact_bytes a b same in subst
+    (λ t. ordering_index (slice_cmp nat_cmp a c) ≤ ordering_index (slice_cmp nat_cmp t c)) e (omega arith)
 
-pub names-rise : (es : List ColumnEntry) → are_keys (map (λ e. e.key) (entries_seen es)) ≡ true → (name : List ℕ) → IsNonDecreasingBy (λ e. ordering_index (slice_cmp nat_cmp (name_of e) name)) es
+-- where the keys ascend, names go from those before a name over those equal to it to those behind
+pub names-rise : (es : List ColumnEntry) → are_keys (map (λ e. e.key) (entries_seen es)) ≡ true → (name : List ℕ)
+    → IsNonDecreasingBy (λ e. ordering_index (slice_cmp nat_cmp (name_of e) name)) es
 names-rise es keys name = IsNonDecreasingBy-from_all_adjacent (λ e. ordering_index (slice_cmp nat_cmp (name_of e) name)) es (λ k d h.
     let h2 : suc k < length es = omega arith in
     rw add-one (rises (name_of (get_or es k d)) (name_of (get_or es (suc k) d)) name (adjacent es k d h2 (and_parts _ _ keys).0)))
 
 -- ---- the fronts of names
 
-front-then : (o p q : Ordering) → ordering_then o p ≡ Less → (p ≡ Less → (q ≡ Less) ⊎ (q ≡ Equal)) → (ordering_then o q ≡ Less) ⊎ (ordering_then o q ≡ Equal)
+front-then : (o p q : Ordering) → ordering_then o p ≡ Less → (p ≡ Less → (q ≡ Less) ⊎ (q ≡ Equal))
+    → (ordering_then o q ≡ Less) ⊎ (ordering_then o q ≡ Equal)
 front-then Less p q e f = inl refl
 front-then Equal p q e f = f e
 front-then Greater p q e f = cc
@@ -87,27 +100,39 @@ fronts-less zero a b e = inr refl
 fronts-less (suc n) [] [] e = cc
 fronts-less (suc n) [] (y ∷ b) e = inl refl
 fronts-less (suc n) (x ∷ a) [] e = cc
-fronts-less (suc n) (x ∷ a) (y ∷ b) e = front-then (nat_cmp x y) (slice_cmp nat_cmp a b) (slice_cmp nat_cmp (take n a) (take n b)) e (fronts-less n a b)
+fronts-less (suc n) (x ∷ a) (y ∷ b) e =
+    front-then (nat_cmp x y) (slice_cmp nat_cmp a b) (slice_cmp nat_cmp (take n a) (take n b)) e (fronts-less n a b)
 
 fronts-up_to : (n : ℕ) (a b : List ℕ) → IsUpTo a b → IsUpTo (take n a) (take n b)
 fronts-up_to n a b (inl less) = fronts-less n a b less
 fronts-up_to n a b (inr same) =
     inr (subst (λ t. slice_cmp nat_cmp (take n a) (take n t) ≡ Equal) (exact_bytes a b same) (tied_itself nat_list_cmp_total (take n a)))
 
-pub fronts-rise : (es : List ColumnEntry) → are_keys (map (λ e. e.key) (entries_seen es)) ≡ true → (front : List ℕ) → IsNonDecreasingBy (λ e. ordering_index (slice_cmp nat_cmp (take (length front) (name_of e)) front)) es
-fronts-rise es keys front = IsNonDecreasingBy-from_all_adjacent (λ e. ordering_index (slice_cmp nat_cmp (take (length front) (name_of e)) front)) es (λ k d h.
+-- where the keys ascend, fronts of names go from those before a front over equal ones to those
+-- behind
+pub fronts-rise : (es : List ColumnEntry) → are_keys (map (λ e. e.key) (entries_seen es)) ≡ true → (front : List ℕ)
+    → IsNonDecreasingBy (λ e. ordering_index (slice_cmp nat_cmp (take (length front) (name_of e)) front)) es
+fronts-rise es keys front = IsNonDecreasingBy-from_all_adjacent
+    (λ e. ordering_index (slice_cmp nat_cmp (take (length front) (name_of e)) front)) es (λ k d h.
     let h2 : suc k < length es = omega arith in
-    rw add-one (rises (take (length front) (name_of (get_or es k d))) (take (length front) (name_of (get_or es (suc k) d))) front (fronts-up_to (length front) (name_of (get_or es k d)) (name_of (get_or es (suc k) d)) (adjacent es k d h2 (and_parts _ _ keys).0))))
+    rw add-one (rises (take (length front) (name_of (get_or es k d)))
+    (take (length front) (name_of (get_or es (suc k) d))) front
+    (fronts-up_to (length front) (name_of (get_or es k d)) (name_of (get_or es (suc k) d))
+    (adjacent es k d h2 (and_parts _ _ keys).0))))
 
 -- ---- tests of names as ranks
 
+-- an entry has a name where its own compares as equal
 pub name-is : (name : List ℕ) (e : ColumnEntry) → bytes_eq (entry_of e).key.name name ≡ is_eq (slice_cmp nat_cmp (name_of e) name)
 name-is name e = sym (is_eq-slice_cmp (name_of e) name)
 
 bytes_eq-swap : (xs ys : List ℕ) → bytes_eq xs ys ≡ bytes_eq ys xs
 bytes_eq-swap xs ys = same_from_decides _ _ (bytes_eq-Decides xs ys) (Decides-like _ sym sym (bytes_eq-Decides ys xs))
 
-pub front-is : (front : List ℕ) (e : ColumnEntry) → starts_with nat_eq (entry_of e).key.name front ≡ is_eq (slice_cmp nat_cmp (take (length front) (name_of e)) front)
+-- an entry's name begins with a front where its own front compares as equal
+pub front-is : (front : List ℕ) (e : ColumnEntry)
+    → starts_with nat_eq (entry_of e).key.name front
+    ≡ is_eq (slice_cmp nat_cmp (take (length front) (name_of e)) front)
 front-is front e =
     let name = take (length front) (name_of e) in
     bytes_eq-swap front name ∙ sym (is_eq-slice_cmp name front)

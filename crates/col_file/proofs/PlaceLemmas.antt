@@ -22,7 +22,9 @@ pub record IsPlaced (found : List Entry) (start : ℕ) (left all : List KeyedLen
 
 -- ---- entries among so many bytes
 
-pub within-entries : (start top : ℕ) (ps : List (Key × ℕ)) → start + total_length ps ≤ top → AllByRecursion (IsWithin top) (entries_from start ps)
+-- entries that follow one another up to a top stand within it
+pub within-entries : (start top : ℕ) (ps : List (Key × ℕ)) → start + total_length ps ≤ top
+    → AllByRecursion (IsWithin top) (entries_from start ps)
 within-entries start top [] h = tt
 within-entries start top (p ∷ ps) h =
     let sum = sum_by-cons (λ (q : Key × ℕ). q.1) p ps in
@@ -32,11 +34,14 @@ within-entries start top (p ∷ ps) h =
 
 module _ (h : Handle) where
   -- a handle that is that of an entry has its place
-  pub place-within : (size : ℕ) (es : List Entry) → list_any (is_at h) es ≡ true → AllByRecursion (IsWithin size) es → (h.start ≤ h.«end») × (h.«end» ≤ size)
+  pub place-within : (size : ℕ) (es : List Entry) → list_any (is_at h) es ≡ true → AllByRecursion (IsWithin size) es
+      → (h.start ≤ h.«end») × (h.«end» ≤ size)
   place-within size [] some all = absurd (false≢true some)
   place-within size (e ∷ es) some all = here (is_at h e) refl some (λ rest. place-within size es rest all.1)
     where
-      here : (t : Bool) → is_at h e ≡ t → (t || list_any (is_at h) es) ≡ true → (list_any (is_at h) es ≡ true → (h.start ≤ h.«end») × (h.«end» ≤ size)) → (h.start ≤ h.«end») × (h.«end» ≤ size)
+      here : (t : Bool) → is_at h e ≡ t → (t || list_any (is_at h) es) ≡ true
+          → (list_any (is_at h) es ≡ true → (h.start ≤ h.«end») × (h.«end» ≤ size))
+          → (h.start ≤ h.«end») × (h.«end» ≤ size)
       here true same rest later =
           let p = and_parts (same_type h.column_type e.key.column_type && (h.start == e.start)) (h.«end» == e.«end») same in
           let q = and_parts (same_type h.column_type e.key.column_type) (h.start == e.start) p.0 in
@@ -45,12 +50,14 @@ module _ (h : Handle) where
           (omega (arith, all.0.0), omega (arith, all.0.1))
       here false same rest later = later rest
 
+  -- a handle is one of some entry where it is one of the entries as they are seen
   pub any-seen : (es : List ColumnEntry) → list_any (is_at h) (entries_seen es) ≡ list_any (λ e. is_at h (entry_of e)) es
   any-seen [] = refl
   any-seen (e ∷ es) = ap (λ t. is_at h (entry_of e) || t) (any-seen es)
 
 -- one that passes is among those of which some passes
-pub any-at : {A : Type 0} (test : A → Bool) (xs : List A) (i : ℕ) (x : A) → slice_get xs i ≡ Some x → test x ≡ true → list_any test xs ≡ true
+pub any-at : {A : Type 0} (test : A → Bool) (xs : List A) (i : ℕ) (x : A) → slice_get xs i ≡ Some x → test x ≡ true
+    → list_any test xs ≡ true
 any-at test [] i x e h = cc
 any-at test (y ∷ xs) zero x e h = rw (same_Some y x e, h) refl
 any-at test (y ∷ xs) (suc i) x e h = or_right (test y) (list_any test xs) (any-at test xs i x e h)

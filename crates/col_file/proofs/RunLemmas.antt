@@ -6,15 +6,11 @@ use Rattle.std.specs.Ordering.{is_lt, is_le, is_eq, ordering_index}
 use Rattle.std.specs.List.Sorted.{IsNonDecreasingBy, IsPartitionedBy, IsPartitionPoint}
 use Rattle.std.proofs.lemmas.Bool.{cases_lt, false≢true, true≢false}
 use Rattle.std.proofs.lemmas.List.{take-map, drop-map, length-map}
+use Rattle.col_common.proofs.OrderingLemmas.{lt_le}
 use Rattle.col_model.proofs.ListLaws.{filter_run}
 use Rattle.col_file.specs.Runs.{IsRun}
 
 -- ---- what ranks say
-
-le-from_lt : (o : Ordering) → is_lt o ≡ true → is_le o ≡ true
-le-from_lt Less e = refl
-le-from_lt Equal e = absurd (false≢true e)
-le-from_lt Greater e = absurd (false≢true e)
 
 eq-below : (o : Ordering) → is_lt o ≡ true → is_eq o ≡ false
 eq-below Less e = refl
@@ -53,23 +49,31 @@ filter-map : {A B : Type 0} (f : A → B) (test : B → Bool) (xs : List A) → 
 filter-map f test [] = refl
 filter-map {A = A} {B = B} f test (x ∷ xs) = at (test (f x)) (filter-map f test xs)
   where
-    at : (t : Bool) → filter test (map f xs) ≡ map f (filter (λ x. test (f x)) xs) → cond t (f x ∷ filter test (map f xs)) (filter test (map f xs)) ≡ map f (cond t (x ∷ filter (λ x. test (f x)) xs) (filter (λ x. test (f x)) xs))
+    at : (t : Bool) → filter test (map f xs) ≡ map f (filter (λ x. test (f x)) xs)
+        → cond t (f x ∷ filter test (map f xs)) (filter test (map f xs))
+        ≡ map f (cond t (x ∷ filter (λ x. test (f x)) xs) (filter (λ x. test (f x)) xs))
     at true e = ap (λ ys. f x ∷ ys) e
     at false e = e
 
 -- ---- the items of the middle rank
 
 module _ {A : Type 0} (rank : A → Ordering) where
+  -- where ranks never fall, the items below stand before the others
   pub lt-partitioned : (xs : List A) → IsNonDecreasingBy (λ x. ordering_index (rank x)) xs → IsPartitionedBy (λ x. is_lt (rank x)) xs
   lt-partitioned xs rises i j d h k e = lt-lower (rank (get_or xs i d)) (rank (get_or xs j d)) (rises i j d h k) e
 
+  -- where ranks never fall, the items that are below or equal stand before the others
   pub le-partitioned : (xs : List A) → IsNonDecreasingBy (λ x. ordering_index (rank x)) xs → IsPartitionedBy (λ x. is_le (rank x)) xs
   le-partitioned xs rises i j d h k e = le-lower (rank (get_or xs i d)) (rank (get_or xs j d)) (rises i j d h k) e
 
-  module _ {B : Type 0} (f : A → B) (test : B → Bool) (is : (x : A) → test (f x) ≡ is_eq (rank x)) (xs : List A) (start upto : ℕ) (low : start ≤ length xs) (high : upto ≤ length xs) (starts : IsPartitionPoint (λ x. is_lt (rank x) ≡ true) (λ x. is_lt (rank x) ≡ false) xs start) (ends : IsPartitionPoint (λ x. is_le (rank x) ≡ true) (λ x. is_le (rank x) ≡ false) xs upto) where
+  module _ {B : Type 0} (f : A → B) (test : B → Bool) (is : (x : A) → test (f x) ≡ is_eq (rank x)) (xs : List A)
+      (start upto : ℕ) (low : start ≤ length xs) (high : upto ≤ length xs)
+      (starts : IsPartitionPoint (λ x. is_lt (rank x) ≡ true) (λ x. is_lt (rank x) ≡ false) xs start)
+      (ends : IsPartitionPoint (λ x. is_le (rank x) ≡ true) (λ x. is_le (rank x) ≡ false) xs upto) where
     in_order : (d : A) → start ≤ upto
     in_order d = elim (cases_lt upto start) [
-      | inl before ↦ absurd (false≢true (sym (ends.1 upto d (omega arith) (omega arith)) ∙ le-from_lt (rank (get_or xs upto d)) (starts.0 upto d (omega arith) before)))
+      | inl before ↦ absurd (false≢true (sym (ends.1 upto d (omega arith) (omega arith))
+          ∙ lt_le (rank (get_or xs upto d)) (starts.0 upto d (omega arith) before)))
       | inr behind ↦ behind
     ]
 
@@ -90,7 +94,11 @@ module _ {A : Type 0} (rank : A → Ordering) where
         moved = sym (take-map f (upto - start) (drop start xs)) ∙ ap (take (upto - start)) (sym (drop-map f start xs))
 
   -- the items of rank `Equal` are those between the ends of a search for each bound
-  pub run-is : {B : Type 0} (f : A → B) (test : B → Bool) → ((x : A) → test (f x) ≡ is_eq (rank x)) → (xs : List A) (start upto : ℕ) → start ≤ length xs → upto ≤ length xs → IsPartitionPoint (λ x. is_lt (rank x) ≡ true) (λ x. is_lt (rank x) ≡ false) xs start → IsPartitionPoint (λ x. is_le (rank x) ≡ true) (λ x. is_le (rank x) ≡ false) xs upto → IsRun test (map f xs) start upto
+  pub run-is : {B : Type 0} (f : A → B) (test : B → Bool) → ((x : A) → test (f x) ≡ is_eq (rank x))
+      → (xs : List A) (start upto : ℕ) → start ≤ length xs → upto ≤ length xs
+      → IsPartitionPoint (λ x. is_lt (rank x) ≡ true) (λ x. is_lt (rank x) ≡ false) xs start
+      → IsPartitionPoint (λ x. is_le (rank x) ≡ true) (λ x. is_le (rank x) ≡ false) xs upto
+      → IsRun test (map f xs) start upto
   run-is f test is [] zero zero low high starts ends = record { ordered = omega arith; within = omega arith; items = refl }
   run-is f test is [] zero (suc upto) low high starts ends = absurd (omega arith)
   run-is f test is [] (suc start) upto low high starts ends = absurd (omega arith)

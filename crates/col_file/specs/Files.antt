@@ -48,8 +48,8 @@ RefusesFile old new _ expected = ⊥
 
 -- What a call made of a file is of the value that its bytes give, where it tells them; or the call
 -- refuses.
-abbrev pub Answers : {T V : Type 0} → (V → T → Type 0) → SeenFile → SeenFile →
+abbrev pub AnswersForHandle : {T V : Type 0} → (V → T → Type 0) → SeenFile → SeenFile →
     Result T ColumnarError → (List ℕ → Option V) → Type 0
-Answers IsOf old new (Ok made) expected =
+AnswersForHandle IsOf old new (Ok made) expected =
     IfSome old.told (λ bytes. IsExpected IsOf made (expected bytes))
-Answers IsOf old new (Err e) expected = RefusesFile old new e expected
+AnswersForHandle IsOf old new (Err e) expected = RefusesFile old new e expected

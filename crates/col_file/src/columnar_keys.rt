@@ -1,5 +1,5 @@
 //! What the end of a file says, and its columns by their names.
-ghost use Rattle.std.specs.Prelude.{◌≡◌, ◌<◌, ◌≤◌, ◌^◌, Some, true, length, map, option_and_then, option_map, slice_get, slice_range, string_bytes, bytes_eq, nat_eq, IfOk};
+ghost use Rattle.std.specs.Prelude.{◌≡◌, ◌<◌, ◌≤◌, ◌^◌, Some, true, length, map, option_and_then, option_map, slice_get, slice_range, string_bytes, bytes_eq, nat_eq, IfOk, is_some};
 ghost use Rattle.std.specs.List.{list_any, starts_with};
 ghost use Rattle.col_index.specs.Versions.{version_number};
 ghost use Rattle.col_keys.specs.KeyTables.{all_keyed, keys_seen};
@@ -131,8 +131,10 @@ impl ColumnarKeys {
 
     // The place of the column of a name and a type, by halves.
     pub(crate) fn place_of(&self, name: &str, column_type: ColumnType) -> Option<usize>
-        ensures { option_and_then (slice_get self.now.entries) result
+        ensures place { option_and_then (slice_get self.now.entries) result
             ≡ entry_typed name.now (kind_of column_type) self.now.entries }
+        ensures some { is_some result
+            ≡ is_some (entry_typed name.now (kind_of column_type) self.now.entries) }
     {
         let places = self.named(name);
         for at in places.start..places.end {

@@ -1,5 +1,5 @@
 //! Handles of columns.
-ghost use Rattle.std.specs.Prelude.{◌≡◌, ◌-◌, IfOk};
+ghost use Rattle.std.specs.Prelude.{◌≡◌, ◌-◌, Ok};
 ghost use Rattle.col_types.specs.Kinds.{kind_of};
 ghost use Rattle.col_file.specs.Entries.{entry_of};
 ghost use Rattle.col_file.specs.Handles.{handle_of, is_at};
@@ -39,7 +39,7 @@ impl Model for DynamicColumnHandle {
 
 impl Clone for DynamicColumnHandle {
     fn clone(&self) -> Result<DynamicColumnHandle, AllocError>
-        ensures { IfOk result (λ handle. handle ≡ self.now) }
+        ensures { result ≡ Ok self.now }
     {
         Ok(DynamicColumnHandle {
             column_type: self.column_type,

@@ -1,10 +1,10 @@
 //! Opens the columns of handles.
 ghost use Rattle.std.specs.Prelude.{◌≡◌, false, Err, IfOk};
 ghost use Rattle.col_dynamic.specs.Dynamic.{type_of, content_of};
-ghost use Rattle.col_open.specs.Contents.{usage_of};
-ghost use Rattle.col_open.specs.Lenient.{IsInPlaceOf};
-ghost use Rattle.col_file.specs.Columns.{content_at, IsColumn, IsTyped, IsUsage};
-ghost use Rattle.col_file.specs.Files.{Answers};
+ghost use Rattle.col_dynamic_open.specs.Contents.{usage_of};
+ghost use Rattle.col_dynamic_open.specs.Lenient.{IsInPlaceOf};
+ghost use Rattle.col_file.specs.Columns.{content_at, HasCodesSpelled, HasContent, IsTyped, IsUsage};
+ghost use Rattle.col_file.specs.Files.{AnswersForHandle};
 ghost use Rattle.col_file.specs.Handles.{is_entry};
 ghost use Rattle.col_file.specs.Readers.{Reads};
 
@@ -12,7 +12,7 @@ use crate::dynamic_column_handle::DynamicColumnHandle;
 use crate::reader::ColumnarReader;
 use col_common::{ColumnarError, FileHandle};
 use col_dynamic::{ColumnSpaceUsage, DynamicColumn};
-use col_open::{LenientColumn, open_column, open_column_u64_lenient, space_usage_of};
+use col_dynamic_open::{LenientColumn, open_column, open_column_u64_lenient, space_usage_of};
 use std::alloc::Global;
 
 impl DynamicColumnHandle {
@@ -26,7 +26,7 @@ impl DynamicColumnHandle {
     ) -> Result<DynamicColumn, ColumnarError>
         ensures no_entry { is_entry reader.old.keys self.now ≡ false
             → result ≡ Err ColumnarError.InvalidData }
-        ensures answer { Answers (IsColumn self.now.column_type) reader.old.file reader.new.file
+        ensures answer { AnswersForHandle (HasContent self.now.column_type) reader.old.file reader.new.file
             result (content_at reader.old.keys self.now) }
         // Also where the file doesn't tell its bytes.
         ensures typed { IfOk result (IsTyped self.now.column_type reader.old.keys.row_count) }
@@ -51,8 +51,10 @@ impl DynamicColumnHandle {
     ) -> Result<LenientColumn, ColumnarError>
         ensures no_entry { is_entry reader.old.keys self.now ≡ false
             → result ≡ Err ColumnarError.InvalidData }
-        ensures answer { Answers (IsInPlaceOf self.now.column_type) reader.old.file
+        ensures answer { AnswersForHandle (IsInPlaceOf self.now.column_type) reader.old.file
             reader.new.file result (content_at reader.old.keys self.now) }
+        ensures codes { IfOk result (λ c.
+            HasCodesSpelled reader.old.keys self.now reader.old.file.told c.values) }
         ensures kept { Reads 1 reader.old reader.new }
     {
         let bytes = reader.read_column(alloc, self)?;
@@ -73,7 +75,7 @@ impl DynamicColumnHandle {
     ) -> Result<ColumnSpaceUsage, ColumnarError>
         ensures no_entry { is_entry reader.old.keys self.now ≡ false
             → result ≡ Err ColumnarError.InvalidData }
-        ensures answer { Answers (IsUsage self.now) reader.old.file reader.new.file
+        ensures answer { AnswersForHandle (IsUsage self.now) reader.old.file reader.new.file
             result (content_at reader.old.keys self.now) }
         ensures kept { Reads 1 reader.old reader.new }
     {
@@ -89,7 +91,7 @@ impl DynamicColumnHandle {
     ) -> Result<ColumnSpaceUsage, ColumnarError>
         ensures no_entry { is_entry reader.old.keys self.now ≡ false
             → result ≡ Err ColumnarError.InvalidData }
-        ensures answer { Answers (IsUsage self.now) reader.old.file reader.new.file
+        ensures answer { AnswersForHandle (IsUsage self.now) reader.old.file reader.new.file
             result (content_at reader.old.keys self.now) }
         ensures kept { Reads 1 reader.old reader.new }
     {

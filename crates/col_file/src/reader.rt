@@ -1,9 +1,9 @@
 //! Open files.
-ghost use Rattle.std.specs.Prelude.{◌≡◌, false, length, map, option_and_then, slice_get, string_bytes, Err, IfOk, IfErr};
+ghost use Rattle.std.specs.Prelude.{◌≡◌, false, length, map, option_and_then, is_some, slice_get, string_bytes, Err, IfOk, IfErr};
 ghost use Rattle.std.specs.List.{AllByRecursion};
 ghost use Rattle.col_index.specs.Versions.{version_number};
 ghost use Rattle.col_file.specs.Columns.{bytes_at};
-ghost use Rattle.col_file.specs.Files.{seen_by, Answers};
+ghost use Rattle.col_file.specs.Files.{seen_by, AnswersForHandle};
 ghost use Rattle.col_file.specs.Handles.{handle_of, listed, is_entry, entry_typed, entries_named, entries_below};
 ghost use Rattle.col_types.specs.Kinds.{kind_of};
 ghost use Rattle.col_file.specs.Readers.{IsRead, Reads, Opens};
@@ -70,8 +70,8 @@ impl<F: FileHandle> ColumnarReader<F> {
         file
     }
 
-    /// Each entry has its bytes in the file, and the file ends as the entries say.
-    pub fn tell(&self)
+    /// That each entry has its bytes in the file, and the file ends as the entries say.
+    pub fn file_is_whole(&self)
         ensures { IsRead self.now }
     {
         let _ = &self.file;
@@ -112,8 +112,10 @@ impl<F: FileHandle> ColumnarReader<F> {
 
     /// The place, among all columns, of the column of a name and a type. It is found by halves.
     pub fn column_place(&self, column_name: &str, column_type: ColumnType) -> Option<usize>
-        ensures { option_and_then (slice_get self.now.keys.entries) result
+        ensures place { option_and_then (slice_get self.now.keys.entries) result
             ≡ entry_typed column_name.now (kind_of column_type) self.now.keys.entries }
+        ensures some { is_some result ≡ is_some
+            (entry_typed column_name.now (kind_of column_type) self.now.keys.entries) }
     {
         self.keys.place_of(column_name, column_type)
     }
@@ -163,7 +165,7 @@ impl<F: FileHandle> ColumnarReader<F> {
     ) -> Result<Bytes, ColumnarError>
         ensures no_entry { is_entry self.old.keys handle.now ≡ false
             → result ≡ Err ColumnarError.InvalidData }
-        ensures answer { Answers (λ expected part. part ≡ expected) self.old.file self.new.file
+        ensures answer { AnswersForHandle (λ expected part. part ≡ expected) self.old.file self.new.file
             result (bytes_at self.old.keys handle.now) }
         ensures kept { Reads 1 self.old self.new }
     {
@@ -189,6 +191,6 @@ pub fn files_are_read<F: FileHandle>(columnar_readers: &[ColumnarReader<F>])
     ensures { AllByRecursion IsRead columnar_readers.now }
 {
     for reader in columnar_readers {
-        reader.tell();
+        reader.file_is_whole();
     }
 }

@@ -6,7 +6,7 @@ ghost use Rattle.col_common.specs.Decoding.{Decodes};
 ghost use Rattle.col_keys.specs.Footers.{footer_of};
 ghost use Rattle.col_model.specs.Keys.{keys};
 ghost use Rattle.col_file.specs.Ends.{keys_behind};
-ghost use Rattle.col_file.specs.Files.{seen_by, ReadsFile, Answers};
+ghost use Rattle.col_file.specs.Files.{seen_by, ReadsFile, AnswersForHandle};
 ghost use Rattle.col_file.specs.Readers.{IsWithin};
 
 use crate::columnar_keys::ColumnarKeys;
@@ -20,7 +20,7 @@ pub(crate) fn read_keys<F: FileHandle>(
     alloc: Global,
     file: &mut F,
 ) -> Result<ColumnarKeys, ColumnarError>
-    ensures answer { Answers (λ expected k. k ≡ expected)
+    ensures answer { AnswersForHandle (λ expected k. k ≡ expected)
         (seen_by F.content F.size F.faults F.reads F.mark file.old)
         (seen_by F.content F.size F.faults F.reads F.mark file.new) result keys }
     ensures within { IfOk result (λ k. AllByRecursion (IsWithin (F.size file.old)) k.entries) }

@@ -22,7 +22,7 @@ pub fn generated_script(alloc: Global, number: u64) -> Result<Vec<u8>, AllocErro
 
 // The same, of so many segments of so many documents.
 #[tactic(auto, using(crate::proofs::AddedLemmas::sized))]
-pub(crate) fn sized_script(
+fn sized_script(
     alloc: Global,
     segments: u32,
     documents: u32,

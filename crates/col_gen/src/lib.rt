@@ -9,6 +9,3 @@ mod lookups;
 mod text;
 
 pub use generated::generated_script;
-
-#[cfg(test)]
-mod tests;

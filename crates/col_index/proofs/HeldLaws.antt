@@ -10,6 +10,7 @@ use Rattle.col_index.proofs.RankLaws.{rank-cons_below, rank-cons_above, tail_ris
 use Rattle.col_index.specs.Laws.{IsRanked}
 use Rattle.col_index.specs.Sets.{holds}
 
+-- a list holds each of its items
 pub holds-at : (xs : List ℕ) (k : ℕ) → k < length xs → holds xs (get_or xs k 0) ≡ true
 holds-at [] k h = absurd (omega arith)
 holds-at (x ∷ xs) zero h = or_left (nat_eq x x) (holds xs x) (eq-eqb x x refl)
@@ -23,6 +24,7 @@ holds_index (x ∷ xs) t e = elim (or_cases (nat_eq x t) (holds xs t) e) [
   | inr r ↦ let rest = holds_index xs t r in (suc rest.0, omega (arith, rest.1), rest.2)
 ]
 
+-- a list whose items are all above a row doesn't hold it
 pub holds-none : (xs : List ℕ) (t : ℕ) → AllByRecursion (λ y. suc t ≤ y) xs → holds xs t ≡ false
 holds-none [] t a = refl
 holds-none (x ∷ xs) t a = or_from (nat_eq x t) (holds xs t) (ne_eqb x t (λ e. omega (arith, a.0))) (holds-none xs t a.1)
@@ -34,6 +36,7 @@ holds-rank xs t e h =
     let here : rank xs t ≡ i.0 = ap (rank xs) (sym i.2) ∙ rank-at xs i.0 e i.1 in
     (omega (arith, i.1), ap (λ k. get_or xs k 0) here ∙ i.2)
 
+-- a list holds a row that stands at its own rank
 pub rank-holds : (xs : List ℕ) (t : ℕ) → rank xs t < length xs → get_or xs (rank xs t) 0 ≡ t → holds xs t ≡ true
 rank-holds xs t h e = ap (holds xs) (sym e) ∙ holds-at xs (rank xs t) h
 
@@ -55,12 +58,24 @@ rank-next (x ∷ xs) t e = elim (cases_order x t) [
   | inl b ↦
       let none = rank-none xs (t + 1) (rising_from (t + 1) x xs e (omega arith)) in
       let held : holds (x ∷ xs) t ≡ true = or_left (nat_eq x t) (holds xs t) (eq-eqb x t b) in
-      rw held (omega (arith, none, rank-cons_below x xs (t + 1) (omega arith), rank-cons_above x xs t (omega arith), rank-monotone xs t (t + 1) (omega arith)))
+      rw held (omega (
+        arith,
+        none,
+        rank-cons_below x xs (t + 1) (omega arith),
+        rank-cons_above x xs t (omega arith),
+        rank-monotone xs t (t + 1) (omega arith),
+      ))
   | inr (inl b) ↦
       let other : holds (x ∷ xs) t ≡ holds xs t = ap (λ b. b || holds xs t) (ne_eqb x t (λ f. omega arith)) in
       rw other (omega (arith, rank-next xs t (tail_rises x xs e), rank-cons_below x xs (t + 1) (omega arith), rank-cons_below x xs t b))
   | inr (inr a) ↦
       let free : holds (x ∷ xs) t ≡ false = holds-none (x ∷ xs) t (a, rising_from (suc t) x xs e (omega arith)) in
       let none = rank-none xs (t + 1) (rising_from (t + 1) x xs e (omega arith)) in
-      rw free (omega (arith, none, rank-cons_above x xs (t + 1) (omega arith), rank-cons_above x xs t (omega arith), rank-monotone xs t (t + 1) (omega arith)))
+      rw free (omega (
+        arith,
+        none,
+        rank-cons_above x xs (t + 1) (omega arith),
+        rank-cons_above x xs t (omega arith),
+        rank-monotone xs t (t + 1) (omega arith),
+      ))
 ]

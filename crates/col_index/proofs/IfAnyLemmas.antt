@@ -27,16 +27,20 @@ module _ (s : RowSet) (a : AreRows s) (row : ℕ) where
   one_held : holds s.rows row ≡ true → index_range (set_counts s) row ≡ range_if_any (set_counts s) row
   one_held h = sym (ap (λ n. cond (n == 0) (0, 0) (index_range (set_counts s) row)) (set_counts-at s a row ∙ ap (λ b. cond b 1 0) h))
 
+  -- a row without a value has positions that begin at 0
   pub one_free-start : holds s.rows row ≡ false → 0 ≡ (range_if_any (set_counts s) row).0
   one_free-start h = ap (λ p. p.0) (one_free h)
 
+  -- a row without a value has positions that end at 0
   pub one_free-end : holds s.rows row ≡ false → 0 ≡ (range_if_any (set_counts s) row).1
   one_free-end h = ap (λ p. p.1) (one_free h)
 
   module _ (k : ℕ) (r : k ≡ rank s.rows row) (h : holds s.rows row ≡ true) where
+    -- the position of a row's one value is the row's rank
     pub one_held-start : k ≡ (range_if_any (set_counts s) row).0
     one_held-start = r ∙ sym (range_start s row a (held-below s row a h)) ∙ ap (λ p. p.0) (one_held h)
 
+    -- the positions of a row's one value end one behind the row's rank
     pub one_held-end : k + 1 ≡ (range_if_any (set_counts s) row).1
     one_held-end = ap (λ n. n + 1) r ∙ sym (range_end-held s row a (held-below s row a h) h) ∙ ap (λ p. p.1) (one_held h)
 
@@ -49,15 +53,19 @@ module _ (o : RowOffsets) (a : AreOffsets o) (row : ℕ) where
   some_held : holds o.set.rows row ≡ true → index_range (offset_counts o) row ≡ range_if_any (offset_counts o) row
   some_held h = sym (ap (λ b. cond b (0, 0) (index_range (offset_counts o) row)) (offset_counts-none o a row ∙ ap not h))
 
+  -- a row without values has positions that begin at 0
   pub some_free-start : holds o.set.rows row ≡ false → 0 ≡ (range_if_any (offset_counts o) row).0
   some_free-start h = ap (λ p. p.0) (some_free h)
 
+  -- a row without values has positions that end at 0
   pub some_free-end : holds o.set.rows row ≡ false → 0 ≡ (range_if_any (offset_counts o) row).1
   some_free-end h = ap (λ p. p.1) (some_free h)
 
   module _ (k place : ℕ) (r : k ≡ rank o.set.rows row) (h : holds o.set.rows row ≡ true) where
+    -- a row's values begin at the start offset of its rank
     pub some_held-start : place ≡ get_or o.starts k 0 → place ≡ (range_if_any (offset_counts o) row).0
     some_held-start s = range-start o a row (held-below o.set row a.rows h) k place r s ∙ ap (λ p. p.0) (some_held h)
 
+    -- a row's values end at the start offset behind its rank
     pub some_held-end : place ≡ get_or o.starts (k + 1) 0 → place ≡ (range_if_any (offset_counts o) row).1
     some_held-end s = range-end_held o a row (held-below o.set row a.rows h) k place r h s ∙ ap (λ p. p.1) (some_held h)

@@ -35,6 +35,7 @@ module _ (o : RowOffsets) (a : AreOffsets o) (p : ℕ) where
     | inr h ↦ absurd (omega (arith, unstarted 0 h (omega arith), ap (λ ss. get_or ss 0 0) (offset_starts o a).first))
   ]
 
+  -- a position below the number of values has no more starts up to it than there are rows
   pub end-unstarted : p < sum (offset_counts o) → rank o.starts (p + 1) ≤ length o.set.rows
   end-unstarted h = elim (cases_lt (length o.set.rows) (rank o.starts (p + 1))) [
     | inl b ↦ absurd (omega (arith, started (length o.set.rows) b, sum-offset_counts o a))
@@ -48,7 +49,8 @@ module _ (o : RowOffsets) (a : AreOffsets o) (p : ℕ) where
     -- no row from the next one on has the position
     pub in_row-before : rank o.starts (p + 1) ≤ rank o.set.rows row → is_in_row (offset_counts o) p row ≡ false
     in_row-before h = false_from_ne_true _ (λ e.
-        let low = leb-true _ _ (and_parts (nat_le (start_of (offset_counts o) row) p) (nat_lt p (start_of (offset_counts o) (row + 1))) e).0 in
+        let low = leb-true _ _ (and_parts (nat_le (start_of (offset_counts o) row) p)
+        (nat_lt p (start_of (offset_counts o) (row + 1))) e).0 in
         omega (arith, low, start, unstarted (rank o.set.rows row) h (rank-le-length o.set.rows row)))
 
     module _ (m : ℕ) (last : rank o.starts (p + 1) ≡ m + 1) (inside : m < length o.set.rows) where
@@ -57,15 +59,18 @@ module _ (o : RowOffsets) (a : AreOffsets o) (p : ℕ) where
       in_row-same e =
           let here : rank o.set.rows row ≡ m = ap (rank o.set.rows) e ∙ rank-at o.set.rows m (rows_rise o.set a.rows) inside in
           let held : holds o.set.rows row ≡ true = ap (holds o.set.rows) e ∙ holds-at o.set.rows m inside in
-          let next : rank o.set.rows (row + 1) ≡ m + 1 = rank-behind_held o.set.rows row (rows_rise o.set a.rows) held ∙ ap (λ n. n + 1) here in
+          let next : rank o.set.rows (row + 1) ≡ m + 1 =
+          rank-behind_held o.set.rows row (rows_rise o.set a.rows) held ∙ ap (λ n. n + 1) here in
           let low = started m (omega (arith, last)) in
           let high = unstarted (m + 1) (omega (arith, last)) (omega arith) in
           and_from _ _
           (le-leb (start_of (offset_counts o) row) p (omega (arith, low, start, ap (λ n. get_or o.starts n 0) here)))
-          (lt-ltb p (start_of (offset_counts o) (row + 1)) (omega (arith, high, offset_counts-start o a (row + 1), ap (λ n. get_or o.starts n 0) next)))
+          (lt-ltb p (start_of (offset_counts o) (row + 1))
+          (omega (arith, high, offset_counts-start o a (row + 1), ap (λ n. get_or o.starts n 0) next)))
 
       -- a row with a value and its rank
-      apart : (row ≡ get_or o.set.rows m 0 → ⊥) → holds o.set.rows row ≡ true → get_or o.starts (rank o.set.rows row) 0 ≤ p → p < get_or o.starts (rank o.set.rows row + 1) 0 → ⊥
+      apart : (row ≡ get_or o.set.rows m 0 → ⊥) → holds o.set.rows row ≡ true
+          → get_or o.starts (rank o.set.rows row) 0 ≤ p → p < get_or o.starts (rank o.set.rows row + 1) 0 → ⊥
       apart n held low high =
           let i = rank o.set.rows row in
           let found = holds-rank o.set.rows row (rows_rise o.set a.rows) held in
@@ -80,10 +85,22 @@ module _ (o : RowOffsets) (a : AreOffsets o) (p : ℕ) where
       in_row-other n = false_from_ne_true _ (λ e.
           let parts = and_parts (nat_le (start_of (offset_counts o) row) p) (nat_lt p (start_of (offset_counts o) (row + 1))) e in
           let low : get_or o.starts (rank o.set.rows row) 0 ≤ p = omega (arith, leb-true _ _ parts.0, start) in
-          let high : p < get_or o.starts (rank o.set.rows (row + 1)) 0 = omega (arith, ltb-true _ _ parts.1, offset_counts-start o a (row + 1)) in
+          let high : p < get_or o.starts (rank o.set.rows (row + 1)) 0 =
+          omega (arith, ltb-true _ _ parts.1, offset_counts-start o a (row + 1)) in
           elim (cases_Bool (holds o.set.rows row)) [
-            | inl held ↦ apart n held low (omega (arith, high, ap (λ k. get_or o.starts k 0) (rank-behind_held o.set.rows row (rows_rise o.set a.rows) held)))
-            | inr free ↦ omega (arith, low, high, ap (λ k. get_or o.starts k 0) (rank-behind_free o.set.rows row (rows_rise o.set a.rows) free))
+            | inl held ↦ apart n held low (omega (
+              arith,
+              high,
+              ap (λ k. get_or o.starts k 0)
+                  (rank-behind_held o.set.rows row (rows_rise o.set a.rows) held),
+            ))
+            | inr free ↦ omega (
+              arith,
+              low,
+              high,
+              ap (λ k. get_or o.starts k 0) (rank-behind_free o.set.rows row
+                  (rows_rise o.set a.rows) free),
+            )
           ])
 
       -- one row alone has it

@@ -22,13 +22,17 @@ spread_rises ended = refl
 spread_rises (without s) = spread_rises s
 spread_rises (valued {a = a} {rows = rows} s) = rises_behind a rows (spread_from (suc a) (omega arith) s) (spread_rises s)
 
-pub spread_below : {a : ℕ} {rows values cs : List ℕ} (m : ℕ) → a + length cs ≤ m → IsSpread a rows values cs → list_all (λ r. nat_lt r m) rows ≡ true
+pub spread_below : {a : ℕ} {rows values cs : List ℕ} (m : ℕ) → a + length cs ≤ m → IsSpread a rows values cs
+    → list_all (λ r. nat_lt r m) rows ≡ true
 spread_below m h ended = refl
 spread_below m h (without s) = spread_below m (omega arith) s
-spread_below m h (valued {a = a} {rows = rows} s) = and_from (nat_lt a m) (list_all (λ r. nat_lt r m) rows) (lt-ltb a m (omega arith)) (spread_below m (omega arith) s)
+spread_below m h (valued {a = a} {rows = rows} s) =
+    and_from (nat_lt a m) (list_all (λ r. nat_lt r m) rows) (lt-ltb a m (omega arith))
+    (spread_below m (omega arith) s)
 
 -- ---- the numbers of values that aren't 0
 
+-- the counts that are not 0
 abbrev pub some_counts : List ℕ → List ℕ
 some_counts cs = filter (λ c. not (c == 0)) cs
 
@@ -37,7 +41,8 @@ pub counts_spread : (a : ℕ) (cs : List ℕ) → IsSpread a (rows_from a cs) (s
 counts_spread a [] = ended
 counts_spread a (zero ∷ cs) = without (counts_spread (suc a) cs)
 counts_spread a (suc c ∷ cs) =
-    subst (λ b. IsSpread a (cond (not b) (a ∷ rows_from (suc a) cs) (rows_from (suc a) cs)) (cond (not b) (suc c ∷ some_counts cs) (some_counts cs)) (suc c ∷ cs))
+    subst (λ b. IsSpread a (cond (not b) (a ∷ rows_from (suc a) cs) (rows_from (suc a) cs))
+    (cond (not b) (suc c ∷ some_counts cs) (some_counts cs)) (suc c ∷ cs))
     (sym (ne_eqb (suc c) 0 (λ e. omega arith)))
     (valued (counts_spread (suc a) cs))
 
@@ -55,7 +60,8 @@ some_counts-ones (zero ∷ cs) e = some_counts-ones cs (and_parts (nat_le 0 1) (
 some_counts-ones (suc c ∷ cs) e =
     let parts = and_parts (nat_le (suc c) 1) (list_all (λ d. nat_le d 1) cs) e in
     let one : suc c ≡ 1 = omega (arith, leb-true (suc c) 1 parts.0) in
-    let kept : some_counts (suc c ∷ cs) ≡ suc c ∷ some_counts cs = ap (λ b. cond (not b) (suc c ∷ some_counts cs) (some_counts cs)) (ne_eqb (suc c) 0 (λ f. omega arith)) in
+    let kept : some_counts (suc c ∷ cs) ≡ suc c ∷ some_counts cs =
+    ap (λ b. cond (not b) (suc c ∷ some_counts cs) (some_counts cs)) (ne_eqb (suc c) 0 (λ f. omega arith)) in
     kept
     ∙ ap (λ n. n ∷ some_counts cs) one
     ∙ ap (λ vs. 1 ∷ vs) (some_counts-ones cs parts.1)
@@ -73,17 +79,31 @@ record Runs (before bound : ℕ) (values : List ℕ) : Type 0 where
   small : list_all (λ s. nat_lt s bound) (before ∷ more) ≡ true
 
 runs : (before bound : ℕ) (values : List ℕ) → AllByRecursion (λ v. 0 < v) values → before + sum values < bound → Runs before bound values
-runs before bound [] a h = record { more = []; starts = refl; apart = refl; rises = refl; many = refl; small = and_from (nat_lt before bound) true (lt-ltb before bound (omega arith)) refl }
+runs before bound [] a h =
+    record {
+      more = [];
+      starts = refl;
+      apart = refl;
+      rises = refl;
+      many = refl;
+      small = and_from (nat_lt before bound) true (lt-ltb before bound (omega arith)) refl;
+    }
 runs before bound (v ∷ values) a h =
     let total = sum_by-cons (λ x. x) v values in
     let rest = runs (before + v) bound values a.1 (omega arith) in
     record {
       more = (before + v) ∷ rest.more;
-      starts = ap (λ b. cond b (starts_after (before + v) values) (before ∷ starts_after (before + v) values)) (ne_eqb v 0 (λ e. omega (arith, a.0))) ∙ ap (λ ss. before ∷ ss) rest.starts;
+      starts =
+          ap (λ b. cond b (starts_after (before + v) values) (before ∷ starts_after (before + v) values))
+          (ne_eqb v 0 (λ e. omega (arith, a.0))) ∙ ap (λ ss. before ∷ ss) rest.starts;
       apart = ap (λ n. n ∷ differences ((before + v) ∷ rest.more)) (omega arith) ∙ ap (λ vs. v ∷ vs) rest.apart;
-      rises = and_from (nat_lt before (before + v)) (is_rising ((before + v) ∷ rest.more)) (lt-ltb before (before + v) (omega (arith, a.0))) rest.rises;
+      rises =
+          and_from (nat_lt before (before + v)) (is_rising ((before + v) ∷ rest.more))
+          (lt-ltb before (before + v) (omega (arith, a.0))) rest.rises;
       many = ap suc rest.many;
-      small = and_from (nat_lt before bound) (list_all (λ s. nat_lt s bound) ((before + v) ∷ rest.more)) (lt-ltb before bound (omega arith)) rest.small;
+      small =
+          and_from (nat_lt before bound) (list_all (λ s. nat_lt s bound) ((before + v) ∷ rest.more))
+          (lt-ltb before bound (omega arith)) rest.small;
     }
 
 -- ---- indexes of counts
@@ -99,17 +119,21 @@ offsets_of_counts cs = record { set = set_of_counts cs; starts = starts_of cs }
 spread_of_counts : (cs : List ℕ) → IsSpread 0 (rows_with_value cs) (some_counts cs) cs
 spread_of_counts cs = subst (λ rows. IsSpread 0 rows (some_counts cs) cs) (sym (rows_with_value-from cs)) (counts_spread 0 cs)
 
+-- the rows of any counts that have a value rise and stay below their count
 pub counts-are_rows : (cs : List ℕ) → AreRows (set_of_counts cs)
 counts-are_rows cs =
     let s = spread_of_counts cs in
-    and_from (is_rising (rows_with_value cs)) (list_all (λ r. nat_lt r (length cs)) (rows_with_value cs)) (spread_rises s) (spread_below (length cs) (omega arith) s)
+    and_from (is_rising (rows_with_value cs)) (list_all (λ r. nat_lt r (length cs)) (rows_with_value cs))
+    (spread_rises s) (spread_below (length cs) (omega arith) s)
 
 -- where each count is at most 1, the rows tell all
 pub counts-are_set_counts : (cs : List ℕ) → list_all (λ c. nat_le c 1) cs ≡ true → set_counts (set_of_counts cs) ≡ cs
 counts-are_set_counts cs e =
     let s = spread_of_counts cs in
-    let ones : some_counts cs ≡ replicate (length (rows_with_value cs)) 1 = some_counts-ones cs e ∙ ap (λ n. replicate n 1) (sym (spread_length s)) in
-    spread_is (length cs) (rows_with_value cs) (replicate (length (rows_with_value cs)) 1) cs refl (subst (λ vs. IsSpread 0 (rows_with_value cs) vs cs) ones s)
+    let ones : some_counts cs ≡ replicate (length (rows_with_value cs)) 1 =
+    some_counts-ones cs e ∙ ap (λ n. replicate n 1) (sym (spread_length s)) in
+    spread_is (length cs) (rows_with_value cs) (replicate (length (rows_with_value cs)) 1) cs refl
+    (subst (λ vs. IsSpread 0 (rows_with_value cs) vs cs) ones s)
 
 count_runs : (cs : List ℕ) (bound : ℕ) → sum cs < bound → Runs 0 bound (some_counts cs)
 count_runs cs bound h = runs 0 bound (some_counts cs) (some_counts-positive cs) (omega (arith, spread_sum (spread_of_counts cs)))
@@ -118,6 +142,7 @@ count_starts : (cs : List ℕ) (bound : ℕ) (r : Runs 0 bound (some_counts cs))
 unfolding starts_of
 count_starts cs bound r = spread_starts 0 (spread_of_counts cs) ∙ r.starts
 
+-- any counts whose sum is below 2 ^ 32 make rows with a value and start offsets of these
 pub counts-are_offsets : (cs : List ℕ) → sum cs < 2 ^ 32 → AreOffsets (offsets_of_counts cs)
 counts-are_offsets cs h =
     let r = count_runs cs (2 ^ 32) h in
@@ -136,4 +161,5 @@ pub counts-are_offset_counts : (cs : List ℕ) → offset_counts (offsets_of_cou
 counts-are_offset_counts cs =
     let r = count_runs cs (suc (sum cs)) (omega arith) in
     let apart : some_counts cs ≡ differences (starts_of cs) = sym r.apart ∙ ap differences (sym (count_starts cs (suc (sum cs)) r)) in
-    spread_is (length cs) (rows_with_value cs) (differences (starts_of cs)) cs refl (subst (λ vs. IsSpread 0 (rows_with_value cs) vs cs) apart (spread_of_counts cs))
+    spread_is (length cs) (rows_with_value cs) (differences (starts_of cs)) cs refl
+    (subst (λ vs. IsSpread 0 (rows_with_value cs) vs cs) apart (spread_of_counts cs))

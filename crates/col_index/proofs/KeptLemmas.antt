@@ -20,7 +20,8 @@ module _ (counts ps : List ℕ) where
     pub selected-read : get_or xs at 0 ≡ get_or ps at 0
     selected-read =
         let here : at + 0 ≡ at = omega arith in
-        sym (get_or-drop at xs 0 0 ∙ ap (λ n. get_or xs n 0) here) ∙ ap (λ ys. get_or ys 0 0) s.ahead ∙ get_or-drop at ps 0 0 ∙ ap (λ n. get_or ps n 0) here
+        sym (get_or-drop at xs 0 0 ∙ ap (λ n. get_or xs n 0) here) ∙ ap (λ ys. get_or ys 0 0) s.ahead
+        ∙ get_or-drop at ps 0 0 ∙ ap (λ n. get_or ps n 0) here
 
     further : drop (at + 1) xs ≡ drop (at + 1) ps
     further = sym (drop-drop 1 at xs) ∙ ap (drop 1) s.ahead ∙ drop-drop 1 at ps
@@ -30,7 +31,9 @@ module _ (counts ps : List ℕ) where
     selected-same e = record { long = s.long; few = omega (arith, s.few); found = s.found ∙ sym e; ahead = further }
 
     -- a position in another row
-    pub selected-next : (row : ℕ) → at < length xs → rows_at counts (take (at + 1) ps) ≡ rows_at counts (take at ps) ++ row ∷ [] → IsSelected counts ps (set xs kept row) (kept + 1) (at + 1)
+    pub selected-next : (row : ℕ) → at < length xs
+        → rows_at counts (take (at + 1) ps) ≡ rows_at counts (take at ps) ++ row ∷ []
+        → IsSelected counts ps (set xs kept row) (kept + 1) (at + 1)
     selected-next row h e = record {
       long = length-set xs kept row ∙ s.long;
       few = omega (arith, s.few);

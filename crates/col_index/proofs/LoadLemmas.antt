@@ -18,13 +18,17 @@ unfolding chosen_codec
 bitpacked_applies xs h = rw (lt-leb (2 ^ 32) (length xs) h) refl
 
 -- what was written is read
-decoded : (r : Result U64Values ColumnarError) (xs : List ℕ) → length xs < 2 ^ 32 → IfNone (list_refusal (map (λ (n : ℕ). n) xs) (0 ∷ [])) (Decodes list_of r (Some (map (λ (n : ℕ). n) xs))) → Decodes list_of r (Some xs)
+decoded : (r : Result U64Values ColumnarError) (xs : List ℕ) → length xs < 2 ^ 32
+    → IfNone (list_refusal (map (λ (n : ℕ). n) xs) (0 ∷ [])) (Decodes list_of r (Some (map (λ (n : ℕ). n) xs)))
+    → Decodes list_of r (Some xs)
 decoded r xs h e =
     let f = rw (map-id xs) at e in
     subst (λ o. IfNone o (Decodes list_of r (Some xs))) (bitpacked_applies xs h) f
 
 -- the list is the one that was given
-pub loaded-ok : (r : Result U64Values ColumnarError) (xs : List ℕ) → length xs < 2 ^ 32 → IfNone (list_refusal (map (λ (n : ℕ). n) xs) (0 ∷ [])) (Decodes list_of r (Some (map (λ (n : ℕ). n) xs))) → IfOk r (λ values. list_of values ≡ xs)
+pub loaded-ok : (r : Result U64Values ColumnarError) (xs : List ℕ) → length xs < 2 ^ 32
+    → IfNone (list_refusal (map (λ (n : ℕ). n) xs) (0 ∷ [])) (Decodes list_of r (Some (map (λ (n : ℕ). n) xs)))
+    → IfOk r (λ values. list_of values ≡ xs)
 loaded-ok r xs h e = go r (decoded r xs h e)
   where
     go : (r : Result U64Values ColumnarError) → Decodes list_of r (Some xs) → IfOk r (λ values. list_of values ≡ xs)
@@ -32,7 +36,9 @@ loaded-ok r xs h e = go r (decoded r xs h e)
     go (Err e) d = tt
 
 -- only memory may be wanting
-pub loaded-err : (r : Result U64Values ColumnarError) (xs : List ℕ) → length xs < 2 ^ 32 → IfNone (list_refusal (map (λ (n : ℕ). n) xs) (0 ∷ [])) (Decodes list_of r (Some (map (λ (n : ℕ). n) xs))) → IfErr r (λ e. e ≡ refusals.OutOfMemory)
+pub loaded-err : (r : Result U64Values ColumnarError) (xs : List ℕ) → length xs < 2 ^ 32
+    → IfNone (list_refusal (map (λ (n : ℕ). n) xs) (0 ∷ [])) (Decodes list_of r (Some (map (λ (n : ℕ). n) xs)))
+    → IfErr r (λ e. e ≡ refusals.OutOfMemory)
 loaded-err r xs h e = go r (decoded r xs h e)
   where
     from : (e : ColumnarError) → Refuses e (Some xs) → e ≡ refusals.OutOfMemory

@@ -11,7 +11,8 @@ pub filter-agree : {A : Type 0} (p q : A → Bool) → ((x : A) → p x ≡ q x)
 filter-agree p q e xs = let same : p ≡ q = λ i. λ x. e x i in ap (λ test. filter test xs) same
 
 -- the rows of a set, found by a test among all rows
-pub filter-holds : (s : RowSet) → AreRows s → (test : ℕ → Bool) → ((row : ℕ) → test row ≡ holds s.rows row) → filter test (range_with_len 0 s.num_rows) ≡ s.rows
+pub filter-holds : (s : RowSet) → AreRows s → (test : ℕ → Bool) → ((row : ℕ) → test row ≡ holds s.rows row)
+    → filter test (range_with_len 0 s.num_rows) ≡ s.rows
 filter-holds s a test e =
     let valued : ℕ → Bool = λ row. not (get_or (set_counts s) row 0 == 0) in
     filter-agree test valued (λ row. e row ∙ set-holds s a row) (range_with_len 0 s.num_rows)

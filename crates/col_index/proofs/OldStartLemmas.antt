@@ -19,12 +19,14 @@ length-counts_between [] = omega arith
 length-counts_between (x ∷ xs) = length-differences x xs ∙ omega arith
 
 -- the values are as many as the last offset says
-sum-between : (starts : List ℕ) → list_all (λ s. nat_lt s (2 ^ 32)) starts ≡ true → is_never_falling starts ≡ true → sum (differences starts) < 2 ^ 32
+sum-between : (starts : List ℕ) → list_all (λ s. nat_lt s (2 ^ 32)) starts ≡ true → is_never_falling starts ≡ true
+    → sum (differences starts) < 2 ^ 32
 sum-between [] e f = omega arith
 sum-between (x ∷ xs) e f =
     let last = length xs in
     let small = ltb-true _ _ (passes_at (λ s. nat_lt s (2 ^ 32)) (x ∷ xs) last e (omega arith)) in
-    let whole : take last (differences (x ∷ xs)) ≡ differences (x ∷ xs) = take_all last (differences (x ∷ xs)) (omega (arith, length-differences x xs)) in
+    let whole : take last (differences (x ∷ xs)) ≡ differences (x ∷ xs) =
+    take_all last (differences (x ∷ xs)) (omega (arith, length-differences x xs)) in
     omega (arith, small, sum-differences x xs last f (omega arith), ap sum whole)
 
 -- rows and offsets of the counts
@@ -43,9 +45,13 @@ old-few starts old =
     omega (arith, few, (start_list-parts (length o.set.rows) o.starts a.starts).count, length-counts_between starts, old.few)
 
 -- the rows that were found are those of the counts
-pub old-set : (starts rows : List ℕ) → rows ≡ rows_with_value (differences starts) → ◌≡◌ {A = RowSet} (record { num_rows = length starts - 1; rows = rows }) (set_of_counts (differences starts))
+pub old-set : (starts rows : List ℕ) → rows ≡ rows_with_value (differences starts)
+    → ◌≡◌ {A = RowSet} (record { num_rows = length starts - 1; rows = rows }) (set_of_counts (differences starts))
 old-set starts rows e = λ i. record { num_rows = sym (length-counts_between starts) i; rows = e i }
 
 -- and so are the rows with the offsets
-pub old-whole : (offsets rows starts column : List ℕ) (set : RowSet) → rows ≡ rows_with_value (differences offsets) → starts ≡ starts_of (differences offsets) → set ≡ record { num_rows = length offsets - 1; rows = rows } → column ≡ starts → ◌≡◌ {A = RowOffsets} (record { set = set; starts = column }) (offsets_of_counts (differences offsets))
+pub old-whole : (offsets rows starts column : List ℕ) (set : RowSet) → rows ≡ rows_with_value (differences offsets)
+    → starts ≡ starts_of (differences offsets) → set ≡ record { num_rows = length offsets - 1; rows = rows }
+    → column ≡ starts
+    → ◌≡◌ {A = RowOffsets} (record { set = set; starts = column }) (offsets_of_counts (differences offsets))
 old-whole offsets rows starts column set r s e f = λ i. record { set = (e ∙ old-set offsets rows r) i; starts = (f ∙ s) i }

@@ -15,7 +15,8 @@ use Rattle.col_index.specs.Offsets.{offsets_by}
 use Rattle.col_index.specs.Opening.{row_count}
 
 -- what stands behind a number ends with the bytes
-pub vint-behind : (bytes rest : List ℕ) (n : ℕ) → IsBytes bytes → vint bytes ≡ Some (n, rest) → (length rest ≤ length bytes) × (drop (length bytes - length rest) bytes ≡ rest)
+pub vint-behind : (bytes rest : List ℕ) (n : ℕ) → IsBytes bytes → vint bytes ≡ Some (n, rest)
+    → (length rest ≤ length bytes) × (drop (length bytes - length rest) bytes ≡ rest)
 vint-behind bytes rest n b e =
     let spelled : bytes ≡ vint_bytes n ++ rest = vint_bytes-vint bytes n rest b e in
     let long : length bytes ≡ length (vint_bytes n) + length rest = ap length spelled ∙ length-append (vint_bytes n) rest in
@@ -49,7 +50,8 @@ row_set-uncounted bytes e = at (vint bytes) e
     past n None = refl
     past n (Some rows) = refl
 
-    at : (o : Option (ℕ × List ℕ)) → None ≡ (o >>= λ p. only_if (nat_lt p.0 (2 ^ 32)) p) → (o >>= λ p. values64 p.1 >>= tested (nat_lt p.0 (2 ^ 32)) p.0) ≡ None
+    at : (o : Option (ℕ × List ℕ)) → None ≡ (o >>= λ p. only_if (nat_lt p.0 (2 ^ 32)) p)
+        → (o >>= λ p. values64 p.1 >>= tested (nat_lt p.0 (2 ^ 32)) p.0) ≡ None
     at None f = refl
     at (Some p) f = ap (λ t. values64 p.1 >>= tested t p.0) (only_if-none (nat_lt p.0 (2 ^ 32)) p f) ∙ past p.0 (values64 p.1)
 
@@ -58,14 +60,17 @@ pub row_set-unread : (bytes rest : List ℕ) (n : ℕ) → Some (n, rest) ≡ ro
 row_set-unread bytes rest n e f = row_set-counted bytes rest n e ∙ ap (λ values. values >>= set_by n) f
 
 -- rows that are read
-pub row_set-read : (bytes rest rows : List ℕ) (n : ℕ) → Some (n, rest) ≡ row_count bytes → values64 rest ≡ Some rows → row_set bytes ≡ set_by n rows
+pub row_set-read : (bytes rest rows : List ℕ) (n : ℕ) → Some (n, rest) ≡ row_count bytes → values64 rest ≡ Some rows
+    → row_set bytes ≡ set_by n rows
 row_set-read bytes rest rows n e f = row_set-counted bytes rest n e ∙ ap (λ values. values >>= set_by n) f
 
 -- the offsets behind their rows
-pub row_offsets-parted : (bytes a b : List ℕ) → parts_by_first w64 bytes ≡ Some (a, b) → row_offsets bytes ≡ (row_set a >>= λ set. values64 b >>= offsets_by set)
+pub row_offsets-parted : (bytes a b : List ℕ) → parts_by_first w64 bytes ≡ Some (a, b)
+    → row_offsets bytes ≡ (row_set a >>= λ set. values64 b >>= offsets_by set)
 unfolding row_offsets
 row_offsets-parted bytes a b e = rw e refl
 
+-- bytes that have no two parts stand for no offsets
 pub row_offsets-unparted : (bytes : List ℕ) → parts_by_first w64 bytes ≡ None → row_offsets bytes ≡ None
 unfolding row_offsets
 row_offsets-unparted bytes e = rw e refl
@@ -74,11 +79,14 @@ row_offsets-unparted bytes e = rw e refl
 pub row_offsets-unset : (bytes a b : List ℕ) → parts_by_first w64 bytes ≡ Some (a, b) → row_set a ≡ None → row_offsets bytes ≡ None
 row_offsets-unset bytes a b e f = row_offsets-parted bytes a b e ∙ ap (λ s. s >>= λ set. values64 b >>= offsets_by set) f
 
-pub row_offsets-unread : (bytes a b : List ℕ) (set : RowSet) → parts_by_first w64 bytes ≡ Some (a, b) → row_set a ≡ Some set → values64 b ≡ None → row_offsets bytes ≡ None
+-- bytes whose second part stands for no list stand for no offsets
+pub row_offsets-unread : (bytes a b : List ℕ) (set : RowSet) → parts_by_first w64 bytes ≡ Some (a, b)
+    → row_set a ≡ Some set → values64 b ≡ None → row_offsets bytes ≡ None
 row_offsets-unread bytes a b set e f g =
     row_offsets-parted bytes a b e ∙ ap (λ s. s >>= λ set. values64 b >>= offsets_by set) f ∙ ap (λ values. values >>= offsets_by set) g
 
 -- a set and offsets that are read
-pub row_offsets-read : (bytes a b starts : List ℕ) (set : RowSet) → parts_by_first w64 bytes ≡ Some (a, b) → row_set a ≡ Some set → values64 b ≡ Some starts → row_offsets bytes ≡ offsets_by set starts
+pub row_offsets-read : (bytes a b starts : List ℕ) (set : RowSet) → parts_by_first w64 bytes ≡ Some (a, b)
+    → row_set a ≡ Some set → values64 b ≡ Some starts → row_offsets bytes ≡ offsets_by set starts
 row_offsets-read bytes a b starts set e f g =
     row_offsets-parted bytes a b e ∙ ap (λ s. s >>= λ set. values64 b >>= offsets_by set) f ∙ ap (λ values. values >>= offsets_by set) g

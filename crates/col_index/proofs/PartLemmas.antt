@@ -18,9 +18,11 @@ use Rattle.col_index.proofs.RankLaws.{below_rank, from_rank, rank-le-length, ran
 
 -- ---- tables one number after another
 
+-- an empty list is a table of no numbers
 pub table_none : (of : ℕ → ℕ) → IsTable of 0 []
 table_none of = record { long = refl; each = λ k h. absurd (omega arith) }
 
+-- a table with the function's next number at its end is a table of one number more
 pub table_more : (of : ℕ → ℕ) (xs : List ℕ) (n x : ℕ) → IsTable of n xs → x ≡ of n → IsTable of (n + 1) (xs ++ x ∷ [])
 table_more of xs n x t e = record {
   long = length-append xs (x ∷ []) ∙ ap (λ k. k + 1) t.long;
@@ -62,7 +64,11 @@ one_row : (m part x : ℕ) → 0 < m → cond (nat_lt x (m * part)) 1 0 + cond (
 one_row m part x some = elim (cases_lt x (m * part)) [
   | inl earlier ↦
       let quotient = before_part m part x some earlier in
-      rw (lt-ltb x (m * part) earlier, ne_eqb (x / m) part (λ e. omega (arith, quotient)), lt-ltb x (m * (part + 1)) (omega (arith, behind m part))) refl
+      rw (
+        lt-ltb x (m * part) earlier,
+        ne_eqb (x / m) part (λ e. omega (arith, quotient)),
+        lt-ltb x (m * (part + 1)) (omega (arith, behind m part)),
+      ) refl
   | inr from ↦ elim (cases_lt x (m * (part + 1))) [
     | inl inside ↦
         let low = from_part m part x some from in
@@ -75,7 +81,8 @@ one_row m part x some = elim (cases_lt x (m * part)) [
 ]
 
 -- the rows of a part are those before the next that aren't before it
-part_rank : (rows : List ℕ) (m part : ℕ) → 0 < m → rank rows (m * part) + count_by (λ row. nat_eq (row / m) part) rows ≡ rank rows (m * (part + 1))
+part_rank : (rows : List ℕ) (m part : ℕ) → 0 < m
+    → rank rows (m * part) + count_by (λ row. nat_eq (row / m) part) rows ≡ rank rows (m * (part + 1))
 part_rank [] m part some = refl
 part_rank (x ∷ xs) m part some =
     omega (
@@ -99,6 +106,7 @@ module _ (rows counts : List ℕ) (m : ℕ) (some : 0 < m) (c : ArePartCounts ro
       ∙ (sum_by_more (λ n. n) counts part 0 (omega arith)
       ∙ (omega (arith, count, so_far, part_rank rows m part some) ∙ ap (λ k. rank rows (m * k)) (sym next)))
 
+  -- the counts of the parts sum up to at most the number of rows
   pub sum_few : sum counts ≤ length rows
   sum_few =
       let all : take (length counts) counts ≡ counts = take_all (length counts) counts (omega arith) in
@@ -112,7 +120,8 @@ module _ (rows counts : List ℕ) (m : ℕ) (some : 0 < m) (c : ArePartCounts ro
   }
 
 -- the rows before the part of a row are below it, and those from the next part on are not
-pub part_narrowed : (rows : List ℕ) (m row low high : ℕ) → 0 < m → is_rising rows ≡ true → low ≡ rank rows (m * (row / m)) → high ≡ rank rows (m * (row / m + 1)) → IsNarrowed rows row low high
+pub part_narrowed : (rows : List ℕ) (m row low high : ℕ) → 0 < m → is_rising rows ≡ true
+    → low ≡ rank rows (m * (row / m)) → high ≡ rank rows (m * (row / m + 1)) → IsNarrowed rows row low high
 part_narrowed rows m row low high some e at_low at_high =
     let part : ℕ = row / m in
     let start : m * part ≤ row = mul-div-le row m in
@@ -127,16 +136,22 @@ part_narrowed rows m row low high some e at_low at_high =
 
 -- ---- rows counted one after another
 
+-- where no row was counted yet, all parts have the count 0
 pub parts_none : (m : ℕ) (counts : List ℕ) → counts ≡ replicate (length counts) 0 → ArePartCounts [] m counts
 parts_none m counts e part h = ap (λ cs. get_or cs part 0) e ∙ get_or-replicate (length counts) part 0 0 h
 
 -- one row more
-counted_more : (rows : List ℕ) (m at row part : ℕ) → slice_get rows at ≡ Some row → count_by (λ r. nat_eq (r / m) part) (take (at + 1) rows) ≡ count_by (λ r. nat_eq (r / m) part) (take at rows) + cond (nat_eq (row / m) part) 1 0
+counted_more : (rows : List ℕ) (m at row part : ℕ) → slice_get rows at ≡ Some row
+    → count_by (λ r. nat_eq (r / m) part) (take (at + 1) rows)
+    ≡ count_by (λ r. nat_eq (r / m) part) (take at rows) + cond (nat_eq (row / m) part) 1 0
 counted_more rows m at row part read =
     sum_by_more (λ r. cond (nat_eq (r / m) part) 1 0) rows at 0 (slice_get_within rows at row read)
-    ∙ ap (λ r. count_by (λ r. nat_eq (r / m) part) (take at rows) + cond (nat_eq (r / m) part) 1 0) (get_or_from_slice_get rows at row 0 read)
+    ∙ ap (λ r. count_by (λ r. nat_eq (r / m) part) (take at rows) + cond (nat_eq (r / m) part) 1 0)
+    (get_or_from_slice_get rows at row 0 read)
 
-module _ (rows counts : List ℕ) (m at row : ℕ) (c : ArePartCounts (take at rows) m counts) (read : slice_get rows at ≡ Some row) (inside : row / m < length counts) where
+module _ (rows counts : List ℕ) (m at row : ℕ) (c : ArePartCounts (take at rows) m counts)
+    (read : slice_get rows at ≡ Some row) (inside : row / m < length counts) where
+  -- one row more raises the count of its part by one
   pub parts_more : ArePartCounts (take (at + 1) rows) m (set counts (row / m) (get_or counts (row / m) 0 + 1))
   parts_more part h =
       let n : ℕ = get_or counts (row / m) 0 + 1 in
@@ -148,7 +163,8 @@ module _ (rows counts : List ℕ) (m at row : ℕ) (c : ArePartCounts (take at r
             ∙ (get_or-set_same counts (row / m) n 0 inside
             ∙ omega (arith, ap (λ k. get_or counts k 0) same, c part within, counted_more rows m at row part read, one))
         | inr other ↦
-            let none : ◌≡◌ {A = ℕ} (cond (nat_eq (row / m) part) 1 0) 0 = ap (λ (b : Bool). cond b 1 0) (ne_eqb (row / m) part (λ e. other (sym e))) in
+            let none : ◌≡◌ {A = ℕ} (cond (nat_eq (row / m) part) 1 0) 0 =
+            ap (λ (b : Bool). cond b 1 0) (ne_eqb (row / m) part (λ e. other (sym e))) in
             get_or-set_other counts (row / m) part n 0 other
             ∙ omega (arith, c part within, counted_more rows m at row part read, none)
       ]

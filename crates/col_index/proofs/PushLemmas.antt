@@ -5,7 +5,7 @@ use Rattle.std.proofs.lemmas.List.Elements.{filter-append}
 use Rattle.std.specs.declared.alloc.AllocError.{AllocError}
 use Rattle.col_model.specs.Index.{multivalued_shape}
 use Rattle.col_model.specs.Positions.{rank, values_in}
-use Rattle.col_index.specs.Offsets.{run, docs_of, positions_of, positions_of_rows, row_positions}
+use Rattle.col_index.specs.Offsets.{run, found_rows, positions_of, positions_of_rows, row_positions}
 use Rattle.col_index.specs.Appending.{BeginsWith, PushesBoth}
 use Rattle.col_index.specs.Sets.{holds, held, held_ranks}
 use Rattle.col_index.proofs.ValueLemmas.{run-more}
@@ -21,7 +21,9 @@ pub begins-more : (new found front more later : List ℕ) → new ≡ found ++ l
 begins-more new found front more later n e = (more ++ later, n ∙ ap (λ xs. xs ++ later) e ∙ append_assoc front more later)
 
 -- want of memory
-pub pushes-stopped : {docs_old docs_new rows_old rows_new docs rows : List ℕ} (Q : AllocError → Type 0) (r : Result (Unit {0}) AllocError) → IsErrAnd r Q → BeginsWith docs_new docs_old → BeginsWith rows_new rows_old → PushesBoth docs_old docs_new rows_old rows_new r docs rows
+pub pushes-stopped : {docs_old docs_new rows_old rows_new docs rows : List ℕ} (Q : AllocError → Type 0)
+    (r : Result (Unit {0}) AllocError) → IsErrAnd r Q → BeginsWith docs_new docs_old → BeginsWith rows_new rows_old
+    → PushesBoth docs_old docs_new rows_old rows_new r docs rows
 pushes-stopped Q (Ok v) h p q = absurd h
 pushes-stopped Q (Err e) h p q = record { docs = tt; rows = tt; err = (p, q) }
 
@@ -35,36 +37,51 @@ module _ (front found new : List ℕ) (doc start position : ℕ) (h : start ≤ 
       up = omega arith
 
   -- the row once more
-  pub docs-more : found ≡ front ++ docs_of (run doc start (position - start)) → new ≡ found ++ doc ∷ [] → new ≡ front ++ docs_of (run doc start (position + 1 - start))
+  pub docs-more : found ≡ front ++ found_rows (run doc start (position - start)) → new ≡ found ++ doc ∷ []
+      → new ≡ front ++ found_rows (run doc start (position + 1 - start))
   docs-more e n =
-      n ∙ ap (λ xs. xs ++ doc ∷ []) e ∙ append_assoc front (docs_of (run doc start (position - start))) (doc ∷ [])
-      ∙ ap (λ xs. front ++ xs) (sym (ap docs_of one_more ∙ map-append (λ (p : ℕ × ℕ). p.0) (run doc start (position - start)) ((doc, position) ∷ [])))
+      n ∙ ap (λ xs. xs ++ doc ∷ []) e ∙ append_assoc front (found_rows (run doc start (position - start))) (doc ∷ [])
+      ∙ ap (λ xs. front ++ xs) (sym (ap found_rows one_more
+      ∙ map-append (λ (p : ℕ × ℕ). p.0) (run doc start (position - start)) ((doc, position) ∷ [])))
 
   -- the next position
-  pub positions-more : found ≡ front ++ positions_of (run doc start (position - start)) → new ≡ found ++ position ∷ [] → new ≡ front ++ positions_of (run doc start (position + 1 - start))
+  pub positions-more : found ≡ front ++ positions_of (run doc start (position - start))
+      → new ≡ found ++ position ∷ [] → new ≡ front ++ positions_of (run doc start (position + 1 - start))
   positions-more e n =
       n ∙ ap (λ xs. xs ++ position ∷ []) e ∙ append_assoc front (positions_of (run doc start (position - start))) (position ∷ [])
-      ∙ ap (λ xs. front ++ xs) (sym (ap positions_of one_more ∙ map-append (λ (p : ℕ × ℕ). p.1) (run doc start (position - start)) ((doc, position) ∷ [])))
+      ∙ ap (λ xs. front ++ xs) (sym (ap positions_of one_more
+      ∙ map-append (λ (p : ℕ × ℕ). p.1) (run doc start (position - start)) ((doc, position) ∷ [])))
 
 -- ---- the values of rows, one row after another
 
 -- one row more
-visited-more : (counts docs : List ℕ) (i : ℕ) → i < length docs → row_positions counts (take (i + 1) docs) ≡ row_positions counts (take i docs) ++ values_in (multivalued_shape counts) (get_or docs i 0)
+visited-more : (counts docs : List ℕ) (i : ℕ) → i < length docs
+    → row_positions counts (take (i + 1) docs)
+    ≡ row_positions counts (take i docs) ++ values_in (multivalued_shape counts) (get_or docs i 0)
 unfolding positions_of_rows
 visited-more counts docs i h =
     ap (flat_map (values_in (multivalued_shape counts))) (take_more docs i 0 h)
     ∙ sym (flat_map_more (values_in (multivalued_shape counts)) [] (take i docs) (get_or docs i 0))
 
 -- of each value one part, its row or its position
-pub visited : (part : ℕ × ℕ → ℕ) (counts docs front found new : List ℕ) (i : ℕ) → i < length docs → found ≡ front ++ map part (row_positions counts (take i docs)) → new ≡ found ++ map part (values_in (multivalued_shape counts) (get_or docs i 0)) → new ≡ front ++ map part (row_positions counts (take (i + 1) docs))
+pub visited : (part : ℕ × ℕ → ℕ) (counts docs front found new : List ℕ) (i : ℕ) → i < length docs
+    → found ≡ front ++ map part (row_positions counts (take i docs))
+    → new ≡ found ++ map part (values_in (multivalued_shape counts) (get_or docs i 0))
+    → new ≡ front ++ map part (row_positions counts (take (i + 1) docs))
 visited part counts docs front found new i h e n =
     n ∙ ap (λ xs. xs ++ map part (values_in (multivalued_shape counts) (get_or docs i 0))) e
     ∙ append_assoc front (map part (row_positions counts (take i docs))) (map part (values_in (multivalued_shape counts) (get_or docs i 0)))
-    ∙ ap (λ xs. front ++ xs) (sym (ap (map part) (visited-more counts docs i h) ∙ map-append part (row_positions counts (take i docs)) (values_in (multivalued_shape counts) (get_or docs i 0))))
+    ∙ ap (λ xs. front ++ xs) (sym (ap (map part) (visited-more counts docs i h)
+    ∙ map-append part (row_positions counts (take i docs))
+    (values_in (multivalued_shape counts) (get_or docs i 0))))
 
 -- a row without values
-pub visited-free : (part : ℕ × ℕ → ℕ) (counts docs front found : List ℕ) (i : ℕ) → i < length docs → values_in (multivalued_shape counts) (get_or docs i 0) ≡ [] → found ≡ front ++ map part (row_positions counts (take i docs)) → found ≡ front ++ map part (row_positions counts (take (i + 1) docs))
-visited-free part counts docs front found i h none e = visited part counts docs front found found i h e (sym (ap (λ vs. found ++ map part vs) none ∙ append-nil found))
+pub visited-free : (part : ℕ × ℕ → ℕ) (counts docs front found : List ℕ) (i : ℕ) → i < length docs
+    → values_in (multivalued_shape counts) (get_or docs i 0) ≡ []
+    → found ≡ front ++ map part (row_positions counts (take i docs))
+    → found ≡ front ++ map part (row_positions counts (take (i + 1) docs))
+visited-free part counts docs front found i h none e =
+    visited part counts docs front found found i h e (sym (ap (λ vs. found ++ map part vs) none ∙ append-nil found))
 
 -- the first row
 pub visited-none : (part : ℕ × ℕ → ℕ) (counts front : List ℕ) → front ≡ front ++ map part (row_positions counts [])
@@ -81,14 +98,18 @@ module _ (rows docs : List ℕ) (i : ℕ) (h : i < length docs) (e : holds rows 
       ∙ ap (λ b. held rows (take i docs) ++ cond b (get_or docs i 0 ∷ []) []) e
 
   -- a row that is in
-  pub held-pushed : (front found new : List ℕ) → found ≡ front ++ held rows (take i docs) → new ≡ found ++ get_or docs i 0 ∷ [] → new ≡ front ++ held rows (take (i + 1) docs)
+  pub held-pushed : (front found new : List ℕ) → found ≡ front ++ held rows (take i docs)
+      → new ≡ found ++ get_or docs i 0 ∷ [] → new ≡ front ++ held rows (take (i + 1) docs)
   held-pushed front found new f n =
       n ∙ ap (λ xs. xs ++ get_or docs i 0 ∷ []) f ∙ append_assoc front (held rows (take i docs)) (get_or docs i 0 ∷ [])
       ∙ ap (λ xs. front ++ xs) (sym held_more)
 
   -- and its rank
-  pub rank-pushed : (front found new : List ℕ) (at : ℕ) → at ≡ rank rows (get_or docs i 0) → found ≡ front ++ held_ranks rows (take i docs) → new ≡ found ++ at ∷ [] → new ≡ front ++ held_ranks rows (take (i + 1) docs)
+  pub rank-pushed : (front found new : List ℕ) (at : ℕ) → at ≡ rank rows (get_or docs i 0)
+      → found ≡ front ++ held_ranks rows (take i docs) → new ≡ found ++ at ∷ []
+      → new ≡ front ++ held_ranks rows (take (i + 1) docs)
   rank-pushed front found new at r f n =
       n ∙ ap (λ xs. xs ++ at ∷ []) f ∙ append_assoc front (held_ranks rows (take i docs)) (at ∷ [])
       ∙ ap (λ k. front ++ (held_ranks rows (take i docs) ++ k ∷ [])) r
-      ∙ ap (λ xs. front ++ xs) (sym (ap (map (rank rows)) held_more ∙ map-append (rank rows) (held rows (take i docs)) (get_or docs i 0 ∷ [])))
+      ∙ ap (λ xs. front ++ xs) (sym (ap (map (rank rows)) held_more
+      ∙ map-append (rank rows) (held rows (take i docs)) (get_or docs i 0 ∷ [])))

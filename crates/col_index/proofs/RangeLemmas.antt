@@ -17,7 +17,8 @@ use Rattle.col_index.proofs.CountLaws.{offset_counts-start, length-offset_counts
 pub past-free : (rows : List ℕ) (row : ℕ) → is_rising rows ≡ true → length rows ≤ rank rows row → holds rows row ≡ false
 past-free rows row e h = false_from_ne_true _ (λ held. omega (arith, (holds-rank rows row e held).0))
 
-module _ (rows : List ℕ) (row found : ℕ) (k : ℕ) (e : is_rising rows ≡ true) (r : k ≡ rank rows row) (read : slice_get rows k ≡ Some found) where
+module _ (rows : List ℕ) (row found : ℕ) (k : ℕ) (e : is_rising rows ≡ true) (r : k ≡ rank rows row)
+    (read : slice_get rows k ≡ Some found) where
   at_rank : get_or rows (rank rows row) 0 ≡ found
   at_rank = ap (λ n. get_or rows n 0) (sym r) ∙ get_or_from_slice_get rows k found 0 read
 
@@ -42,18 +43,23 @@ rank-behind_held rows row e h = rank-next rows row e ∙ ap (λ b. rank rows row
 module _ (o : RowOffsets) (a : AreOffsets o) (row : ℕ) where
   -- a number that is no row
   pub range-outside : o.set.num_rows ≤ row → index_range (offset_counts o) row ≡ (0, 0)
-  range-outside h = ap (λ b. cond b (start_of (offset_counts o) row, start_of (offset_counts o) (row + 1)) (0, 0)) (le-ltb row (length (offset_counts o)) (omega (arith, length-offset_counts o)))
+  range-outside h =
+      ap (λ b. cond b (start_of (offset_counts o) row, start_of (offset_counts o) (row + 1)) (0, 0))
+      (le-ltb row (length (offset_counts o)) (omega (arith, length-offset_counts o)))
 
   module _ (h : row < o.set.num_rows) where
     inside : index_range (offset_counts o) row ≡ (start_of (offset_counts o) row, start_of (offset_counts o) (row + 1))
-    inside = ap (λ b. cond b (start_of (offset_counts o) row, start_of (offset_counts o) (row + 1)) (0, 0)) (lt-ltb row (length (offset_counts o)) (omega (arith, length-offset_counts o)))
+    inside =
+        ap (λ b. cond b (start_of (offset_counts o) row, start_of (offset_counts o) (row + 1)) (0, 0))
+        (lt-ltb row (length (offset_counts o)) (omega (arith, length-offset_counts o)))
 
     module _ (k place : ℕ) (r : k ≡ rank o.set.rows row) where
       -- the start is the offset of the rank
       pub range-start : place ≡ get_or o.starts k 0 → place ≡ (index_range (offset_counts o) row).0
       range-start s = s ∙ ap (λ n. get_or o.starts n 0) r ∙ sym (ap (λ p. p.0) inside ∙ offset_counts-start o a row)
 
-      behind : (next : ℕ) → next ≡ rank o.set.rows (row + 1) → place ≡ get_or o.starts next 0 → place ≡ (index_range (offset_counts o) row).1
+      behind : (next : ℕ) → next ≡ rank o.set.rows (row + 1) → place ≡ get_or o.starts next 0
+          → place ≡ (index_range (offset_counts o) row).1
       behind next q s = s ∙ ap (λ n. get_or o.starts n 0) q ∙ sym (ap (λ p. p.1) inside ∙ offset_counts-start o a (row + 1))
 
       -- without values the end is the start

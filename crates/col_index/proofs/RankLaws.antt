@@ -12,17 +12,21 @@ use Rattle.col_index.specs.Sets.{AreRows}
 
 -- ---- one row more
 
+-- a first item below the target raises the rank by one
 pub rank-cons_below : (x : ℕ) (xs : List ℕ) (t : ℕ) → x < t → rank (x ∷ xs) t ≡ suc (rank xs t)
 rank-cons_below x xs t h = sum_by-cons (λ r. cond (nat_lt r t) 1 0) x xs ∙ ap (λ b. cond b 1 0 + rank xs t) (lt-ltb x t h) ∙ omega arith
 
+-- a first item that isn't below the target leaves the rank as it is
 pub rank-cons_above : (x : ℕ) (xs : List ℕ) (t : ℕ) → t ≤ x → rank (x ∷ xs) t ≡ rank xs t
 rank-cons_above x xs t h = sum_by-cons (λ r. cond (nat_lt r t) 1 0) x xs ∙ ap (λ b. cond b 1 0 + rank xs t) (le-ltb x t h) ∙ omega arith
 
 -- ---- what rises
 
+-- the rows with a value rise
 pub rows_rise : (s : RowSet) → AreRows s → is_rising s.rows ≡ true
 rows_rise s a = (and_parts (is_rising s.rows) (list_all (λ r. nat_lt r s.num_rows) s.rows) a).0
 
+-- a rising list rises behind its first item
 pub tail_rises : (x : ℕ) (xs : List ℕ) → is_rising (x ∷ xs) ≡ true → is_rising xs ≡ true
 tail_rises x [] e = refl
 tail_rises x (y ∷ ys) e = (and_parts (nat_lt x y) (is_rising (y ∷ ys)) e).1
@@ -35,23 +39,28 @@ rising_from b x (y ∷ ys) e h =
     let up = ltb-true x y parts.0 in
     (omega arith, rising_from b y ys parts.1 (omega arith))
 
+-- where no item is below a bound, none at any place is
 pub all_at : (b : ℕ) (xs : List ℕ) (k : ℕ) → AllByRecursion (λ y. b ≤ y) xs → k < length xs → b ≤ get_or xs k 0
 all_at b [] k a h = absurd (omega arith)
 all_at b (x ∷ xs) zero a h = a.0
 all_at b (x ∷ xs) (suc k) a h = all_at b xs k a.1 (omega arith)
 
+-- where each item is below a bound, that at any place is
 pub below_at : (b : ℕ) (xs : List ℕ) (k : ℕ) → AreBelow b xs → k < length xs → get_or xs k 0 < b
 below_at b xs k a h = All-from_recursion (λ x. x < b) xs a k 0 h
 
 -- ---- ranks
 
+-- a number that no item is below has rank 0
 pub rank-none : (xs : List ℕ) (t : ℕ) → AllByRecursion (λ y. t ≤ y) xs → rank xs t ≡ 0
 rank-none [] t a = refl
 rank-none (x ∷ xs) t a = rank-cons_above x xs t a.0 ∙ rank-none xs t a.1
 
+-- a rank is at most the length of its list
 pub rank-le-length : (xs : List ℕ) (t : ℕ) → rank xs t ≤ length xs
 rank-le-length xs t = count_by-le-length (λ r. nat_lt r t) xs
 
+-- a greater number has no smaller rank
 pub rank-monotone : (xs : List ℕ) (t u : ℕ) → t ≤ u → rank xs t ≤ rank xs u
 rank-monotone [] t u h = omega arith
 rank-monotone (x ∷ xs) t u h =
@@ -113,6 +122,7 @@ narrowed-rank (x ∷ xs) t (suc k) n =
     } in
     ap suc (narrowed-rank xs t k rest) ∙ sym (rank-cons_below x xs t (n.below 0 (omega arith)))
 
+-- in a rising list the items before a rank are below the number, and the others aren't
 pub rank-narrowed : (xs : List ℕ) (t k : ℕ) → is_rising xs ≡ true → k ≡ rank xs t → IsNarrowed xs t k k
 rank-narrowed xs t k e h = record {
   ordered = omega arith;
@@ -125,6 +135,8 @@ rank-narrowed xs t k e h = record {
 pub next_row-rank : (xs : List ℕ) (t : ℕ) → is_rising xs ≡ true → next_row xs t ≡ slice_get xs (rank xs t)
 next_row-rank [] t e = refl
 next_row-rank (x ∷ xs) t e = elim (cases_lt x t) [
-  | inl b ↦ cond-false (nat_le t x) (Some x) (next_row xs t) (lt-leb t x b) ∙ next_row-rank xs t (tail_rises x xs e) ∙ ap (slice_get (x ∷ xs)) (sym (rank-cons_below x xs t b))
-  | inr a ↦ cond-true (nat_le t x) (Some x) (next_row xs t) (le-leb t x a) ∙ ap (slice_get (x ∷ xs)) (sym (rank-none (x ∷ xs) t (a, rising_from t x xs e (omega arith))))
+  | inl b ↦ cond-false (nat_le t x) (Some x) (next_row xs t) (lt-leb t x b) ∙ next_row-rank xs t (tail_rises x xs e)
+      ∙ ap (slice_get (x ∷ xs)) (sym (rank-cons_below x xs t b))
+  | inr a ↦ cond-true (nat_le t x) (Some x) (next_row xs t) (le-leb t x a)
+      ∙ ap (slice_get (x ∷ xs)) (sym (rank-none (x ∷ xs) t (a, rising_from t x xs e (omega arith))))
 ]

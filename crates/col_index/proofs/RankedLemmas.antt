@@ -25,12 +25,19 @@ rank_past s row a h = narrowed-rank s.rows row (length s.rows) (record {
 
 -- and has no value
 pub missed_past : (s : RowSet) (row : ℕ) → AreRows s → s.num_rows ≤ row → None ≡ only_if (holds s.rows row) (rank s.rows row)
-missed_past s row a h = sym (ap (λ b. only_if b (rank s.rows row)) (past-free s.rows row (rows_rise s a) (omega (arith, rank_past s row a h))))
+missed_past s row a h =
+    sym (ap (λ b. only_if b (rank s.rows row))
+    (past-free s.rows row (rows_rise s a) (omega (arith, rank_past s row a h))))
 
 -- a row with a bit has the rank that the bits say
-module _ (s : RowSet) (r : Ranks) (row : ℕ) (ranked : AreRankedRows s r) (reached : nat_lt row (64 * length r.words.words.items) ≡ true) where
+module _ (s : RowSet) (r : Ranks) (row : ℕ) (ranked : AreRankedRows s r)
+    (reached : nat_lt row (64 * length r.words.words.items) ≡ true) where
+  -- the bits set below a row are as many as its rank
   pub bits_rank : ones_below r.words.words.items r.words.before.items row ≡ rank s.rows row
-  bits_rank = ones_below-rank s.rows r.words.words.items r.words.before.items row (rows_rise s ranked.rows) ranked.kept.bits (ltb-true row (64 * length r.words.words.items) reached)
+  bits_rank =
+      ones_below-rank s.rows r.words.words.items r.words.before.items row (rows_rise s ranked.rows) ranked.kept.bits
+      (ltb-true row (64 * length r.words.words.items) reached)
 
+  -- the bits set below a row are fewer than 2 ^ 32
   pub bits_fit : ones_below r.words.words.items r.words.before.items row < 2 ^ 32
   bits_fit = omega (arith, bits_rank, rank-le-length s.rows row, ranked.kept.bits.few)

@@ -31,5 +31,6 @@ module _ (s : RowSet) (row : ℕ) (a : AreRows s) (h : row < s.num_rows) where
   pub range_end-held : holds s.rows row ≡ true → (index_range (set_counts s) row).1 ≡ rank s.rows row + 1
   range_end-held e = behind ∙ rank-behind_held s.rows row (rows_rise s a) e
 
+  -- the positions of a row without a value end at its rank, where they begin
   pub range_end-none : holds s.rows row ≡ false → (index_range (set_counts s) row).1 ≡ rank s.rows row
   range_end-none e = behind ∙ rank-behind_free s.rows row (rows_rise s a) e

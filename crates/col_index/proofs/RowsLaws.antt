@@ -11,7 +11,8 @@ abbrev pub rows_from : ℕ → List ℕ → List ℕ
 rows_from a [] = []
 rows_from a (c ∷ cs) = let later = rows_from (suc a) cs in cond (not (c == 0)) (a ∷ later) later
 
-rows_behind : (front cs : List ℕ) (a : ℕ) → length front ≡ a → filter (λ row. not (get_or (front ++ cs) row 0 == 0)) (range_with_len a (length cs)) ≡ rows_from a cs
+rows_behind : (front cs : List ℕ) (a : ℕ) → length front ≡ a
+    → filter (λ row. not (get_or (front ++ cs) row 0 == 0)) (range_with_len a (length cs)) ≡ rows_from a cs
 rows_behind front [] a e = refl
 rows_behind front (c ∷ cs) a e =
     let here = get_or_at front c cs 0 a e in
@@ -22,6 +23,7 @@ rows_behind front (c ∷ cs) a e =
     ∙ rows_behind (front ++ c ∷ []) cs (suc a) (omega (arith, length_push front c)) in
     ap (λ n. cond (not (n == 0)) (a ∷ more) more) here ∙ ap (λ later. cond (not (c == 0)) (a ∷ later) later) rest
 
+-- the rows with a value are those from row 0 on
 pub rows_with_value-from : (cs : List ℕ) → rows_with_value cs ≡ rows_from 0 cs
 rows_with_value-from cs = rows_behind [] cs 0 refl
 

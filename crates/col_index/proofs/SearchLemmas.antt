@@ -35,6 +35,7 @@ module _ (xs : List ℕ) (target : ℕ) where
     above = λ i h k. absurd (omega arith);
   }
 
+  -- a search that has nothing left stands at the rank
   pub narrowed_done : (low high : ℕ) → high ≤ low → IsNarrowed xs target low high → low ≡ rank xs target
   narrowed_done low high h s =
       let ordered = s.ordered in
@@ -42,10 +43,12 @@ module _ (xs : List ℕ) (target : ℕ) where
       narrowed-rank xs target low (subst (λ k. IsNarrowed xs target low k) same s)
 
   -- a number between both places is compared
-  module _ (low high m number : ℕ) (e : is_rising xs ≡ true) (s : IsNarrowed xs target low high) (from : low ≤ m) (upto : m < high) (read : slice_get xs m ≡ Some number) where
+  module _ (low high m number : ℕ) (e : is_rising xs ≡ true) (s : IsNarrowed xs target low high) (from : low ≤ m)
+      (upto : m < high) (read : slice_get xs m ≡ Some number) where
     at : slice_index xs m ≡ number
     at = get_or_from_slice_get xs m number 0 read
 
+    -- where the middle is below the target, the search goes on behind it
     pub narrowed_less : number < target → IsNarrowed xs target (m + 1) high
     narrowed_less less =
         let within = s.within in
@@ -59,6 +62,7 @@ module _ (xs : List ℕ) (target : ℕ) where
           above = s.above;
         }
 
+    -- where the middle isn't below the target, the search goes on before it
     pub narrowed_not_less : target ≤ number → IsNarrowed xs target low m
     narrowed_not_less more =
         let within = s.within in
@@ -115,7 +119,9 @@ module _ (xs : List ℕ) (at next old target : ℕ) (e : is_rising xs ≡ true) 
       })
 
 -- one number further
-pub rank_of_next : (xs : List ℕ) (at next old : ℕ) → is_rising xs ≡ true → at ≡ rank xs old → next ≡ slice_index_or xs at (2 ^ 64 - 1) → next < 2 ^ 64 - 1 → (at < length xs) × (at + 1 ≡ rank xs (next + 1))
+pub rank_of_next : (xs : List ℕ) (at next old : ℕ) → is_rising xs ≡ true → at ≡ rank xs old
+    → next ≡ slice_index_or xs at (2 ^ 64 - 1) → next < 2 ^ 64 - 1
+    → (at < length xs) × (at + 1 ≡ rank xs (next + 1))
 rank_of_next xs at next old e ranked first h = elim (cases_lt at (length xs)) [
   | inl inside ↦
       let here : slice_index_or xs at (2 ^ 64 - 1) ≡ slice_index xs at = get_or_default xs at (2 ^ 64 - 1) 0 inside in (
@@ -130,5 +136,6 @@ rank_of_next xs at next old e ranked first h = elim (cases_lt at (length xs)) [
           above = λ i k l. let later = rising_pair xs at i e (omega arith) l in omega (arith, first, here);
         }),
       )
-  | inr outside ↦ let past : slice_index_or xs at (2 ^ 64 - 1) ≡ 2 ^ 64 - 1 = get_or_past xs at (2 ^ 64 - 1) outside in absurd (omega (arith, first, past))
+  | inr outside ↦ let past : slice_index_or xs at (2 ^ 64 - 1) ≡ 2 ^ 64 - 1 =
+      get_or_past xs at (2 ^ 64 - 1) outside in absurd (omega (arith, first, past))
 ]

@@ -36,6 +36,7 @@ room n x (y ∷ ys) e b =
     let rest = room n y ys (tail_rises x (y ∷ ys) e) (and_parts (nat_lt x n) (list_all (λ r. nat_lt r n) (y ∷ ys)) b).1 in
     omega arith
 
+-- rows that rise and stay below a count are at most as many
 pub few_rows : (n : ℕ) (rows : List ℕ) → is_row_list n rows ≡ true → length rows ≤ n
 few_rows n [] e = omega arith
 few_rows n (x ∷ xs) e =
@@ -46,7 +47,8 @@ few_rows n (x ∷ xs) e =
 -- ---- whether a row is in
 
 -- the row with the rank is compared
-pub holds_compared : (xs : List ℕ) (row k number : ℕ) → is_rising xs ≡ true → k ≡ rank xs row → slice_get xs k ≡ Some number → nat_eq number row ≡ holds xs row
+pub holds_compared : (xs : List ℕ) (row k number : ℕ) → is_rising xs ≡ true → k ≡ rank xs row
+    → slice_get xs k ≡ Some number → nat_eq number row ≡ holds xs row
 holds_compared xs row k number e ranked read = elim (cases_order number row) [
   | inl same ↦ eq-eqb number row same ∙ sym (same-held xs row number k e ranked read same)
   | inr (inl below) ↦ ne_eqb number row (λ s. omega arith) ∙ sym (other-free xs row number k e ranked read (λ s. omega arith))
@@ -54,7 +56,8 @@ holds_compared xs row k number e ranked read = elim (cases_order number row) [
 ]
 
 -- the row of a place is compared with the number there
-pub holds_place : (xs : List ℕ) (at next row : ℕ) → is_rising xs ≡ true → at ≡ rank xs row → next ≡ slice_index_or xs at (2 ^ 64 - 1) → row < 2 ^ 32 → nat_eq next row ≡ holds xs row
+pub holds_place : (xs : List ℕ) (at next row : ℕ) → is_rising xs ≡ true → at ≡ rank xs row
+    → next ≡ slice_index_or xs at (2 ^ 64 - 1) → row < 2 ^ 32 → nat_eq next row ≡ holds xs row
 holds_place xs at next row e ranked first h = elim (cases_lt at (length xs)) [
   | inl inside ↦ holds_compared xs row at next e ranked (slice_get-get_or xs at (2 ^ 64 - 1) inside ∙ ap Some (sym first))
   | inr past ↦
@@ -72,22 +75,29 @@ rest_rises n next (row ∷ rows) = nat_le next row && nat_lt row n && rest_rises
 rearranged : (a b c d l r : Bool) → (b && (d && l)) ≡ (d && r) → (a && b && (c && (d && l))) ≡ (c && (a && d && r))
 rearranged a b c d l r h = grind arith
 
-rises_from : (n row : ℕ) (rows : List ℕ) → (is_rising (row ∷ rows) && list_all (λ r. nat_lt r n) (row ∷ rows)) ≡ (nat_lt row n && rest_rises n (row + 1) rows)
+rises_from : (n row : ℕ) (rows : List ℕ)
+    → (is_rising (row ∷ rows) && list_all (λ r. nat_lt r n) (row ∷ rows))
+    ≡ (nat_lt row n && rest_rises n (row + 1) rows)
 rises_from n row [] = refl
 rises_from n row (next ∷ rows) =
     let above : nat_lt row next ≡ nat_le (row + 1) next = grind (arith, nat_tests) in
-    let rest = rearranged (nat_lt row next) (is_rising (next ∷ rows)) (nat_lt row n) (nat_lt next n) (list_all (λ r. nat_lt r n) rows) (rest_rises n (next + 1) rows) (rises_from n next rows) in
+    let rest = rearranged (nat_lt row next) (is_rising (next ∷ rows)) (nat_lt row n) (nat_lt next n)
+    (list_all (λ r. nat_lt r n) rows) (rest_rises n (next + 1) rows) (rises_from n next rows) in
     rest ∙ ap (λ b. nat_lt row n && (b && nat_lt next n && rest_rises n (next + 1) rows)) above
 
+-- to rise below a count is to rise from 0 on
 pub rises_first : (n : ℕ) (rows : List ℕ) → is_row_list n rows ≡ rest_rises n 0 rows
 rises_first n [] = refl
-rises_first n (row ∷ rows) = rises_from n row rows ∙ ap (λ b. b && nat_lt row n && rest_rises n (row + 1) rows) (sym (le-leb 0 row (omega arith)))
+rises_first n (row ∷ rows) =
+    rises_from n row rows
+    ∙ ap (λ b. b && nat_lt row n && rest_rises n (row + 1) rows) (sym (le-leb 0 row (omega arith)))
 
 -- what a test lets through
 pub only_if-some : {A : Type 0} (test : Bool) (x y : A) → Some x ≡ only_if test y → (test ≡ true) × (x ≡ y)
 only_if-some true x y e = (refl, same_Some x y e)
 only_if-some false x y e = absurd (none-some x (sym e))
 
+-- a value that isn't given under a test says that the test fails
 pub only_if-none : {A : Type 0} (test : Bool) (y : A) → None ≡ only_if test y → test ≡ false
 only_if-none true y e = absurd (none-some y e)
 only_if-none false y e = refl
@@ -112,6 +122,8 @@ module _ (n next : ℕ) (rows : List ℕ) (at : ℕ) (within : at < length rows)
   pub rises_refused : None ≡ only_if fits here → rest_rises n next (drop at rows) ≡ false
   rises_refused e = behind ∙ ap (λ b. b && rest_rises n (here + 1) (drop (at + 1) rows)) (only_if-none fits here e)
 
+  -- a row that is let through stands in the list at its place, below the count, and the rest must
+  -- rise behind it
   pub rises_taken : (row : ℕ) → Some row ≡ only_if fits here → IsTaken n next rows at row
   rises_taken row e =
       let told = only_if-some fits row here e in
@@ -119,10 +131,13 @@ module _ (n next : ℕ) (rows : List ℕ) (at : ℕ) (within : at < length rows)
       record {
         read = slice_get-get_or rows at 0 within ∙ ap Some (sym told.1);
         below = omega (arith, told.1, below);
-        rest = behind ∙ ap (λ b. b && rest_rises n (here + 1) (drop (at + 1) rows)) told.0 ∙ ap (λ r. rest_rises n (r + 1) (drop (at + 1) rows)) (sym told.1);
+        rest =
+            behind ∙ ap (λ b. b && rest_rises n (here + 1) (drop (at + 1) rows)) told.0
+            ∙ ap (λ r. rest_rises n (r + 1) (drop (at + 1) rows)) (sym told.1);
       }
 
 -- ---- lists that were added to
 
+-- a list that begins with another begins with each front of this
 pub begins_later : (xs ys front more : List ℕ) → xs ≡ front ++ more → BeginsWith ys xs → BeginsWith ys front
 begins_later xs ys front more e b = (more ++ b.0, b.1 ∙ ap (λ l. l ++ b.0) e ∙ append_assoc front more b.0)

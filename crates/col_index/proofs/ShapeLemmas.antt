@@ -14,23 +14,32 @@ use Rattle.col_index.specs.Opening.{first_byte_cardinality}
 use Rattle.col_index.specs.Versions.{version_number, cardinality_of}
 
 -- Full has no bytes
-pub shape-full : (x : Cardinality) (v : Version) (rest : List ℕ) → x ≡ Full → shape (cardinality_code (cardinality_of x) ∷ rest) (version_number v) ≡ only_if (length rest == 0) full_shape
+pub shape-full : (x : Cardinality) (v : Version) (rest : List ℕ) → x ≡ Full
+    → shape (cardinality_code (cardinality_of x) ∷ rest) (version_number v) ≡ only_if (length rest == 0) full_shape
 unfolding shape
 shape-full x V2 rest e = rw e refl
 
 -- Optional has a set of rows
-pub shape-optional : (x : Cardinality) (v : Version) (rest : List ℕ) → x ≡ Optional → shape (cardinality_code (cardinality_of x) ∷ rest) (version_number v) ≡ option_map (λ s. optional_shape (set_counts s)) (row_set rest)
+pub shape-optional : (x : Cardinality) (v : Version) (rest : List ℕ) → x ≡ Optional
+    → shape (cardinality_code (cardinality_of x) ∷ rest) (version_number v)
+    ≡ option_map (λ s. optional_shape (set_counts s)) (row_set rest)
 unfolding shape
 shape-optional x V2 rest e = rw e refl
 
 -- Multivalued has a set of rows, and offsets
-pub shape-multivalued : (x : Cardinality) (v : Version) (rest : List ℕ) → x ≡ Multivalued → shape (cardinality_code (cardinality_of x) ∷ rest) (version_number v) ≡ option_map (λ o. multivalued_shape (offset_counts o)) (row_offsets rest)
+pub shape-multivalued : (x : Cardinality) (v : Version) (rest : List ℕ) → x ≡ Multivalued
+    → shape (cardinality_code (cardinality_of x) ∷ rest) (version_number v)
+    ≡ option_map (λ o. multivalued_shape (offset_counts o)) (row_offsets rest)
 unfolding shape
 shape-multivalued x V2 rest e = rw e refl
 
 -- the shape of an index that was read
-pub shape-multivalued_index : (x : Cardinality) (v : Version) (rest : List ℕ) (i : MultiValueIndex) → x ≡ Multivalued → row_offsets rest ≡ Some (offsets_of i) → shape (cardinality_code (cardinality_of x) ∷ rest) (version_number v) ≡ Some (multivalued_shape (counts_of i))
-shape-multivalued_index x v rest i e f = shape-multivalued x v rest e ∙ ap (option_map (λ (o : RowOffsets). multivalued_shape (offset_counts o))) f ∙ ap (λ cs. Some (multivalued_shape cs)) (same i)
+pub shape-multivalued_index : (x : Cardinality) (v : Version) (rest : List ℕ) (i : MultiValueIndex)
+    → x ≡ Multivalued → row_offsets rest ≡ Some (offsets_of i)
+    → shape (cardinality_code (cardinality_of x) ∷ rest) (version_number v) ≡ Some (multivalued_shape (counts_of i))
+shape-multivalued_index x v rest i e f =
+    shape-multivalued x v rest e ∙ ap (option_map (λ (o : RowOffsets). multivalued_shape (offset_counts o))) f
+    ∙ ap (λ cs. Some (multivalued_shape cs)) (same i)
   where
     same : (i : MultiValueIndex) → offset_counts (offsets_of i) ≡ counts_of i
     same (MultiValueIndexV2 o) = refl

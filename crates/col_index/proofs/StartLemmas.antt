@@ -66,10 +66,13 @@ rearranged a b c d r e = grind arith
 -- the test behind an offset that passes
 rises-behind : (s : ℕ) (ss : List ℕ) → (list_all (λ s. nat_lt s (2 ^ 32)) ss && is_rising (s ∷ ss)) ≡ rest_rises s ss
 rises-behind s [] = refl
-rises-behind s (t ∷ ts) = rearranged (nat_lt t (2 ^ 32)) (nat_lt s t) (list_all (λ s. nat_lt s (2 ^ 32)) ts) (is_rising (t ∷ ts)) (rest_rises t ts) (rises-behind t ts)
+rises-behind s (t ∷ ts) =
+    rearranged (nat_lt t (2 ^ 32)) (nat_lt s t) (list_all (λ s. nat_lt s (2 ^ 32)) ts) (is_rising (t ∷ ts))
+    (rest_rises t ts) (rises-behind t ts)
 
 -- the test of a list with the right count and the right first offset
-pub rises-first : (n : ℕ) (starts : List ℕ) → length starts ≡ n + 1 → slice_index starts 0 ≡ 0 → is_start_list n starts ≡ rest_rises 0 (drop 1 starts)
+pub rises-first : (n : ℕ) (starts : List ℕ) → length starts ≡ n + 1 → slice_index starts 0 ≡ 0
+    → is_start_list n starts ≡ rest_rises 0 (drop 1 starts)
 rises-first n [] e z = absurd (omega arith)
 rises-first n (zero ∷ ss) e z = rw (eq-eqb (length (zero ∷ ss)) (n + 1) e, and-true) (rises-behind zero ss)
 rises-first n (suc s ∷ ss) e z = absurd (omega arith)

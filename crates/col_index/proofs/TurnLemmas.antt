@@ -22,13 +22,16 @@ pub record IsTurn (o : RowOffsets) (ps : List ℕ) (at : ℕ) (next : Place) : T
   pub target : next.target ≡ get_or ps at 0 + 1
 
 -- it is that which was read
-pub turned : (o : RowOffsets) (ps xs : List ℕ) (kept at position : ℕ) (next : Place) → IsPlace o.starts next → next.target ≡ position + 1 → position ≡ get_or xs at 0 → IsSelected (offset_counts o) ps xs kept at → IsTurn o ps at next
+pub turned : (o : RowOffsets) (ps xs : List ℕ) (kept at position : ℕ) (next : Place) → IsPlace o.starts next
+    → next.target ≡ position + 1 → position ≡ get_or xs at 0 → IsSelected (offset_counts o) ps xs kept at
+    → IsTurn o ps at next
 turned o ps xs kept at position next p t read s = record {
   place = p;
   target = t ∙ ap (λ n. n + 1) (read ∙ selected-read (offset_counts o) ps xs kept at s);
 }
 
-module _ (o : RowOffsets) (a : AreOffsets o) (ps : List ℕ) (at : ℕ) (e : is_rising ps ≡ true) (within : at < length ps) (below : AreBelow (sum (offset_counts o)) ps) where
+module _ (o : RowOffsets) (a : AreOffsets o) (ps : List ℕ) (at : ℕ) (e : is_rising ps ≡ true)
+    (within : at < length ps) (below : AreBelow (sum (offset_counts o)) ps) where
   here : get_or ps at 0 < sum (offset_counts o)
   here = below_at (sum (offset_counts o)) ps at below within
 
@@ -53,7 +56,8 @@ module _ (o : RowOffsets) (a : AreOffsets o) (ps : List ℕ) (at : ℕ) (e : is_
       turn-same s = select-same o a ps at e within here (sym ranked ∙ s ∙ before)
 
       -- a further start counts
-      pub turn-next : (next.at ≡ place.at → ⊥) → (row : ℕ) → slice_get o.set.rows (next.at - 1) ≡ Some row → rows_at (offset_counts o) (take (at + 1) ps) ≡ rows_at (offset_counts o) (take at ps) ++ row ∷ []
+      pub turn-next : (next.at ≡ place.at → ⊥) → (row : ℕ) → slice_get o.set.rows (next.at - 1) ≡ Some row
+          → rows_at (offset_counts o) (take (at + 1) ps) ≡ rows_at (offset_counts o) (take at ps) ++ row ∷ []
       turn-next n row read =
           select-next o a ps at e within here (λ s. n (ranked ∙ s ∙ sym before))
           ∙ ap (λ k. rows_at (offset_counts o) (take at ps) ++ get_or o.set.rows (k - 1) 0 ∷ []) (sym ranked)

@@ -24,7 +24,9 @@ module _ (o : RowOffsets) (a : AreOffsets o) (doc : ℕ) where
       ap (run doc (start_of (offset_counts o) doc)) none
 
   -- the values of a row from its start to its end
-  pub values-held : (k start end : ℕ) → k ≡ rank o.set.rows doc → holds o.set.rows doc ≡ true → start ≡ get_or o.starts k 0 → end ≡ get_or o.starts (k + 1) 0 → run doc start (end - start) ≡ values_in (multivalued_shape (offset_counts o)) doc
+  pub values-held : (k start end : ℕ) → k ≡ rank o.set.rows doc → holds o.set.rows doc ≡ true
+      → start ≡ get_or o.starts k 0 → end ≡ get_or o.starts (k + 1) 0
+      → run doc start (end - start) ≡ values_in (multivalued_shape (offset_counts o)) doc
   values-held k start end r h s q =
       let same : start ≡ start_of (offset_counts o) doc = s ∙ ap (λ n. get_or o.starts n 0) r ∙ sym (offset_counts-start o a doc) in
       let next : end ≡ get_or o.starts (rank o.set.rows doc + 1) 0 = q ∙ ap (λ n. get_or o.starts (n + 1) 0) r in
@@ -35,5 +37,6 @@ module _ (o : RowOffsets) (a : AreOffsets o) (doc : ℕ) where
 -- ---- ranks of rows that are in
 
 -- the rank of a row that is in is one of them
-pub held-inside : (o : RowOffsets) → AreOffsets o → (doc k : ℕ) → k ≡ rank o.set.rows doc → holds o.set.rows doc ≡ true → k < length o.set.rows
+pub held-inside : (o : RowOffsets) → AreOffsets o → (doc k : ℕ) → k ≡ rank o.set.rows doc
+    → holds o.set.rows doc ≡ true → k < length o.set.rows
 held-inside o a doc k r h = omega (arith, r, (holds-rank o.set.rows doc (rows_rise o.set a.rows) h).0)

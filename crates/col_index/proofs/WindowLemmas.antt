@@ -10,14 +10,18 @@ use Rattle.col_index.proofs.RankLaws.{from_rank, rank-monotone, rank-le-length}
 use Rattle.col_index.proofs.HeldLaws.{holds-at, holds_index, holds-rank, rank-next}
 use Rattle.col_index.proofs.SearchLemmas.{rising_pair}
 
-module _ (starts block : List ℕ) (first behind : ℕ) (e : is_rising starts ≡ true) (ranked : first ≡ rank starts behind) (cut : block ≡ take (length block) (drop first starts)) (within : first + length block ≤ length starts) where
+module _ (starts block : List ℕ) (first behind : ℕ) (e : is_rising starts ≡ true)
+    (ranked : first ≡ rank starts behind) (cut : block ≡ take (length block) (drop first starts))
+    (within : first + length block ≤ length starts) where
   -- a number of the block is one of the list
   block_at : (k : ℕ) → k < length block → get_or block k 0 ≡ get_or starts (first + k) 0
   block_at k h = ap (λ xs. get_or xs k 0) cut ∙ get_or-take (length block) (drop first starts) k 0 h ∙ get_or-drop first starts k 0
 
   -- none of them is below the number behind the position
   pub block-behind : (k : ℕ) → k < length block → behind ≤ get_or block k 0
-  block-behind k h = let above = from_rank starts behind (first + k) e (omega (arith, ranked)) (omega arith) in omega (arith, above, block_at k h)
+  block-behind k h =
+      let above = from_rank starts behind (first + k) e (omega (arith, ranked)) (omega arith) in omega
+      (arith, above, block_at k h)
 
   module _ (q : ℕ) (from : behind ≤ q) (some : 0 < length block) (upto : q ≤ get_or block (length block - 1) 0) where
     block-listed : holds block q ≡ true → holds starts q ≡ true
@@ -48,7 +52,9 @@ module _ (starts block : List ℕ) (first behind : ℕ) (e : is_rising starts �
       | inr f ↦ f ∙ sym (false_from_ne_true _ (λ h. true≢false (sym (listed-block h) ∙ f)))
     ]
 
-  module _ (some : 0 < length block) (marks : List ℕ) (len : ℕ) (room : len ≤ length marks) (reach : behind + len ≤ get_or block (length block - 1) 0 + 1) (noted : (i : ℕ) → i < len → get_or marks i 0 ≡ cond (holds block (behind + i)) 1 0) where
+  module _ (some : 0 < length block) (marks : List ℕ) (len : ℕ) (room : len ≤ length marks)
+      (reach : behind + len ≤ get_or block (length block - 1) 0 + 1) (noted : (i : ℕ) → i < len
+      → get_or marks i 0 ≡ cond (holds block (behind + i)) 1 0) where
     -- marks added up are ranks
     pub marks-ranked : (i : ℕ) → i ≤ len → first + sum (take i marks) ≡ rank starts (behind + i)
     marks-ranked zero h = let here : behind + 0 ≡ behind = omega arith in omega (arith, ranked, ap (rank starts) here)

@@ -17,13 +17,16 @@ use Rattle.col_index.proofs.RankLaws.{below_at}
 use Rattle.col_index.proofs.RowsAtLemmas.{after, select-same, select-next}
 
 -- what a window's table says of a position in it
-pub window_started : (starts inner : List ℕ) (w : Window) (table : List ℕ) (p q : ℕ) → inner ≡ starts → IsWindow inner w table → w.position ≤ p → p < w.position + w.len → p ≡ q → get_or table (p - w.position) 0 ≡ rank starts (q + 1)
+pub window_started : (starts inner : List ℕ) (w : Window) (table : List ℕ) (p q : ℕ) → inner ≡ starts
+    → IsWindow inner w table → w.position ≤ p → p < w.position + w.len → p ≡ q
+    → get_or table (p - w.position) 0 ≡ rank starts (q + 1)
 window_started starts inner w table p q s i from upto e =
     let here : w.position + 1 + (p - w.position) ≡ q + 1 = omega arith in
     i.counts (p - w.position) (omega arith) ∙ ap (rank inner) here ∙ ap (λ xs. rank xs (q + 1)) s
 
 -- what stands behind the kept rows may be overwritten
-written : (counts ps xs : List ℕ) (kept at row : ℕ) → kept ≤ at → IsSelected counts ps xs kept (at + 1) → IsSelected counts ps (set xs kept row) kept (at + 1)
+written : (counts ps xs : List ℕ) (kept at row : ℕ) → kept ≤ at → IsSelected counts ps xs kept (at + 1)
+    → IsSelected counts ps (set xs kept row) kept (at + 1)
 written counts ps xs kept at row few s = record {
   long = length-set xs kept row ∙ s.long;
   few = s.few;
@@ -31,7 +34,8 @@ written counts ps xs kept at row few s = record {
   ahead = drop-set-lt (at + 1) xs kept row (omega (arith, few)) ∙ s.ahead;
 }
 
-module _ (o : RowOffsets) (a : AreOffsets o) (ps : List ℕ) (at : ℕ) (e : is_rising ps ≡ true) (within : at < length ps) (below : AreBelow (sum (offset_counts o)) ps) where
+module _ (o : RowOffsets) (a : AreOffsets o) (ps : List ℕ) (at : ℕ) (e : is_rising ps ≡ true)
+    (within : at < length ps) (below : AreBelow (sum (offset_counts o)) ps) where
   here : get_or ps at 0 < sum (offset_counts o)
   here = below_at (sum (offset_counts o)) ps at below within
 
@@ -47,10 +51,13 @@ module _ (o : RowOffsets) (a : AreOffsets o) (ps : List ℕ) (at : ℕ) (e : is_
   pub started-inside : started_at ≤ length o.set.rows
   started-inside = end-unstarted o a (get_or ps at 0) here
 
+  -- there are more start offsets than those at or before the position
   pub started-listed : started_at < length o.starts
   started-listed = let long = (offset_starts o a).long in omega (arith, started-inside)
 
-  module _ (xs : List ℕ) (kept before started row : ℕ) (s : IsSelected (offset_counts o) ps xs kept at) (b : before ≡ rank o.starts (after at ps)) (r : started ≡ started_at) (read : slice_get o.set.rows (started - 1) ≡ Some row) where
+  module _ (xs : List ℕ) (kept before started row : ℕ) (s : IsSelected (offset_counts o) ps xs kept at)
+      (b : before ≡ rank o.starts (after at ps)) (r : started ≡ started_at)
+      (read : slice_get o.set.rows (started - 1) ≡ Some row) where
     -- the row of the position before
     row-same : started ≡ before → IsSelected (offset_counts o) ps (set xs kept row) kept (at + 1)
     row-same q =
@@ -60,13 +67,16 @@ module _ (o : RowOffsets) (a : AreOffsets o) (ps : List ℕ) (at : ℕ) (e : is_
     -- another row
     row-next : (started ≡ before → ⊥) → IsSelected (offset_counts o) ps (set xs kept row) (kept + 1) (at + 1)
     row-next n =
-        let found : get_or o.set.rows (rank o.starts (get_or ps at 0 + 1) - 1) 0 ≡ row = ap (λ k. get_or o.set.rows (k - 1) 0) (sym r) ∙ get_or_from_slice_get o.set.rows (started - 1) row 0 read in
+        let found : get_or o.set.rows (rank o.starts (get_or ps at 0 + 1) - 1) 0 ≡ row =
+        ap (λ k. get_or o.set.rows (k - 1) 0) (sym r)
+        ∙ get_or_from_slice_get o.set.rows (started - 1) row 0 read in
         let next = select-next o a ps at e within here (λ q. n (r ∙ q ∙ sym b)) in
         let long : at < length xs = omega (arith, s.long, within) in
         selected-next (offset_counts o) ps xs kept at s row long (next ∙ ap (λ x. rows_at (offset_counts o) (take at ps) ++ x ∷ []) found)
 
     -- either
-    pub row-written : (is_new : Bool) → is_new ≡ not (started == before) → IsSelected (offset_counts o) ps (set xs kept row) (kept + bool_byte is_new) (at + 1)
+    pub row-written : (is_new : Bool) → is_new ≡ not (started == before)
+        → IsSelected (offset_counts o) ps (set xs kept row) (kept + bool_byte is_new) (at + 1)
     row-written is_new q = elim (cases_eq started before) [
       | inl h ↦
           let old : is_new ≡ false = q ∙ ap not (eq-eqb started before h) in

@@ -7,8 +7,8 @@ abbrev pub BeginsWith : List ℕ → List ℕ → Type 0
 BeginsWith xs front = (more : List ℕ) × (xs ≡ front ++ more)
 
 -- it appends to both lists, or, where memory is wanting, to neither
-pub record AppendsBoth (docs_old docs_new rows_old rows_new : List ℕ)
-    (result : Result (Unit {0}) AllocError) (more_docs more_rows : List ℕ) : Type 0 where
+pub record AppendsBoth {E : Type 0} (docs_old docs_new rows_old rows_new : List ℕ)
+    (result : Result (Unit {0}) E) (more_docs more_rows : List ℕ) : Type 0 where
   pub docs : OnOk result (docs_new ≡ docs_old ++ more_docs)
   pub rows : OnOk result (rows_new ≡ rows_old ++ more_rows)
   pub err : OnErr result ((docs_new ≡ docs_old) × (rows_new ≡ rows_old))

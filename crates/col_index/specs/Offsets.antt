@@ -49,8 +49,8 @@ abbrev pub row_positions : List ℕ → List ℕ → List (ℕ × ℕ)
 row_positions counts rows = positions_of_rows (multivalued_shape counts) rows
 
 -- the rows of these values, and their positions
-abbrev pub docs_of : List (ℕ × ℕ) → List ℕ
-docs_of ps = map (λ p. p.0) ps
+abbrev pub found_rows : List (ℕ × ℕ) → List ℕ
+found_rows ps = map (λ p. p.0) ps
 
 abbrev pub positions_of : List (ℕ × ℕ) → List ℕ
 positions_of ps = map (λ p. p.1) ps

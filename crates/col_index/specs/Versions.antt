@@ -1,6 +1,6 @@
 -- Cardinalities and versions, by the numbers that a file has for them. States docs/FORMAT.md,
 -- sections 8 and 11.
-use Rattle.std.specs.Prelude.{ℕ}
+use Rattle.std.specs.Prelude.{ℕ, List, [], ◌∷◌, Option, None, option_map, codes}
 use Rattle.col_model.specs.Table as tables
 use Rattle.col_model.specs.Version.{current_version}
 use Rattle.col_index.specs.declared.cardinality.Cardinality.{Cardinality}
@@ -14,9 +14,18 @@ cardinality_of Full = tables.full
 cardinality_of Optional = tables.optional
 cardinality_of Multivalued = tables.multivalued
 
+-- the cardinality of the code at the front, and the bytes behind it
+abbrev pub cardinality_at : List ℕ → Option (tables.Cardinality × List ℕ)
+cardinality_at [] = None
+cardinality_at (code ∷ bytes) = option_map (λ c. (c, bytes)) (tables.cardinality_of_code code)
+
 -- the code of a cardinality
 abbrev pub code_of : Cardinality → ℕ
 code_of c = tables.cardinality_code (cardinality_of c)
+
+-- the name of a version
+abbrev pub version_name : Version → List ℕ
+version_name V2 = codes "v2"
 
 -- the number of a version
 abbrev pub version_number : Version → ℕ

@@ -1,7 +1,7 @@
 //! Documents that are appended to one list, and positions to another.
 ghost use Rattle.std.specs.Prelude.{◌-◌, [], ◌∷◌};
 ghost use Rattle.col_index.specs.Appending.{PushesBoth};
-ghost use Rattle.col_index.specs.Offsets.{docs_of, positions_of, run};
+ghost use Rattle.col_index.specs.Offsets.{found_rows, positions_of, run};
 
 use col_common::{DocId, RowId};
 use std::alloc::AllocError;
@@ -33,7 +33,7 @@ pub(crate) fn push_run(
 ) -> Result<(), AllocError>
     ensures { PushesBoth docs_out.old.items docs_out.new.items
         rows_out.old.items rows_out.new.items result
-        (docs_of (run doc start (end - start))) (positions_of (run doc start (end - start))) }
+        (found_rows (run doc start (end - start))) (positions_of (run doc start (end - start))) }
 {
     for position in start..end {
         docs_out.push(doc)?;

@@ -1,8 +1,11 @@
 //! How many values a row may have.
-ghost use Rattle.std.specs.Prelude.{◌≡◌, ◌==◌, Some, None, IfOk, IfErr};
+ghost use Rattle.std.specs.Prelude.{◌≡◌, ◌==◌, ◌∷◌, [], Some, None, IfOk, IfErr};
+ghost use Rattle.col_common.specs.Decoding.{TakesFront};
+ghost use Rattle.col_common.specs.Serializing.{Serializes};
+ghost use Rattle.col_model.specs.Report.{cardinality_name};
 ghost use Rattle.col_model.specs.Table.{cardinality_code, cardinality_of_code};
 
-use col_common::InvalidData;
+use col_common::{ColumnarError, InvalidData, Sink, serialize_bytes};
 use std::fmt;
 
 /// How many values a row may have; a later one allows more.
@@ -18,7 +21,7 @@ pub enum Cardinality {
 }
 
 impl Cardinality {
-    ghost use Rattle.col_index.specs.Versions.{cardinality_of};
+    ghost use Rattle.col_index.specs.Versions.{cardinality_at, cardinality_of};
 
     /// Whether each row has one value.
     pub fn is_full(&self) -> bool
@@ -64,9 +67,35 @@ impl Cardinality {
             _ => Err(InvalidData),
         }
     }
+
+    /// Adds the code.
+    pub fn serialize<K: Sink>(&self, sink: &mut K) -> Result<(), ColumnarError>
+        ensures { Serializes (K.seen sink.old) (K.seen sink.new) result
+            (cardinality_code (cardinality_of self.now) ∷ []) }
+    {
+        serialize_bytes(sink, &[self.to_code()])
+    }
+
+    /// Takes the cardinality of the code at the front.
+    pub fn deserialize(data: &mut &[u8]) -> Result<Cardinality, InvalidData>
+        ensures { TakesFront cardinality_of result (cardinality_at «data».old.now)
+            «data».old.now «data».new.now }
+    {
+        let bytes = *data;
+        let [code, rest @ ..] = bytes else {
+            return Err(InvalidData);
+        };
+        let cardinality = Cardinality::try_from_code(*code)?;
+        *data = rest;
+        Ok(cardinality)
+    }
 }
 
 impl fmt::Display for Cardinality {
+    ghost use Rattle.col_index.specs.Versions.{cardinality_of};
+
+    ghost output = { λ c. Some (cardinality_name (cardinality_of c)) };
+
     fn fmt<W: fmt::Write>(&self, f: &mut fmt::Formatter<W>) -> fmt::Result {
         f.write_str(match self {
             Cardinality::Full => "full",

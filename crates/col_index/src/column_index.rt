@@ -1,18 +1,19 @@
 //! How many values each row of a column has.
-ghost use Rattle.std.specs.Prelude.{◌≡◌, ◌<◌, ◌-◌, ◌^◌, ◌==◌, true, not, nat_le, max, IfOk};
+ghost use Rattle.std.specs.Prelude.{◌≡◌, ◌<◌, ◌-◌, ◌^◌, ◌==◌, true, not, nat_le, max, IfOk, IfErr};
 ghost use Rattle.std.specs.List.{list_all};
 ghost use Rattle.col_common.specs.Ascending.{is_rising};
+ghost use Rattle.col_common.specs.declared.error.ColumnarError.TheVariants as refusals;
 ghost use Rattle.col_model.specs.Index.{set_counts, optional_shape, multivalued_shape, full_shape};
 ghost use Rattle.col_model.specs.Positions.{count_in, start_in, positions_in, rows_in};
 ghost use Rattle.col_index.specs.Versions.{cardinality_of};
 ghost use Rattle.col_index.specs.Appending.{AppendsBoth, PushesBoth};
-ghost use Rattle.col_index.specs.Offsets.{positions_if_any, cardinality_in, positions_of_rows, docs_of, positions_of, AreInside};
+ghost use Rattle.col_index.specs.Offsets.{positions_if_any, cardinality_in, positions_of_rows, found_rows, positions_of, AreInside};
 ghost use Rattle.col_index.specs.MultiValues.{counts_of};
 
 use crate::cardinality::Cardinality;
 use crate::multivalued_index::MultiValueIndex;
 use crate::optional_index::OptionalIndex;
-use col_common::{DocId, RowId};
+use col_common::{ColumnarError, DocId, RowId};
 use std::alloc::{AllocError, Global};
 use std::ops::Range;
 
@@ -51,8 +52,9 @@ impl ColumnIndex {
     ghost use Rattle.col_index.specs.Indexes.{shape_of};
 
     /// The same index once more, which shares its bytes and has ranks of its own.
-    pub fn try_clone(&self, alloc: Global) -> Result<ColumnIndex, AllocError>
-        ensures { IfOk result (λ index. shape_of index ≡ shape_of self.now) }
+    pub fn try_clone(&self, alloc: Global) -> Result<ColumnIndex, ColumnarError>
+        ensures ok { IfOk result (λ index. shape_of index ≡ shape_of self.now) }
+        ensures err { IfErr result (λ e. e ≡ refusals.OutOfMemory) }
     {
         match self {
             ColumnIndex::Empty { num_docs } => Ok(ColumnIndex::Empty {
@@ -126,11 +128,12 @@ impl ColumnIndex {
         doc_ids: &[DocId],
         doc_ids_out: &mut Vec<DocId>,
         row_ids: &mut Vec<RowId>,
-    ) -> Result<(), AllocError>
-        ensures { AppendsBoth doc_ids_out.old.items doc_ids_out.new.items
+    ) -> Result<(), ColumnarError>
+        ensures ok { AppendsBoth doc_ids_out.old.items doc_ids_out.new.items
             row_ids.old.items row_ids.new.items result
-            (docs_of (positions_of_rows (shape_of self.now) doc_ids.now))
+            (found_rows (positions_of_rows (shape_of self.now) doc_ids.now))
             (positions_of (positions_of_rows (shape_of self.now) doc_ids.now)) }
+        ensures err { IfErr result (λ e. e ≡ refusals.OutOfMemory) }
     {
         let num_docs = doc_ids_out.len();
         let num_rows = row_ids.len();
@@ -139,7 +142,7 @@ impl ColumnIndex {
             doc_ids_out.truncate(num_docs);
             row_ids.truncate(num_rows);
         }
-        result
+        Ok(result?)
     }
 
     // The same, as far as memory reaches.
@@ -151,7 +154,7 @@ impl ColumnIndex {
     ) -> Result<(), AllocError>
         ensures { PushesBoth doc_ids_out.old.items doc_ids_out.new.items
             row_ids.old.items row_ids.new.items result
-            (docs_of (positions_of_rows (shape_of self.now) doc_ids.now))
+            (found_rows (positions_of_rows (shape_of self.now) doc_ids.now))
             (positions_of (positions_of_rows (shape_of self.now) doc_ids.now)) }
     {
         match self {

@@ -1,5 +1,5 @@
 //! Versions of files.
-ghost use Rattle.std.specs.Prelude.{◌≡◌, false, IfOk, IfErr};
+ghost use Rattle.std.specs.Prelude.{◌≡◌, false, Some, IfOk, IfErr};
 ghost use Rattle.std.specs.Int.{w32, to_le_bytes, from_le_bytes};
 ghost use Rattle.col_model.specs.Version.{is_version};
 
@@ -42,6 +42,10 @@ impl Version {
 }
 
 impl fmt::Display for Version {
+    ghost use Rattle.col_index.specs.Versions.{version_name};
+
+    ghost output = { λ v. Some (version_name v) };
+
     fn fmt<W: fmt::Write>(&self, f: &mut fmt::Formatter<W>) -> fmt::Result {
         f.write_str(match self {
             Version::V2 => "v2",

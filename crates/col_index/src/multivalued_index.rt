@@ -6,7 +6,7 @@ ghost use Rattle.col_common.specs.declared.error.ColumnarError.TheVariants as re
 ghost use Rattle.col_common.specs.Ascending.{is_rising, differences, AreBelow};
 ghost use Rattle.col_model.specs.Positions.{start_of, index_range, rows_with_value, next_row, starts_of, rows_at};
 ghost use Rattle.col_numbers.specs.Readers.{list_of};
-ghost use Rattle.col_index.specs.Offsets.{range_if_any, AreOldOffsets, row_positions, docs_of, positions_of};
+ghost use Rattle.col_index.specs.Offsets.{range_if_any, AreOldOffsets, row_positions, found_rows, positions_of};
 ghost use Rattle.col_index.specs.Appending.{PushesBoth};
 
 use crate::multivalued_index_v2::MultiValueIndexV2;
@@ -137,7 +137,7 @@ impl MultiValueIndex {
     ) -> Result<(), AllocError>
         ensures { PushesBoth docs_out.old.items docs_out.new.items
             rows_out.old.items rows_out.new.items result
-            (docs_of (row_positions (counts_of self.now) docs.now))
+            (found_rows (row_positions (counts_of self.now) docs.now))
             (positions_of (row_positions (counts_of self.now) docs.now)) }
     {
         match self {

@@ -6,7 +6,7 @@ ghost use Rattle.col_common.specs.Ascending.{is_rising, differences, AreBelow};
 ghost use Rattle.col_model.specs.Index.{offset_counts};
 ghost use Rattle.col_model.specs.Positions.{start_of, index_range, rows_with_value, next_row, starts_of, rows_at};
 ghost use Rattle.col_numbers.specs.Readers.{list_of};
-ghost use Rattle.col_index.specs.Offsets.{AreOldOffsets, range_if_any, row_positions, docs_of, positions_of, is_start_list, offsets_by};
+ghost use Rattle.col_index.specs.Offsets.{AreOldOffsets, range_if_any, row_positions, found_rows, positions_of, is_start_list, offsets_by};
 ghost use Rattle.col_index.specs.Appending.{PushesBoth};
 
 use crate::appending::push_run;
@@ -206,7 +206,7 @@ impl MultiValueIndexV2 {
     ) -> Result<(), AllocError>
         ensures { PushesBoth docs_out.old.items docs_out.new.items
             rows_out.old.items rows_out.new.items result
-            (docs_of (row_positions (offset_counts self.now) docs.now))
+            (found_rows (row_positions (offset_counts self.now) docs.now))
             (positions_of (row_positions (offset_counts self.now) docs.now)) }
     {
         if self.optional_index.is_walked() {
@@ -227,7 +227,7 @@ impl MultiValueIndexV2 {
     ) -> Result<(), AllocError>
         ensures { PushesBoth docs_out.old.items docs_out.new.items
             rows_out.old.items rows_out.new.items result
-            (docs_of (row_positions (offset_counts self.now) docs.now))
+            (found_rows (row_positions (offset_counts self.now) docs.now))
             (positions_of (row_positions (offset_counts self.now) docs.now)) }
     {
         let mut place = self.optional_index.first_place();

@@ -3,7 +3,7 @@ ghost use Rattle.std.specs.Prelude.{◌≡◌, ◌==◌, not, true, sum, slice_i
 ghost use Rattle.col_common.specs.Ascending.{is_rising, are_below};
 ghost use Rattle.col_model.specs.Index.{set_counts, optional_shape};
 ghost use Rattle.col_model.specs.Positions.{start_of, rows_at};
-ghost use Rattle.col_index.specs.Offsets.{positions_of_rows, docs_of, positions_of};
+ghost use Rattle.col_index.specs.Offsets.{positions_of_rows, found_rows, positions_of};
 ghost use Rattle.col_index.specs.Appending.{PushesBoth};
 
 use crate::optional_index::OptionalIndex;
@@ -38,7 +38,7 @@ impl OptionalIndex {
     ) -> Result<(), AllocError>
         ensures { PushesBoth docs_out.old.items docs_out.new.items
             rows_out.old.items rows_out.new.items result
-            (docs_of (positions_of_rows (optional_shape (set_counts self.now)) docs.now))
+            (found_rows (positions_of_rows (optional_shape (set_counts self.now)) docs.now))
             (positions_of (positions_of_rows (optional_shape (set_counts self.now)) docs.now)) }
     {
         self.rows_rise();

@@ -28,14 +28,20 @@ unfolding bitpacked_body bitpacked_estimate
 bitpacked-length xs =
     let s = stats_of xs in
     length-append (stats_bytes s) _
-    ∙ ap (λ n. length (stats_bytes s) + n) (packed_bytes-length (width (steps_of s)) (steps_above s xs) ∙ ap (λ n. packed_len n (width (steps_of s))) (steps_above-length s xs))
+    ∙ ap (λ n. length (stats_bytes s) + n) (packed_bytes-length (width (steps_of s)) (steps_above s xs)
+    ∙ ap (λ n. packed_len n (width (steps_of s))) (steps_above-length s xs))
 
 offsets-length : (l : LinearParams) (xs : List ℕ) → length (packed_offsets l xs) ≡ packed_len (length xs) l.offset_width
-offsets-length l xs = packed_bytes-length l.offset_width (offsets_from l xs) ∙ ap (λ n. packed_len n l.offset_width) (length-offsets_from l xs)
+offsets-length l xs =
+    packed_bytes-length l.offset_width (offsets_from l xs)
+    ∙ ap (λ n. packed_len n l.offset_width) (length-offsets_from l xs)
 
 slope-length : (l : LinearParams) → length (params_bytes l) ≡ line_len l + 1
 unfolding params_bytes
-slope-length l = length-append (vint_bytes l.slope) _ ∙ ap (λ n. length (vint_bytes l.slope) + n) (length-append (vint_bytes l.intercept) (l.offset_width ∷ [])) ∙ omega arith
+slope-length l =
+    length-append (vint_bytes l.slope) _
+    ∙ ap (λ n. length (vint_bytes l.slope) + n) (length-append (vint_bytes l.intercept) (l.offset_width ∷ []))
+    ∙ omega arith
 
 -- what Linear takes where it applies
 abbrev linear_len : List ℕ → ℕ
@@ -46,7 +52,9 @@ unfolding linear_body
 linear-length xs =
     let l = linear_line xs in
     length-append (stats_bytes (stats_of xs)) _
-    ∙ ap (λ n. stats_len xs + n) (length-append (params_bytes l) (packed_offsets l xs) ∙ ap (λ n. n + length (packed_offsets l xs)) (slope-length l) ∙ ap (λ n. line_len l + 1 + n) (offsets-length l xs))
+    ∙ ap (λ n. stats_len xs + n) (length-append (params_bytes l) (packed_offsets l xs)
+    ∙ ap (λ n. n + length (packed_offsets l xs)) (slope-length l)
+    ∙ ap (λ n. line_len l + 1 + n) (offsets-length l xs))
     ∙ omega arith
 
 linear-estimated : (xs : List ℕ) (e : ℕ) → linear_estimate xs ≡ Some e → length (linear_body xs) ≡ e
@@ -66,6 +74,7 @@ pub record IsPicked (xs : List ℕ) (codec : ℕ) : Type 0 where
   pub long : length (codec_bytes codec xs) ≡ 1 + bytes
   pub most : bytes ≤ 115 + 8 * length xs
 
+-- a number is spelled by at most 19 bytes
 pub vint_bytes-most : (n : ℕ) → length (vint_bytes n) ≤ 19
 vint_bytes-most n = length-group_bytes 19 n
 
@@ -95,7 +104,12 @@ bitpacked-picked xs = record {
   bytes = bitpacked_estimate xs;
   estimated = refl;
   long = ap suc (bitpacked-length xs) ∙ omega arith;
-  most = omega (arith, stats_len-most xs, packed_len-most (length xs) (width (steps_of (stats_of xs))) (is_width-width (steps_of (stats_of xs))));
+  most =
+      omega (
+        arith,
+        stats_len-most xs,
+        packed_len-most (length xs) (width (steps_of (stats_of xs))) (is_width-width (steps_of (stats_of xs))),
+      );
 }
 
 linear-picked : (xs : List ℕ) (e : ℕ) → linear_estimate xs ≡ Some e → IsPicked xs 1
@@ -106,12 +120,21 @@ linear-picked xs e p =
       bytes = e;
       estimated = p;
       long = ap suc long ∙ omega arith;
-      most = omega (arith, sym long ∙ linear-length xs, stats_len-most xs, vint_bytes-most l.slope, vint_bytes-most l.intercept, packed_len-most (length xs) l.offset_width (linear_line-writable xs).offset_width);
+      most =
+          omega (
+            arith,
+            sym long ∙ linear-length xs,
+            stats_len-most xs,
+            vint_bytes-most l.slope,
+            vint_bytes-most l.intercept,
+            packed_len-most (length xs) l.offset_width (linear_line-writable xs).offset_width,
+          );
     }
 
 abbrev Picks : List ℕ → Option ℕ → Type 0
 Picks xs c = (codec : ℕ) × (c ≡ Some codec) × IsPicked xs codec
 
+-- some codec of those for an index is chosen for each list
 pub index_codec : (xs : List ℕ) → Picks xs (chosen_codec xs index_codecs)
 unfolding chosen_codec
 index_codec xs = by_estimate (linear_estimate xs) refl
@@ -120,15 +143,19 @@ index_codec xs = by_estimate (linear_estimate xs) refl
     by_test e p true = (0, refl, bitpacked-picked xs)
     by_test e p false = (1, refl, linear-picked xs e p)
 
-    by_estimate : (o : Option ℕ) → linear_estimate xs ≡ o → Picks xs (chosen_before xs 0 (1 ∷ []) (chosen_before xs 1 [] None o) (Some (bitpacked_estimate xs)))
+    by_estimate : (o : Option ℕ) → linear_estimate xs ≡ o
+        → Picks xs (chosen_before xs 0 (1 ∷ []) (chosen_before xs 1 [] None o) (Some (bitpacked_estimate xs)))
     by_estimate None p = (0, ap (λ q. cond (is_not_below (bitpacked_estimate xs) q && true) (Some 0) None) p, bitpacked-picked xs)
-    by_estimate (Some e) p = subst (λ q. Picks xs (cond (is_not_below (bitpacked_estimate xs) q && true) (Some 0) (Some 1))) (sym p) (by_test e p (nat_le (bitpacked_estimate xs) e))
+    by_estimate (Some e) p =
+        subst (λ q. Picks xs (cond (is_not_below (bitpacked_estimate xs) q && true) (Some 0) (Some 1))) (sym p)
+        (by_test e p (nat_le (bitpacked_estimate xs) e))
 
 -- a list of an index is spelled under the codec that is chosen
 pub list_bytes-picked : (xs : List ℕ) (codec : ℕ) → chosen_codec xs index_codecs ≡ Some codec → list_bytes xs ≡ codec_bytes codec xs
 unfolding list_bytes
 list_bytes-picked xs codec e = ap (λ c. codec_bytes (unwrap_or c 0) xs) e
 
+-- a list of an index takes at most 116 bytes and eight for each item
 pub list_bytes-most : (xs : List ℕ) → length (list_bytes xs) ≤ 116 + 8 * length xs
 list_bytes-most xs =
     let p = index_codec xs in

@@ -27,7 +27,9 @@ at_front a b c d r t e = grind arith
 -- the test of all of them
 pub rise_front : (bound : ℕ) (xs : List ℕ) → (is_rising xs && are_below bound xs) ≡ rise_from 0 bound xs
 rise_front bound [] = refl
-rise_front bound (x ∷ xs) = at_front (nat_le 0 x) (is_rising (x ∷ xs)) (nat_lt x bound) (are_below bound xs) (rise_from (x + 1) bound xs) (le-leb 0 x (omega arith)) (behind bound x xs)
+rise_front bound (x ∷ xs) =
+    at_front (nat_le 0 x) (is_rising (x ∷ xs)) (nat_lt x bound) (are_below bound xs) (rise_from (x + 1) bound xs)
+    (le-leb 0 x (omega arith)) (behind bound x xs)
 
 -- one more number
 module _ (bound next x : ℕ) (left after : List ℕ) (e : left ≡ x ∷ after) where

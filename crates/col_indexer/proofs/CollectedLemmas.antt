@@ -13,7 +13,8 @@ use Rattle.col_indexer.proofs.SegmentLemmas.{counts_from-first, counts_from-end,
 use Rattle.col_indexer.proofs.StackedStartLemmas.{slice_get-none, starts_after-moved}
 
 -- one more item, so far behind
-pub appended-more : (b k x y : ℕ) (xs items new : List ℕ) → y ≡ b + x → new ≡ items ++ y ∷ [] → slice_get xs k ≡ Some x → new ++ drop (k + 1) (map (λ z. b + z) xs) ≡ items ++ drop k (map (λ z. b + z) xs)
+pub appended-more : (b k x y : ℕ) (xs items new : List ℕ) → y ≡ b + x → new ≡ items ++ y ∷ []
+    → slice_get xs k ≡ Some x → new ++ drop (k + 1) (map (λ z. b + z) xs) ≡ items ++ drop k (map (λ z. b + z) xs)
 appended-more b k x y xs items new e f g =
     let inside = slice_get_within xs k x g in
     let long = length-map xs (λ z. b + z) in
@@ -31,19 +32,30 @@ appended-all b k xs items g =
     sym (ap (λ left. items ++ left) (drop_all k (map (λ z. b + z) xs) (omega arith)) ∙ append-nil items)
 
 -- the rows of one more segment
-pub segment-appended : (s : Segments) (k b : ℕ) (items new : List ℕ) → AreSegments s → k < length s.counts → b ≡ start_of s.counts k → new ≡ items ++ rows_behind b (segment_counts s k) → (b + get_or s.counts k 0 ≡ start_of s.counts (k + 1)) × (new ++ rows_behind (b + get_or s.counts k 0) (counts_from s (k + 1)) ≡ items ++ rows_behind b (counts_from s k))
+pub segment-appended : (s : Segments) (k b : ℕ) (items new : List ℕ) → AreSegments s → k < length s.counts
+    → b ≡ start_of s.counts k → new ≡ items ++ rows_behind b (segment_counts s k)
+    → (b + get_or s.counts k 0 ≡ start_of s.counts (k + 1))
+    × (new ++ rows_behind (b + get_or s.counts k 0) (counts_from s (k + 1))
+    ≡ items ++ rows_behind b (counts_from s k))
 segment-appended s k b items new are within e f =
     let long = length-segment s k are.fit within in
     let rest = rows_behind (b + get_or s.counts k 0) (counts_from s (k + 1)) in
-    let split : rows_behind b (counts_from s k) ≡ rows_behind b (segment_counts s k) ++ rest = ap (rows_behind b) (counts_from-first s k are.fit within) ∙ rows_behind-append b (b + get_or s.counts k 0) (segment_counts s k) (counts_from s (k + 1)) (omega arith) in
-    (omega (arith, start_of-more s k are.fit within), ap (λ all. all ++ rest) f ∙ append_assoc items (rows_behind b (segment_counts s k)) rest ∙ ap (λ left. items ++ left) (sym split))
+    let split : rows_behind b (counts_from s k) ≡ rows_behind b (segment_counts s k) ++ rest =
+    ap (rows_behind b) (counts_from-first s k are.fit within)
+    ∙ rows_behind-append b (b + get_or s.counts k 0) (segment_counts s k) (counts_from s (k + 1))
+    (omega arith) in (
+      omega (arith, start_of-more s k are.fit within),
+      ap (λ all. all ++ rest) f
+          ∙ append_assoc items (rows_behind b (segment_counts s k)) rest ∙ ap (λ left. items ++ left) (sym split),
+    )
 
 -- at the front all rows are left
 pub rows-front : (s : Segments) → rows_behind 0 (counts_from s 0) ≡ rows_with_value (stacked_counts s)
 rows-front s = rows_behind-from 0 (stacked_counts s) ∙ sym (rows_with_value-from (stacked_counts s))
 
 -- behind the last segment none is left
-pub rows-end : (s : Segments) (k b : ℕ) (items : List ℕ) → AreSegments s → length s.counts ≤ k → items ≡ items ++ rows_behind b (counts_from s k)
+pub rows-end : (s : Segments) (k b : ℕ) (items : List ℕ) → AreSegments s → length s.counts ≤ k
+    → items ≡ items ++ rows_behind b (counts_from s k)
 rows-end s k b items are h = sym (ap (λ cs. items ++ rows_behind b cs) (counts_from-end s k are.fit h) ∙ append-nil items)
 
 -- ---- ends of values
@@ -58,24 +70,34 @@ ends-append : (b m : ℕ) (xs ys : List ℕ) → m ≡ b + sum xs → ends_behin
 unfolding ends_behind
 ends-append b m [] ys e = ap (λ n. ends_behind n ys) (omega arith)
 ends-append b m (zero ∷ xs) ys e =
-    ends_behind-none b (xs ++ ys) ∙ ends-append b m xs ys (omega (arith, e, sum_by-cons (λ n. n) zero xs)) ∙ ap (λ front. front ++ ends_behind m ys) (sym (ends_behind-none b xs))
+    ends_behind-none b (xs ++ ys) ∙ ends-append b m xs ys (omega (arith, e, sum_by-cons (λ n. n) zero xs))
+    ∙ ap (λ front. front ++ ends_behind m ys) (sym (ends_behind-none b xs))
 ends-append b m (suc x ∷ xs) ys e =
     ends_behind-some b x (xs ++ ys)
     ∙ ap (λ more. (b + suc x) ∷ more) (ends-append (b + suc x) m xs ys (omega (arith, e, sum_by-cons (λ n. n) (suc x) xs)))
     ∙ ap (λ front. front ++ ends_behind m ys) (sym (ends_behind-some b x xs))
 
 -- the ends of one more segment
-pub ends-appended : (s : Segments) (k b m : ℕ) (items new : List ℕ) → AreSegments s → k < length s.counts → b ≡ values_before s k → m ≡ b + sum (segment_counts s k) → new ≡ items ++ ends_behind b (segment_counts s k) → (m ≡ values_before s (k + 1)) × (new ++ ends_behind m (counts_from s (k + 1)) ≡ items ++ ends_behind b (counts_from s k))
+pub ends-appended : (s : Segments) (k b m : ℕ) (items new : List ℕ) → AreSegments s → k < length s.counts
+    → b ≡ values_before s k → m ≡ b + sum (segment_counts s k) → new ≡ items ++ ends_behind b (segment_counts s k)
+    → (m ≡ values_before s (k + 1))
+    × (new ++ ends_behind m (counts_from s (k + 1)) ≡ items ++ ends_behind b (counts_from s k))
 ends-appended s k b m items new are within e g f =
     let rest = ends_behind m (counts_from s (k + 1)) in
-    let split : ends_behind b (counts_from s k) ≡ ends_behind b (segment_counts s k) ++ rest = ap (ends_behind b) (counts_from-first s k are.fit within) ∙ ends-append b m (segment_counts s k) (counts_from s (k + 1)) g in
-    (omega (arith, values_before-more s k are.fit within), ap (λ all. all ++ rest) f ∙ append_assoc items (ends_behind b (segment_counts s k)) rest ∙ ap (λ left. items ++ left) (sym split))
+    let split : ends_behind b (counts_from s k) ≡ ends_behind b (segment_counts s k) ++ rest =
+    ap (ends_behind b) (counts_from-first s k are.fit within)
+    ∙ ends-append b m (segment_counts s k) (counts_from s (k + 1)) g in (
+      omega (arith, values_before-more s k are.fit within),
+      ap (λ all. all ++ rest) f
+          ∙ append_assoc items (ends_behind b (segment_counts s k)) rest ∙ ap (λ left. items ++ left) (sym split),
+    )
 
 -- behind the first start all ends are left
 pub starts-front : (s : Segments) → 0 ∷ ends_behind 0 (counts_from s 0) ≡ starts_of (stacked_counts s)
 starts-front s = sym (starts_of-ends (stacked_counts s))
 
 -- behind the last segment none is left
-pub ends-end : (s : Segments) (k b : ℕ) (items : List ℕ) → AreSegments s → length s.counts ≤ k → items ≡ items ++ ends_behind b (counts_from s k)
+pub ends-end : (s : Segments) (k b : ℕ) (items : List ℕ) → AreSegments s → length s.counts ≤ k
+    → items ≡ items ++ ends_behind b (counts_from s k)
 unfolding ends_behind
 ends-end s k b items are h = sym (ap (λ cs. items ++ ends_behind b cs) (counts_from-end s k are.fit h) ∙ append-nil items)

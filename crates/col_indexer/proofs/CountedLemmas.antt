@@ -82,7 +82,9 @@ row-below cs k row e = omega (arith, row-below_from 0 cs k row (sym (ap (λ rows
 
 -- a row with a value has a start
 pub starts_after-some : (b c : ℕ) (cs : List ℕ) → starts_after b (suc c ∷ cs) ≡ b ∷ starts_after (b + suc c) cs
-starts_after-some b c cs = ap (λ test. cond test (starts_after (b + suc c) cs) (b ∷ starts_after (b + suc c) cs)) (ne_eqb (suc c) 0 (λ e. omega arith))
+starts_after-some b c cs =
+    ap (λ test. cond test (starts_after (b + suc c) cs) (b ∷ starts_after (b + suc c) cs))
+    (ne_eqb (suc c) 0 (λ e. omega arith))
 
 -- a row without a value has no end
 pub ends_behind-none : (b : ℕ) (cs : List ℕ) → ends_behind b (0 ∷ cs) ≡ ends_behind b cs
@@ -92,7 +94,9 @@ ends_behind-none b cs = ap (λ n. ends_behind n cs) (omega arith)
 -- a row with a value has an end
 pub ends_behind-some : (b c : ℕ) (cs : List ℕ) → ends_behind b (suc c ∷ cs) ≡ (b + suc c) ∷ ends_behind (b + suc c) cs
 unfolding ends_behind
-ends_behind-some b c cs = ap (λ test. cond test (ends_behind (b + suc c) cs) ((b + suc c) ∷ ends_behind (b + suc c) cs)) (ne_eqb (suc c) 0 (λ e. omega arith))
+ends_behind-some b c cs =
+    ap (λ test. cond test (ends_behind (b + suc c) cs) ((b + suc c) ∷ ends_behind (b + suc c) cs))
+    (ne_eqb (suc c) 0 (λ e. omega arith))
 
 -- starts are the first and the ends
 pub starts_after-ends : (b : ℕ) (cs : List ℕ) → starts_after b cs ≡ b ∷ ends_behind b cs

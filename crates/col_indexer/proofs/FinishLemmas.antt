@@ -11,7 +11,8 @@ use Rattle.col_indexer.proofs.RecordedLists.{starts-recorded, first_is_zero, ris
 use Rattle.col_indexer.proofs.BuilderLemmas.{begun, shown_of}
 
 -- the offsets of what was recorded
-pub recorded-starts : (rows offsets : List ℕ) → IsRecording rows offsets → AllHaveValues (differences offsets) → begun offsets ≡ starts_of (differences offsets)
+pub recorded-starts : (rows offsets : List ℕ) → IsRecording rows offsets → AllHaveValues (differences offsets)
+    → begun offsets ≡ starts_of (differences offsets)
 unfolding starts_of
 recorded-starts rows [] r a = refl
 recorded-starts rows (x ∷ xs) r a =
@@ -20,15 +21,21 @@ recorded-starts rows (x ∷ xs) r a =
 
 -- ---- the index of what was recorded
 
-pub recorded-index : (n : ℕ) (rows offsets rows' starts : List ℕ) (shown : Recorded) → IsRecording rows offsets → shown_of rows offsets ≡ shown → AllHaveValues shown.counts → rows' ≡ rows → starts ≡ begun offsets → offsets_by_rows n rows' starts ≡ recorded_index n shown
+-- the rows and offsets that a builder recorded make the index of what it showed
+pub recorded-index : (n : ℕ) (rows offsets rows' starts : List ℕ) (shown : Recorded) → IsRecording rows offsets
+    → shown_of rows offsets ≡ shown → AllHaveValues shown.counts → rows' ≡ rows → starts ≡ begun offsets
+    → offsets_by_rows n rows' starts ≡ recorded_index n shown
 recorded-index n rows offsets rows' starts shown r v a e b =
     let each : AllHaveValues (differences offsets) = subst (λ s. AllHaveValues s.counts) (sym v) a in
     let first : offsets_by_rows n rows' starts ≡ offsets_by_rows n rows starts = ap (λ rs. offsets_by_rows n rs starts) e in
-    let second : offsets_by_rows n rows starts ≡ recorded_index n (shown_of rows offsets) = ap (offsets_by_rows n rows) (b ∙ recorded-starts rows offsets r each) in
+    let second : offsets_by_rows n rows starts ≡ recorded_index n (shown_of rows offsets) =
+    ap (offsets_by_rows n rows) (b ∙ recorded-starts rows offsets r each) in
     first ∙ second ∙ ap (recorded_index n) v
 
 -- what was recorded is an index
-pub recorded-offsets : (n : ℕ) (rows offsets : List ℕ) (shown : Recorded) → IsRecording rows offsets → shown_of rows offsets ≡ shown → n < 2 ^ 32 → are_below n shown.rows ≡ true → AllHaveValues shown.counts → AreOffsetsOf32 (recorded_index n shown)
+pub recorded-offsets : (n : ℕ) (rows offsets : List ℕ) (shown : Recorded) → IsRecording rows offsets
+    → shown_of rows offsets ≡ shown → n < 2 ^ 32 → are_below n shown.rows ≡ true → AllHaveValues shown.counts
+    → AreOffsetsOf32 (recorded_index n shown)
 recorded-offsets n rows offsets shown r v fits below a =
     let rows_below : are_below n rows ≡ true = subst (λ s. are_below n s.rows ≡ true) (sym v) below in
     let each : AllHaveValues (differences offsets) = subst (λ s. AllHaveValues s.counts) (sym v) a in

@@ -34,6 +34,7 @@ tightest-optional cs e = optional_by (list_all (λ c. c == 1) cs) (list_all (λ 
 
 -- ---- an index of each cardinality counts the rows
 
+-- counts that are all 1 are as many ones as there are counts
 pub all_ones : (cs : List ℕ) → list_all (λ c. c == 1) cs ≡ true → replicate (length cs) 1 ≡ cs
 all_ones [] e = refl
 all_ones (c ∷ cs) e =
@@ -41,13 +42,17 @@ all_ones (c ∷ cs) e =
     ap (λ n. n ∷ replicate (length cs) 1) (sym (eqb-true c 1 parts.0)) ∙ ap (λ more. c ∷ more) (all_ones cs parts.1)
 
 -- Full
-pub merged-full : (cs : List ℕ) (n : ℕ) (k : Cardinality) → n ≡ length cs → full ≡ k → list_all (λ c. c == 1) cs ≡ true → counts_over n full_shape ≡ Some (record { cardinality = k; of_rows = cs })
+pub merged-full : (cs : List ℕ) (n : ℕ) (k : Cardinality) → n ≡ length cs → full ≡ k
+    → list_all (λ c. c == 1) cs ≡ true → counts_over n full_shape ≡ Some (record { cardinality = k; of_rows = cs })
 merged-full cs n k e same ones =
     let counts : Cardinality → List ℕ → Counts = λ j ds. record { cardinality = j; of_rows = ds } in
     ap (λ ds. Some (counts full ds)) (ap (λ m. replicate m 1) e ∙ all_ones cs ones) ∙ ap (λ j. Some (counts j cs)) same
 
 -- Optional
-pub merged-optional : (cs rows : List ℕ) (n m : ℕ) (k : Cardinality) → n ≡ length cs → m ≡ length cs → rows ≡ rows_with_value cs → optional ≡ k → list_all (λ c. nat_le c 1) cs ≡ true → counts_over n (optional_shape (set_counts (record { num_rows = m; rows = rows }))) ≡ Some (record { cardinality = k; of_rows = cs })
+pub merged-optional : (cs rows : List ℕ) (n m : ℕ) (k : Cardinality) → n ≡ length cs → m ≡ length cs
+    → rows ≡ rows_with_value cs → optional ≡ k → list_all (λ c. nat_le c 1) cs ≡ true
+    → counts_over n (optional_shape (set_counts (record { num_rows = m; rows = rows })))
+    ≡ Some (record { cardinality = k; of_rows = cs })
 merged-optional cs rows n m k e f r same few =
     let counts : Cardinality → Counts = λ j. record { cardinality = j; of_rows = cs } in
     let set : ℕ → List ℕ → RowSet = λ i rs. record { num_rows = i; rows = rs } in
@@ -58,7 +63,11 @@ merged-optional cs rows n m k e f r same few =
     ∙ ap (λ j. Some (counts j)) same
 
 -- Multivalued
-pub merged-multivalued : (cs rows starts : List ℕ) (n m : ℕ) (k : Cardinality) → n ≡ length cs → m ≡ length cs → rows ≡ rows_with_value cs → starts ≡ starts_of cs → multivalued ≡ k → counts_over n (multivalued_shape (offset_counts (record { set = record { num_rows = m; rows = rows }; starts = starts }))) ≡ Some (record { cardinality = k; of_rows = cs })
+pub merged-multivalued : (cs rows starts : List ℕ) (n m : ℕ) (k : Cardinality) → n ≡ length cs → m ≡ length cs
+    → rows ≡ rows_with_value cs → starts ≡ starts_of cs → multivalued ≡ k
+    → counts_over n
+    (multivalued_shape (offset_counts (record { set = record { num_rows = m; rows = rows }; starts = starts })))
+    ≡ Some (record { cardinality = k; of_rows = cs })
 merged-multivalued cs rows starts n m k e f r t same =
     let counts : Cardinality → Counts = λ j. record { cardinality = j; of_rows = cs } in
     let set : ℕ → List ℕ → RowSet = λ i rs. record { num_rows = i; rows = rs } in
@@ -71,7 +80,8 @@ merged-multivalued cs rows starts n m k e f r t same =
     ∙ ap (λ j. Some (counts j)) same
 
 -- its rows are rows
-pub merged-rows : (cs rows : List ℕ) (m : ℕ) → m ≡ length cs → rows ≡ rows_with_value cs → m < 2 ^ 32 → AreRowsOf32 (record { num_rows = m; rows = rows })
+pub merged-rows : (cs rows : List ℕ) (m : ℕ) → m ≡ length cs → rows ≡ rows_with_value cs → m < 2 ^ 32
+    → AreRowsOf32 (record { num_rows = m; rows = rows })
 merged-rows cs rows m f r few =
     let set : ℕ → List ℕ → RowSet = λ i rs. record { num_rows = i; rows = rs } in
     record {
@@ -80,7 +90,9 @@ merged-rows cs rows m f r few =
     }
 
 -- its offsets are theirs
-pub merged-offsets : (cs rows starts : List ℕ) (m : ℕ) → m ≡ length cs → rows ≡ rows_with_value cs → starts ≡ starts_of cs → sum cs < 2 ^ 32 → AreOffsets (record { set = record { num_rows = m; rows = rows }; starts = starts })
+pub merged-offsets : (cs rows starts : List ℕ) (m : ℕ) → m ≡ length cs → rows ≡ rows_with_value cs
+    → starts ≡ starts_of cs → sum cs < 2 ^ 32
+    → AreOffsets (record { set = record { num_rows = m; rows = rows }; starts = starts })
 merged-offsets cs rows starts m f r t few =
     let set : ℕ → List ℕ → RowSet = λ i rs. record { num_rows = i; rows = rs } in
     let offsets : RowSet → List ℕ → RowOffsets = λ s ts. record { set = s; starts = ts } in

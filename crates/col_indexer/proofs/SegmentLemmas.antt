@@ -35,7 +35,8 @@ abbrev pub rows_of : ℕ × ℕ → List (ℕ × ℕ)
 rows_of p = map (λ r. (p.0, r)) (range_with_len 0 p.1)
 
 -- picks of one segment
-pub picked-one : (shapes : List Shape) (k n : ℕ) (s : Shape) → shape_at shapes k ≡ s → is_over n s ≡ true → picked shapes (rows_of (k, n)) ≡ counts_in n s
+pub picked-one : (shapes : List Shape) (k n : ℕ) (s : Shape) → shape_at shapes k ≡ s → is_over n s ≡ true
+    → picked shapes (rows_of (k, n)) ≡ counts_in n s
 unfolding picked
 picked-one shapes k n s e over =
     let pair : ℕ → ℕ × ℕ = λ r. (k, r) in
@@ -44,13 +45,15 @@ picked-one shapes k n s e over =
     ∙ counts_one_by_one n s over
 
 -- picks of all segments from one on
-picked-joined : (shapes : List Shape) (k : ℕ) (ns : List ℕ) (ss : List Shape) → drop k shapes ≡ ss → FitSegments ns ss → picked shapes (flat_map rows_of (enumerate_from k ns)) ≡ joined ns ss
+picked-joined : (shapes : List Shape) (k : ℕ) (ns : List ℕ) (ss : List Shape) → drop k shapes ≡ ss
+    → FitSegments ns ss → picked shapes (flat_map rows_of (enumerate_from k ns)) ≡ joined ns ss
 unfolding picked
 picked-joined shapes k [] ss e fit = refl
 picked-joined shapes k (n ∷ ns) [] e fit = absurd (true≢false (sym fit))
 picked-joined shapes k (n ∷ ns) (s ∷ ss) e fit =
     let parts = and_parts (is_over n s) (pointwise is_over ns ss) fit in
-    let here : shape_at shapes k ≡ s = ap (λ i. shape_at shapes i) (omega arith) ∙ sym (get_or-drop k shapes 0 (empty_shape 0)) ∙ ap (λ xs. get_or xs 0 (empty_shape 0)) e in
+    let here : shape_at shapes k ≡ s = ap (λ i. shape_at shapes i) (omega arith)
+    ∙ sym (get_or-drop k shapes 0 (empty_shape 0)) ∙ ap (λ xs. get_or xs 0 (empty_shape 0)) e in
     let later : drop (k + 1) shapes ≡ ss = sym (drop-drop 1 k shapes) ∙ ap (λ xs. drop 1 xs) e in
     map-append (λ (p : ℕ × ℕ). count_in (shape_at shapes p.0) p.1) (rows_of (k, n)) (flat_map rows_of (enumerate_from (k + 1) ns))
     ∙ ap (λ front. front ++ picked shapes (flat_map rows_of (enumerate_from (k + 1) ns))) (picked-one shapes k n s here parts.0)
@@ -62,18 +65,22 @@ unfolding picked picked_counts
 stacked-joined s fit = picked-joined s.shapes 0 s.counts s.shapes refl fit
 
 -- behind the rows of some segments stand the others
-joined-drop : (k : ℕ) (ns : List ℕ) (ss : List Shape) → FitSegments ns ss → drop (start_of ns k) (joined ns ss) ≡ joined (drop k ns) (drop k ss)
+joined-drop : (k : ℕ) (ns : List ℕ) (ss : List Shape) → FitSegments ns ss
+    → drop (start_of ns k) (joined ns ss) ≡ joined (drop k ns) (drop k ss)
 joined-drop zero ns ss fit = refl
 joined-drop (suc k) [] ss fit = refl
 joined-drop (suc k) (n ∷ ns) [] fit = absurd (true≢false (sym fit))
 joined-drop (suc k) (n ∷ ns) (s ∷ ss) fit =
     let parts = and_parts (is_over n s) (pointwise is_over ns ss) fit in
-    ap (λ m. drop m (counts_in n s ++ joined ns ss)) (sum_by-cons (λ x. x) n (take k ns) ∙ ap (λ m. m + start_of ns k) (sym (length-counts_in n s parts.0)))
+    ap (λ m. drop m (counts_in n s ++ joined ns ss))
+    (sum_by-cons (λ x. x) n (take k ns) ∙ ap (λ m. m + start_of ns k) (sym (length-counts_in n s parts.0)))
     ∙ drop-append-add (counts_in n s) (joined ns ss) (start_of ns k)
     ∙ joined-drop k ns ss parts.1
 
 -- the counts of a segment and those behind it
-joined-first : (k : ℕ) (ns : List ℕ) (ss : List Shape) → FitSegments ns ss → k < length ns → joined (drop k ns) (drop k ss) ≡ counts_in (get_or ns k 0) (shape_at ss k) ++ joined (drop (suc k) ns) (drop (suc k) ss)
+joined-first : (k : ℕ) (ns : List ℕ) (ss : List Shape) → FitSegments ns ss → k < length ns
+    → joined (drop k ns) (drop k ss)
+    ≡ counts_in (get_or ns k 0) (shape_at ss k) ++ joined (drop (suc k) ns) (drop (suc k) ss)
 joined-first k [] ss fit h = absurd (omega arith)
 joined-first k (n ∷ ns) [] fit h = absurd (true≢false (sym fit))
 joined-first zero (n ∷ ns) (s ∷ ss) fit h = refl
@@ -111,7 +118,8 @@ module _ (s : Segments) (k : ℕ) (fit : FitSegments s.counts s.shapes) (within 
       let next : suc k ≡ k + 1 = omega arith in
       from-joined s k fit
       ∙ joined-first k s.counts s.shapes fit within
-      ∙ ap (λ more. segment_counts s k ++ more) (ap (λ n. joined (drop n s.counts) (drop n s.shapes)) next ∙ sym (from-joined s (k + 1) fit))
+      ∙ ap (λ more. segment_counts s k ++ more)
+      (ap (λ n. joined (drop n s.counts) (drop n s.shapes)) next ∙ sym (from-joined s (k + 1) fit))
 
   -- a segment has a count for each row
   pub length-segment : length (segment_counts s k) ≡ get_or s.counts k 0

@@ -26,11 +26,15 @@ pub record AreOf (indexes : List ColumnIndex) (addrs : List RowAddr) (p : Picked
   pub addresses : map address_of addrs ≡ p.order.addresses
 
 -- they are what a walk sees
-pub are_of : (indexes : List ColumnIndex) (addrs : List RowAddr) (order : Shuffle) (p : Picked) → ◌≡◌ {A = Picked} (record { shapes = map shape_of indexes; order = order }) p → map address_of addrs ≡ order.addresses → AreOf indexes addrs p
+pub are_of : (indexes : List ColumnIndex) (addrs : List RowAddr) (order : Shuffle) (p : Picked)
+    → ◌≡◌ {A = Picked} (record { shapes = map shape_of indexes; order = order }) p
+    → map address_of addrs ≡ order.addresses → AreOf indexes addrs p
 are_of indexes addrs order p e f = record { shapes = ap (λ q. q.shapes) e; addresses = f ∙ ap (λ q. q.order.addresses) e }
 
 -- the segment that an address names has an index
-pub segment-there : (indexes : List ColumnIndex) (addrs : List RowAddr) (counts : List ℕ) (k : ℕ) (d : RowAddr) → FitSegments counts (map shape_of indexes) → list_all (has_row counts) (map address_of addrs) ≡ true → k < length addrs → (get_or addrs k d).segment_ord < length indexes
+pub segment-there : (indexes : List ColumnIndex) (addrs : List RowAddr) (counts : List ℕ) (k : ℕ) (d : RowAddr)
+    → FitSegments counts (map shape_of indexes) → list_all (has_row counts) (map address_of addrs) ≡ true
+    → k < length addrs → (get_or addrs k d).segment_ord < length indexes
 segment-there indexes addrs counts k d fit named h =
     let there = row_there counts addrs k d named h in
     let many = length-fit counts (map shape_of indexes) fit in
@@ -43,11 +47,15 @@ unfolding picked_counts
 length-shuffled p = length-map p.order.addresses (λ a. count_in (slice_index_or p.shapes a.0 (empty_shape 0)) a.1)
 
 -- as many as addresses that are walked
-pub length-walked : (indexes : List ColumnIndex) (addrs : List RowAddr) (p : Picked) → AreOf indexes addrs p → length (shuffled_counts p) ≡ length addrs
+pub length-walked : (indexes : List ColumnIndex) (addrs : List RowAddr) (p : Picked) → AreOf indexes addrs p
+    → length (shuffled_counts p) ≡ length addrs
 length-walked indexes addrs p are = length-shuffled p ∙ ap (λ all. length all) (sym are.addresses) ∙ length-map addrs address_of
 
 -- the count of a pick is that of the row that its address names
-pub count-there : (indexes : List ColumnIndex) (addrs : List RowAddr) (p : Picked) (k n : ℕ) (d : RowAddr) → AreOf indexes addrs p → k < length addrs → n ≡ count_in (slice_index_or (map shape_of indexes) (get_or addrs k d).segment_ord (empty_shape 0)) (get_or addrs k d).row_id → get_or (shuffled_counts p) k 0 ≡ n
+pub count-there : (indexes : List ColumnIndex) (addrs : List RowAddr) (p : Picked) (k n : ℕ) (d : RowAddr)
+    → AreOf indexes addrs p → k < length addrs
+    → n ≡ count_in (slice_index_or (map shape_of indexes) (get_or addrs k d).segment_ord (empty_shape 0))
+    (get_or addrs k d).row_id → get_or (shuffled_counts p) k 0 ≡ n
 unfolding picked_counts
 count-there indexes addrs p k n d are h e =
     let addr = get_or addrs k d in
@@ -60,7 +68,10 @@ count-there indexes addrs p k n d are h e =
     ∙ sym e
 
 -- and there is one
-pub pick-there : (indexes : List ColumnIndex) (addrs : List RowAddr) (p : Picked) (k n : ℕ) (d : RowAddr) → AreOf indexes addrs p → k < length addrs → n ≡ count_in (slice_index_or (map shape_of indexes) (get_or addrs k d).segment_ord (empty_shape 0)) (get_or addrs k d).row_id → (k < length (shuffled_counts p)) × (get_or (shuffled_counts p) k 0 ≡ n)
+pub pick-there : (indexes : List ColumnIndex) (addrs : List RowAddr) (p : Picked) (k n : ℕ) (d : RowAddr)
+    → AreOf indexes addrs p → k < length addrs
+    → n ≡ count_in (slice_index_or (map shape_of indexes) (get_or addrs k d).segment_ord (empty_shape 0))
+    (get_or addrs k d).row_id → (k < length (shuffled_counts p)) × (get_or (shuffled_counts p) k 0 ≡ n)
 pick-there indexes addrs p k n d are h e = (omega (arith, length-walked indexes addrs p are), count-there indexes addrs p k n d are h e)
 
 -- what a test tells of a count of 0
@@ -74,7 +85,8 @@ count-some n e = grind (arith, nat_tests)
 -- ---- what a walk of rows has still to give
 
 -- a pick without a value is passed
-pub picks-none : (cs : List ℕ) (k : ℕ) → k < length cs → get_or cs k 0 ≡ 0 → rows_behind k (drop k cs) ≡ rows_behind (k + 1) (drop (k + 1) cs)
+pub picks-none : (cs : List ℕ) (k : ℕ) → k < length cs → get_or cs k 0 ≡ 0
+    → rows_behind k (drop k cs) ≡ rows_behind (k + 1) (drop (k + 1) cs)
 picks-none cs k h e = ap (rows_behind k) (drop_more cs k 0 h ∙ ap (λ c. c ∷ drop (k + 1) cs) e) ∙ rows_behind-none k (drop (k + 1) cs)
 
 first_row : (k c : ℕ) (cs : List ℕ) → c ≢ 0 → rows_behind k (c ∷ cs) ≡ k ∷ rows_behind (k + 1) cs
@@ -82,7 +94,8 @@ first_row k zero cs e = absurd (e refl)
 first_row k (suc c) cs e = rows_behind-some k c cs
 
 -- a pick with a value is the next
-pub picks-some : (cs : List ℕ) (k : ℕ) → k < length cs → get_or cs k 0 ≢ 0 → rows_behind k (drop k cs) ≡ k ∷ rows_behind (k + 1) (drop (k + 1) cs)
+pub picks-some : (cs : List ℕ) (k : ℕ) → k < length cs → get_or cs k 0 ≢ 0
+    → rows_behind k (drop k cs) ≡ k ∷ rows_behind (k + 1) (drop (k + 1) cs)
 picks-some cs k h e = ap (rows_behind k) (drop_more cs k 0 h) ∙ first_row k (get_or cs k 0) (drop (k + 1) cs) e
 
 -- behind the last there is none
@@ -96,15 +109,19 @@ pub first-given : (inner : ℕ) (ends : List ℕ) → inner ≡ 1 → drop inner
 first-given inner ends e = ap (λ i. drop i (0 ∷ []) ++ ends) e
 
 -- a pick without a value is passed
-pub sums-none : (cs : List ℕ) (k before : ℕ) → k < length cs → get_or cs k 0 ≡ 0 → ends_behind before (drop k cs) ≡ ends_behind before (drop (k + 1) cs)
-sums-none cs k before h e = ap (ends_behind before) (drop_more cs k 0 h ∙ ap (λ c. c ∷ drop (k + 1) cs) e) ∙ ends_behind-none before (drop (k + 1) cs)
+pub sums-none : (cs : List ℕ) (k before : ℕ) → k < length cs → get_or cs k 0 ≡ 0
+    → ends_behind before (drop k cs) ≡ ends_behind before (drop (k + 1) cs)
+sums-none cs k before h e =
+    ap (ends_behind before) (drop_more cs k 0 h ∙ ap (λ c. c ∷ drop (k + 1) cs) e)
+    ∙ ends_behind-none before (drop (k + 1) cs)
 
 first_end : (before n : ℕ) (cs : List ℕ) → n ≢ 0 → ends_behind before (n ∷ cs) ≡ (before + n) ∷ ends_behind (before + n) cs
 first_end before zero cs e = absurd (e refl)
 first_end before (suc n) cs e = ends_behind-some before n cs
 
 -- the values of a pick end so far behind
-pub sums-some : (cs : List ℕ) (k before n : ℕ) → k < length cs → get_or cs k 0 ≡ n → n ≢ 0 → ends_behind before (drop k cs) ≡ (before + n) ∷ ends_behind (before + n) (drop (k + 1) cs)
+pub sums-some : (cs : List ℕ) (k before n : ℕ) → k < length cs → get_or cs k 0 ≡ n → n ≢ 0
+    → ends_behind before (drop k cs) ≡ (before + n) ∷ ends_behind (before + n) (drop (k + 1) cs)
 sums-some cs k before n h e f =
     ap (ends_behind before) (drop_more cs k 0 h ∙ ap (λ c. c ∷ drop (k + 1) cs) e) ∙ first_end before n (drop (k + 1) cs) f
 
@@ -114,7 +131,8 @@ unfolding ends_behind
 sums-end cs k before h = ap (ends_behind before) (drop_of_length-le cs h)
 
 -- a walk at the front has still to give all offsets
-pub sums-front : (cs : List ℕ) (w : Walk) → w.place ≡ 0 → w.inner ≡ 0 → w.sum ≡ 0 → drop w.inner (0 ∷ []) ++ ends_behind w.sum (drop w.place cs) ≡ starts_of cs
+pub sums-front : (cs : List ℕ) (w : Walk) → w.place ≡ 0 → w.inner ≡ 0 → w.sum ≡ 0
+    → drop w.inner (0 ∷ []) ++ ends_behind w.sum (drop w.place cs) ≡ starts_of cs
 sums-front cs w e f g =
     ap (λ i. drop i (0 ∷ []) ++ ends_behind w.sum (drop w.place cs)) f
     ∙ ap (λ b. 0 ∷ ends_behind b (drop w.place cs)) g
@@ -122,7 +140,8 @@ sums-front cs w e f g =
     ∙ sym (starts_of-ends cs)
 
 -- the sum goes up by the count, and stays within that of all
-pub sum-step : (cs : List ℕ) (k before n : ℕ) → k < length cs → get_or cs k 0 ≡ n → before ≡ sum (take k cs) → (before + n ≡ sum (take (k + 1) cs)) × (before + n ≤ sum cs)
+pub sum-step : (cs : List ℕ) (k before n : ℕ) → k < length cs → get_or cs k 0 ≡ n → before ≡ sum (take k cs)
+    → (before + n ≡ sum (take (k + 1) cs)) × (before + n ≤ sum cs)
 sum-step cs k before n h e f =
     let more = sum_by_more (λ x. x) cs k 0 h in
     let within = sum_by-take-le (λ x. x) cs (k + 1) in

@@ -15,7 +15,7 @@ use Rattle.col_indexer.specs.Counted.{counts_in}
 use Rattle.col_index.specs.Indexes.{shape_of}
 use Rattle.col_indexer.specs.Merged.{is_over, FitSegments, stacked_cardinality_of}
 use Rattle.col_index.specs.Offsets.{cardinality_in}
-use Rattle.col_indexer.specs.Stacks.{segments_of}
+use Rattle.col_indexer.specs.Stacks.{index_segments}
 use Rattle.col_index.specs.declared.column_index.ColumnIndex.{ColumnIndex}
 use Rattle.col_index.specs.declared.column_index.ColumnIndex.TheVariants.{Empty, Full, Optional, Multivalued}
 use Rattle.col_indexer.proofs.SegmentLemmas.{joined, stacked-joined}
@@ -24,10 +24,14 @@ use Rattle.col_indexer.proofs.UniformLemmas.{same_counts}
 -- ---- no segment allows more than the greatest
 
 -- neither allows more than the greater
-above : (a b : Cardinality) → (cardinality_code a ≤ cardinality_code (greater_cardinality a b)) × (cardinality_code b ≤ cardinality_code (greater_cardinality a b))
+above : (a b : Cardinality)
+    → (cardinality_code a ≤ cardinality_code (greater_cardinality a b))
+    × (cardinality_code b ≤ cardinality_code (greater_cardinality a b))
 above a b = go (nat_lt (cardinality_code a) (cardinality_code b)) refl
   where
-    go : (test : Bool) → nat_lt (cardinality_code a) (cardinality_code b) ≡ test → (cardinality_code a ≤ cardinality_code (cond test b a)) × (cardinality_code b ≤ cardinality_code (cond test b a))
+    go : (test : Bool) → nat_lt (cardinality_code a) (cardinality_code b) ≡ test
+        → (cardinality_code a ≤ cardinality_code (cond test b a))
+        × (cardinality_code b ≤ cardinality_code (cond test b a))
     go true e = let up = ltb-true (cardinality_code a) (cardinality_code b) e in (omega arith, omega arith)
     go false e = let up : cardinality_code b ≤ cardinality_code a = grind (arith, nat_tests) in (omega arith, omega arith)
 
@@ -41,11 +45,20 @@ greatest-start a [] = omega arith
 greatest-start a (c ∷ cs) = omega (arith, (above a c).0, greatest-start (greater_cardinality a c) cs)
 
 -- nor is any other
-greatest-all : (a : Cardinality) (indexes : List ColumnIndex) → AllByRecursion (λ i. code_of i ≤ cardinality_code (fold greater_cardinality a (map cardinality_in (map shape_of indexes)))) indexes
+greatest-all : (a : Cardinality) (indexes : List ColumnIndex)
+    → AllByRecursion
+    (λ i. code_of i ≤ cardinality_code (fold greater_cardinality a (map cardinality_in (map shape_of indexes))))
+    indexes
 greatest-all a [] = tt
 greatest-all a (i ∷ indexes) =
-    let next = greater_cardinality a (cardinality_in (shape_of i)) in
-    (omega (arith, (above a (cardinality_in (shape_of i))).1, greatest-start next (map cardinality_in (map shape_of indexes))), greatest-all next indexes)
+    let next = greater_cardinality a (cardinality_in (shape_of i)) in (
+      omega (
+        arith,
+        (above a (cardinality_in (shape_of i))).1,
+        greatest-start next (map cardinality_in (map shape_of indexes)),
+      ),
+      greatest-all next indexes,
+    )
 
 -- ---- the counts of a segment
 
@@ -59,7 +72,9 @@ same_pass : (test : ℕ → Bool) (c n : ℕ) → test c ≡ true → list_all t
 same_pass test c n e = ap (list_all test) (same_counts c 0 n) ∙ all_same test c n e
 
 -- a 1 in front changes nothing
-one_of : (test : Bool) (r : ℕ) (later : Option (ℕ × ℕ)) → nat_le (unwrap_or (option_map (λ (p : ℕ × ℕ). p.1) later) 0) 1 ≡ true → nat_le (unwrap_or (option_map (λ (p : ℕ × ℕ). p.1) (cond test (Some (r, 1)) later)) 0) 1 ≡ true
+one_of : (test : Bool) (r : ℕ) (later : Option (ℕ × ℕ))
+    → nat_le (unwrap_or (option_map (λ (p : ℕ × ℕ). p.1) later) 0) 1 ≡ true
+    → nat_le (unwrap_or (option_map (λ (p : ℕ × ℕ). p.1) (cond test (Some (r, 1)) later)) 0) 1 ≡ true
 one_of true r later e = refl
 one_of false r later e = e
 
@@ -71,7 +86,8 @@ beside_one (r ∷ rows) (suc k) row =
     one_of (r == row) r (find (λ (p : ℕ × ℕ). p.0 == row) (zip rows (replicate k 1))) (beside_one rows k row)
 
 -- so rows of a set have at most one value
-few_beside : (rows : List ℕ) (k a n : ℕ) → list_all (λ c. nat_le c 1) (map (count_beside (zip rows (replicate k 1))) (range_with_len a n)) ≡ true
+few_beside : (rows : List ℕ) (k a n : ℕ)
+    → list_all (λ c. nat_le c 1) (map (count_beside (zip rows (replicate k 1))) (range_with_len a n)) ≡ true
 few_beside rows k a zero = refl
 few_beside rows k a (suc n) = and_from _ _ (beside_one rows k a) (few_beside rows k (a + 1) n)
 
@@ -91,7 +107,8 @@ no_rows m h = go (m == 0) refl h
     go false e h = absurd (omega arith)
 
 -- a Full segment has one value in each row
-ones_in : (n : ℕ) (i : ColumnIndex) → code_of i ≤ 0 → is_over n (shape_of i) ≡ true → list_all (λ c. c == 1) (counts_in n (shape_of i)) ≡ true
+ones_in : (n : ℕ) (i : ColumnIndex) → code_of i ≤ 0 → is_over n (shape_of i) ≡ true
+    → list_all (λ c. c == 1) (counts_in n (shape_of i)) ≡ true
 ones_in n (Empty m) h e =
     let none : n ≡ 0 = sym (eqb-true m n e) ∙ no_rows m h in
     ap (λ k. list_all (λ c. c == 1) (map (λ row. 0) (range_with_len 0 k))) none
@@ -102,7 +119,8 @@ ones_in n (Multivalued i) h e = absurd (omega arith)
 -- ---- the counts of all segments
 
 -- segments up to Optional have at most one value in each row
-few_joined : (counts : List ℕ) (indexes : List ColumnIndex) → AllByRecursion (λ i. code_of i ≤ 1) indexes → list_all (λ c. nat_le c 1) (joined counts (map shape_of indexes)) ≡ true
+few_joined : (counts : List ℕ) (indexes : List ColumnIndex) → AllByRecursion (λ i. code_of i ≤ 1) indexes
+    → list_all (λ c. nat_le c 1) (joined counts (map shape_of indexes)) ≡ true
 few_joined [] indexes h = refl
 few_joined (n ∷ counts) [] h = refl
 few_joined (n ∷ counts) (i ∷ indexes) h =
@@ -110,7 +128,9 @@ few_joined (n ∷ counts) (i ∷ indexes) h =
     ∙ and_from _ _ (few_in n i h.0) (few_joined counts indexes h.1)
 
 -- Full segments have one value in each row
-ones_joined : (counts : List ℕ) (indexes : List ColumnIndex) → AllByRecursion (λ i. code_of i ≤ 0) indexes → FitSegments counts (map shape_of indexes) → list_all (λ c. c == 1) (joined counts (map shape_of indexes)) ≡ true
+ones_joined : (counts : List ℕ) (indexes : List ColumnIndex) → AllByRecursion (λ i. code_of i ≤ 0) indexes
+    → FitSegments counts (map shape_of indexes)
+    → list_all (λ c. c == 1) (joined counts (map shape_of indexes)) ≡ true
 ones_joined [] indexes h fit = refl
 ones_joined (n ∷ counts) [] h fit = refl
 ones_joined (n ∷ counts) (i ∷ indexes) h fit =
@@ -124,18 +144,22 @@ module _ (counts : List ℕ) (indexes : List ColumnIndex) (fit : FitSegments cou
   at_most k e = subst (λ m. AllByRecursion (λ i. code_of i ≤ m) indexes) e (greatest-all full indexes)
 
   -- Full: each row has one value
-  pub stacked-ones : full ≡ stacked_cardinality_of (map shape_of indexes) → list_all (λ c. c == 1) (picked_counts (map shape_of indexes) (all_rows counts)) ≡ true
+  pub stacked-ones : full ≡ stacked_cardinality_of (map shape_of indexes)
+      → list_all (λ c. c == 1) (picked_counts (map shape_of indexes) (all_rows counts)) ≡ true
   stacked-ones e =
-      ap (list_all (λ c. c == 1)) (stacked-joined (segments_of indexes counts) fit)
+      ap (list_all (λ c. c == 1)) (stacked-joined (index_segments indexes counts) fit)
       ∙ ones_joined counts indexes (at_most 0 (ap cardinality_code (sym e))) fit
 
   -- Optional: each row has at most one
-  pub stacked-few : optional ≡ stacked_cardinality_of (map shape_of indexes) → list_all (λ c. nat_le c 1) (picked_counts (map shape_of indexes) (all_rows counts)) ≡ true
+  pub stacked-few : optional ≡ stacked_cardinality_of (map shape_of indexes)
+      → list_all (λ c. nat_le c 1) (picked_counts (map shape_of indexes) (all_rows counts)) ≡ true
   stacked-few e =
-      ap (list_all (λ c. nat_le c 1)) (stacked-joined (segments_of indexes counts) fit)
+      ap (list_all (λ c. nat_le c 1)) (stacked-joined (index_segments indexes counts) fit)
       ∙ few_joined counts indexes (at_most 1 (ap cardinality_code (sym e)))
 
   -- a count for each row
   pub length-stacked : length (all_rows counts) ≡ length (picked_counts (map shape_of indexes) (all_rows counts))
   unfolding picked_counts
-  length-stacked = sym (length-map (all_rows counts) (λ (p : ℕ × ℕ). count_in (slice_index_or (map shape_of indexes) p.0 (empty_shape 0)) p.1))
+  length-stacked =
+      sym (length-map (all_rows counts)
+      (λ (p : ℕ × ℕ). count_in (slice_index_or (map shape_of indexes) p.0 (empty_shape 0)) p.1))

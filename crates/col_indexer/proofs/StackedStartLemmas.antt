@@ -28,7 +28,13 @@ starts_after-le b [] zero = omega arith
 starts_after-le b [] (suc k) = omega arith
 starts_after-le b (zero ∷ cs) k = omega (arith, starts_after-le (b + 0) cs k, sum_by-cons (λ x. x) 0 cs)
 starts_after-le b (suc c ∷ cs) zero = omega (arith, ap (λ xs. get_or xs 0 0) (starts_after-some b c cs))
-starts_after-le b (suc c ∷ cs) (suc k) = omega (arith, ap (λ xs. get_or xs (suc k) 0) (starts_after-some b c cs), starts_after-le (b + suc c) cs k, sum_by-cons (λ x. x) (suc c) cs)
+starts_after-le b (suc c ∷ cs) (suc k) =
+    omega (
+      arith,
+      ap (λ xs. get_or xs (suc k) 0) (starts_after-some b c cs),
+      starts_after-le (b + suc c) cs k,
+      sum_by-cons (λ x. x) (suc c) cs,
+    )
 
 -- no value starts behind them all
 pub starts-le : (cs : List ℕ) (k x : ℕ) → slice_get (starts_of cs) k ≡ Some x → x ≤ sum cs
@@ -72,7 +78,8 @@ starts_after-first b (zero ∷ cs) = starts_after-first (b + 0) cs ∙ ap (λ n.
 starts_after-first b (suc c ∷ cs) = starts_after-some b c cs ∙ ap (λ xs. b ∷ drop 1 xs) (sym (starts_after-some b c cs))
 
 -- what stands behind other rows starts where these end
-pub starts_after-append : (b m : ℕ) (xs ys : List ℕ) → m ≡ b + sum xs → starts_after b (xs ++ ys) ≡ starts_after b xs ++ drop 1 (starts_after m ys)
+pub starts_after-append : (b m : ℕ) (xs ys : List ℕ) → m ≡ b + sum xs
+    → starts_after b (xs ++ ys) ≡ starts_after b xs ++ drop 1 (starts_after m ys)
 starts_after-append b m [] ys e =
     starts_after-first b ys ∙ ap (λ n. b ∷ drop 1 (starts_after n ys)) (omega arith)
 starts_after-append b m (zero ∷ xs) ys e = starts_after-append (b + 0) m xs ys (omega (arith, sum_by-cons (λ x. x) 0 xs))

@@ -9,13 +9,14 @@ use Rattle.col_indexer.specs.Counted.{rows_behind, counts_in}
 use Rattle.col_index.specs.Indexes.{shape_of}
 use Rattle.col_indexer.specs.Merged.{FitSegments}
 use Rattle.col_index.specs.declared.column_index.ColumnIndex.{ColumnIndex}
-use Rattle.col_indexer.specs.Stacks.{Segments, AreSegments, segments_of, segment_counts, counts_from, StandsAtRow, stacked_rows_to_give}
+use Rattle.col_indexer.specs.Stacks.{Segments, AreSegments, index_segments, segment_counts, counts_from, StandsAtRow, stacked_rows_to_give}
 use Rattle.col_indexer.proofs.CountedLemmas.{rows_behind-append, length-rows_with_value, row-below}
 use Rattle.col_indexer.proofs.SegmentLemmas.{length-fit, counts_from-first, counts_from-end, length-segment, start_of-more, rows_within}
 use Rattle.col_indexer.proofs.StackedStartLemmas.{slice_get-none}
 
 -- an item of the front of a list, each so far behind
-pub item_of : (b place x : ℕ) (xs front more all : List ℕ) → front ≡ map (λ y. b + y) xs → all ≡ front ++ more → slice_get xs place ≡ Some x → drop place all ≡ (b + x) ∷ drop (place + 1) all
+pub item_of : (b place x : ℕ) (xs front more all : List ℕ) → front ≡ map (λ y. b + y) xs → all ≡ front ++ more
+    → slice_get xs place ≡ Some x → drop place all ≡ (b + x) ∷ drop (place + 1) all
 item_of b place x xs front more all f e g =
     let inside = slice_get_within xs place x g in
     let long : length front ≡ length xs = ap length f ∙ length-map xs (λ y. b + y) in
@@ -29,13 +30,16 @@ item_of b place x xs front more all f e g =
     drop_more all place 0 (omega arith) ∙ ap (λ y. y ∷ drop (place + 1) all) item
 
 -- none is left of the front
-pub none_of : (place : ℕ) (xs front more all : List ℕ) → length front ≡ length xs → all ≡ front ++ more → place ≤ length xs → slice_get xs place ≡ None → drop place all ≡ more
+pub none_of : (place : ℕ) (xs front more all : List ℕ) → length front ≡ length xs → all ≡ front ++ more
+    → place ≤ length xs → slice_get xs place ≡ None → drop place all ≡ more
 none_of place xs front more all f e within g =
     let past = slice_get-none xs place g in
     ap (drop place) e ∙ drop_at front more place (omega arith)
 
 -- the counts of a segment whose index was read
-pub segment_read : (indexes : List ColumnIndex) (counts : List ℕ) (k n : ℕ) (index : ColumnIndex) → FitSegments counts (map shape_of indexes) → k < length counts → n ≡ get_or counts k 0 → index ≡ get_or indexes k index → counts_in n (shape_of index) ≡ segment_counts (segments_of indexes counts) k
+pub segment_read : (indexes : List ColumnIndex) (counts : List ℕ) (k n : ℕ) (index : ColumnIndex)
+    → FitSegments counts (map shape_of indexes) → k < length counts → n ≡ get_or counts k 0
+    → index ≡ get_or indexes k index → counts_in n (shape_of index) ≡ segment_counts (index_segments indexes counts) k
 segment_read indexes counts k n index fit within e f =
     let many = length-fit counts (map shape_of indexes) fit in
     let long = length-map indexes shape_of in
@@ -46,17 +50,25 @@ segment_read indexes counts k n index fit within e f =
 -- ---- rows
 
 -- what was read of the segment's rows
-pub row_read : (indexes : List ColumnIndex) (counts : List ℕ) (at : Walk) (n : ℕ) (index : ColumnIndex) (read got : Option ℕ) → FitSegments counts (map shape_of indexes) → at.segment < length counts → n ≡ get_or counts at.segment 0 → index ≡ get_or indexes at.segment index → read ≡ slice_get (rows_with_value (counts_in n (shape_of index))) at.place → read ≡ got → slice_get (rows_with_value (segment_counts (segments_of indexes counts) at.segment)) at.place ≡ got
+pub row_read :
+    (indexes : List ColumnIndex) (counts : List ℕ) (at : Walk) (n : ℕ) (index : ColumnIndex) (read got : Option ℕ)
+    → FitSegments counts (map shape_of indexes) → at.segment < length counts → n ≡ get_or counts at.segment 0
+    → index ≡ get_or indexes at.segment index
+    → read ≡ slice_get (rows_with_value (counts_in n (shape_of index))) at.place → read ≡ got
+    → slice_get (rows_with_value (segment_counts (index_segments indexes counts) at.segment)) at.place ≡ got
 row_read indexes counts at n index read got fit within e f g h =
     ap (λ cs. slice_get (rows_with_value cs) at.place) (sym (segment_read indexes counts at.segment n index fit within e f)) ∙ sym g ∙ h
 
 module _ (s : Segments) (a b : Walk) (are : AreSegments s) (stands : StandsAtRow s a) (within : a.segment < length s.counts) where
   -- the rows of a segment, and those behind it
-  rows_split : rows_behind a.sum (counts_from s a.segment) ≡ rows_behind a.sum (segment_counts s a.segment) ++ rows_behind (a.sum + get_or s.counts a.segment 0) (counts_from s (a.segment + 1))
+  rows_split : rows_behind a.sum (counts_from s a.segment)
+      ≡ rows_behind a.sum (segment_counts s a.segment)
+      ++ rows_behind (a.sum + get_or s.counts a.segment 0) (counts_from s (a.segment + 1))
   rows_split =
       let long = length-segment s a.segment are.fit within in
       ap (rows_behind a.sum) (counts_from-first s a.segment are.fit within)
-      ∙ rows_behind-append a.sum (a.sum + get_or s.counts a.segment 0) (segment_counts s a.segment) (counts_from s (a.segment + 1)) (omega arith)
+      ∙ rows_behind-append a.sum (a.sum + get_or s.counts a.segment 0) (segment_counts s a.segment)
+      (counts_from s (a.segment + 1)) (omega arith)
 
   module _ (row : ℕ) (read : slice_get (rows_with_value (segment_counts s a.segment)) a.place ≡ Some row) where
     -- the row and the next place fit
@@ -75,7 +87,9 @@ module _ (s : Segments) (a b : Walk) (are : AreSegments s) (stands : StandsAtRow
     pub row_stands : b.segment ≡ a.segment → b.place ≡ a.place + 1 → b.sum ≡ a.sum → StandsAtRow s b
     row_stands e f g =
         let inside = slice_get_within (rows_with_value (segment_counts s a.segment)) a.place row read in
-        let same : length (rows_with_value (segment_counts s b.segment)) ≡ length (rows_with_value (segment_counts s a.segment)) = ap (λ k. length (rows_with_value (segment_counts s k))) e in
+        let same : length (rows_with_value (segment_counts s b.segment)) ≡ length
+        (rows_with_value (segment_counts s a.segment)) =
+        ap (λ k. length (rows_with_value (segment_counts s k))) e in
         record {
           segment = omega (arith, stands.segment);
           place = omega arith;
@@ -83,7 +97,8 @@ module _ (s : Segments) (a b : Walk) (are : AreSegments s) (stands : StandsAtRow
         }
 
     -- the row is the first that was left
-    pub row_given : b.segment ≡ a.segment → b.place ≡ a.place + 1 → b.sum ≡ a.sum → stacked_rows_to_give s a ≡ (a.sum + row) ∷ stacked_rows_to_give s b
+    pub row_given : b.segment ≡ a.segment → b.place ≡ a.place + 1 → b.sum ≡ a.sum
+        → stacked_rows_to_give s a ≡ (a.sum + row) ∷ stacked_rows_to_give s b
     row_given e f g =
         item_of a.sum a.place row _ _ _ _ refl rows_split read
         ∙ ap (λ n. (a.sum + row) ∷ drop n (rows_behind a.sum (counts_from s a.segment))) (sym f)
@@ -97,16 +112,21 @@ module _ (s : Segments) (a b : Walk) (are : AreSegments s) (stands : StandsAtRow
         record {
           segment = omega arith;
           place = omega arith;
-          before = g ∙ ap (λ n. n + get_or s.counts a.segment 0) stands.before ∙ sym (start_of-more s a.segment are.fit within) ∙ ap (start_of s.counts) (sym e);
+          before =
+              g ∙ ap (λ n. n + get_or s.counts a.segment 0) stands.before
+              ∙ sym (start_of-more s a.segment are.fit within) ∙ ap (start_of s.counts) (sym e);
         }
 
     -- and has the same rows to give
-    pub segment_left : b.segment ≡ a.segment + 1 → b.place ≡ 0 → b.sum ≡ a.sum + get_or s.counts a.segment 0 → stacked_rows_to_give s b ≡ stacked_rows_to_give s a
+    pub segment_left : b.segment ≡ a.segment + 1 → b.place ≡ 0 → b.sum ≡ a.sum + get_or s.counts a.segment 0
+        → stacked_rows_to_give s b ≡ stacked_rows_to_give s a
     segment_left e f g =
         ap (λ n. drop n (rows_behind b.sum (counts_from s b.segment))) f
         ∙ ap (λ n. rows_behind n (counts_from s b.segment)) g
         ∙ ap (λ k. rows_behind (a.sum + get_or s.counts a.segment 0) (counts_from s k)) e
-        ∙ sym (none_of a.place _ _ _ _ (length-map (rows_with_value (segment_counts s a.segment)) (λ row. a.sum + row)) rows_split stands.place none)
+        ∙ sym (none_of a.place _ _ _ _
+        (length-map (rows_with_value (segment_counts s a.segment)) (λ row. a.sum + row)) rows_split stands.place
+        none)
 
 -- behind the last segment no row is left
 pub rows_end : (s : Segments) (a : Walk) → AreSegments s → length s.counts ≤ a.segment → stacked_rows_to_give s a ≡ []

@@ -18,35 +18,53 @@ use Rattle.col_indexer.proofs.ByteCountLemmas.{index_codec, list_bytes-picked, l
 use Rattle.col_indexer.proofs.SpellingLemmas.{row_set_bytes-few, starts-few}
 
 -- what is said of the codec that is chosen for a list
-at_picked : (P : ℕ → List ℕ → Type 0) (xs : List ℕ) → IfSome (chosen_codec (map (λ x. x) xs) index_codecs) (λ codec. P codec (map (λ x. x) xs)) → P (index_codec xs).0 xs
+at_picked : (P : ℕ → List ℕ → Type 0) (xs : List ℕ)
+    → IfSome (chosen_codec (map (λ x. x) xs) index_codecs) (λ codec. P codec (map (λ x. x) xs))
+    → P (index_codec xs).0 xs
 at_picked P xs h =
     let h' = subst (λ ys. IfSome (chosen_codec ys index_codecs) (λ codec. P codec ys)) (map-id xs) h in
     subst (λ o. IfSome o (λ codec. P codec xs)) (index_codec xs).1 h'
 
-pub list-written : (old new : SeenSink) (result : Result (Unit {0}) ColumnarError) (xs : List ℕ) → length xs < 2 ^ 32 → IfSome (chosen_codec (map (λ x. x) xs) index_codecs) (λ codec. length xs < 2 ^ 32 → Serializes old new result (codec_bytes codec (map (λ x. x) xs))) → Serializes old new result (list_bytes xs)
+-- a list is written as its bytes where it is written under the codec chosen for it
+pub list-written : (old new : SeenSink) (result : Result (Unit {0}) ColumnarError) (xs : List ℕ)
+    → length xs < 2 ^ 32 → IfSome (chosen_codec (map (λ x. x) xs) index_codecs)
+    (λ codec. length xs < 2 ^ 32 → Serializes old new result (codec_bytes codec (map (λ x. x) xs)))
+    → Serializes old new result (list_bytes xs)
 list-written old new result xs few h =
     let p = index_codec xs in
     let at = at_picked (λ codec ys. length xs < 2 ^ 32 → Serializes old new result (codec_bytes codec ys)) xs h few in
     subst (Serializes old new result) (sym (list_bytes-picked xs p.0 p.1)) at
 
 -- it takes one byte more than its estimate
-pub list-long : (xs : List ℕ) (n : ℕ) → IfSome (chosen_codec (map (λ x. x) xs) index_codecs) (λ codec. estimate (map (λ x. x) xs) codec ≡ Some n) → 1 + n ≡ length (list_bytes xs)
+pub list-long : (xs : List ℕ) (n : ℕ)
+    → IfSome (chosen_codec (map (λ x. x) xs) index_codecs) (λ codec. estimate (map (λ x. x) xs) codec ≡ Some n)
+    → 1 + n ≡ length (list_bytes xs)
 list-long xs n h =
     let p = index_codec xs in
     let e = same_Some _ _ (sym p.2.estimated ∙ at_picked (λ codec ys. estimate ys codec ≡ Some n) xs h) in
     sym (ap length (list_bytes-picked xs p.0 p.1) ∙ p.2.long ∙ ap (λ m. 1 + m) e)
 
-pub list-fits : (xs : List ℕ) (n : ℕ) → length xs < 2 ^ 32 → IfSome (chosen_codec (map (λ x. x) xs) index_codecs) (λ codec. estimate (map (λ x. x) xs) codec ≡ Some n) → 1 + n < 2 ^ 64
+-- a list's bytes under the chosen codec, with its code, are fewer than 2 ^ 64
+pub list-fits : (xs : List ℕ) (n : ℕ) → length xs < 2 ^ 32
+    → IfSome (chosen_codec (map (λ x. x) xs) index_codecs) (λ codec. estimate (map (λ x. x) xs) codec ≡ Some n)
+    → 1 + n < 2 ^ 64
 list-fits xs n few h = omega (arith, list-long xs n h, list_bytes-most xs)
 
 -- ---- rows
 
-pub row_set-written : (a b d : SeenSink) (end : Unit {0}) (result : Result (Unit {0}) ColumnarError) (count : ℕ) (s : RowSet) → count ≡ s.num_rows → Serializes a b (Ok end) (vint_bytes count) → Serializes b d result (list_bytes s.rows) → Serializes a d result (row_set_bytes s)
+-- rows with a value are written as their count and their list
+pub row_set-written :
+    (a b d : SeenSink) (end : Unit {0}) (result : Result (Unit {0}) ColumnarError) (count : ℕ) (s : RowSet)
+    → count ≡ s.num_rows → Serializes a b (Ok end) (vint_bytes count) → Serializes b d result (list_bytes s.rows)
+    → Serializes a d result (row_set_bytes s)
 unfolding row_set_bytes
 row_set-written a b d end result count s e front rest =
-    serializes-then a b d end result (vint_bytes s.num_rows) (list_bytes s.rows) (subst (λ c. Serializes a b (Ok end) (vint_bytes c)) e front) rest
+    serializes-then a b d end result (vint_bytes s.num_rows) (list_bytes s.rows)
+    (subst (λ c. Serializes a b (Ok end) (vint_bytes c)) e front) rest
 
-pub row_set-long : (count front rest : ℕ) (s : RowSet) → count ≡ s.num_rows → front ≡ length (vint_bytes count) → rest ≡ length (list_bytes s.rows) → front + rest ≡ length (row_set_bytes s)
+-- the count and the list are as long as the bytes of the rows with a value
+pub row_set-long : (count front rest : ℕ) (s : RowSet) → count ≡ s.num_rows → front ≡ length (vint_bytes count)
+    → rest ≡ length (list_bytes s.rows) → front + rest ≡ length (row_set_bytes s)
 unfolding row_set_bytes
 row_set-long count front rest s e f r =
     let same : front ≡ length (vint_bytes s.num_rows) = f ∙ ap (λ c. length (vint_bytes c)) e in
@@ -55,27 +73,38 @@ row_set-long count front rest s e f r =
 -- ---- rows and start offsets
 
 -- the offsets were not written to their end
-pub offsets-stopped : (a b d : SeenSink) (end : Unit {0}) (e : ColumnarError) (o : RowOffsets) → Serializes a b (Ok end) (row_set_bytes o.set) → Serializes b d (Err e) (list_bytes o.starts) → Serializes a d (Err e) (row_offsets_bytes o)
+pub offsets-stopped : (a b d : SeenSink) (end : Unit {0}) (e : ColumnarError) (o : RowOffsets)
+    → Serializes a b (Ok end) (row_set_bytes o.set) → Serializes b d (Err e) (list_bytes o.starts)
+    → Serializes a d (Err e) (row_offsets_bytes o)
 offsets-stopped a b d end e o rows starts =
     serializes-stopped a d e (row_set_bytes o.set ++ list_bytes o.starts) (row_offsets_bytes o)
     (serializes-then a b d end (Err e) (row_set_bytes o.set) (list_bytes o.starts) rows starts)
 
-pub row_offsets-written : (a b d f : SeenSink) (end : Unit {0}) (result : Result (Unit {0}) ColumnarError) (len : ℕ) (bytes : List ℕ) (o : RowOffsets) → len ≡ length (row_set_bytes o.set) → bytes ≡ to_le_bytes w64 len
-    → Serializes a b (Ok end) (row_set_bytes o.set) → Serializes b d (Ok end) (list_bytes o.starts) → Serializes d f result bytes → Serializes a f result (row_offsets_bytes o)
+-- rows with start offsets are written as the rows, the offsets and the length of the rows' bytes
+pub row_offsets-written : (a b d f : SeenSink) (end : Unit {0}) (result : Result (Unit {0}) ColumnarError) (len : ℕ)
+    (bytes : List ℕ) (o : RowOffsets) → len ≡ length (row_set_bytes o.set) → bytes ≡ to_le_bytes w64 len
+    → Serializes a b (Ok end) (row_set_bytes o.set) → Serializes b d (Ok end) (list_bytes o.starts)
+    → Serializes d f result bytes → Serializes a f result (row_offsets_bytes o)
 unfolding row_offsets_bytes
 row_offsets-written a b d f end result len bytes o e same rows starts rest =
     serializes-then a b f end result (row_set_bytes o.set) (list_bytes o.starts ++ to_le_bytes w64 (length (row_set_bytes o.set))) rows
     (serializes-then b d f end result (list_bytes o.starts) (to_le_bytes w64 (length (row_set_bytes o.set))) starts
     (subst (Serializes d f result) (same ∙ ap (to_le_bytes w64) e) rest))
 
-pub row_offsets-long : (front rest : ℕ) (o : RowOffsets) → front ≡ length (row_set_bytes o.set) → rest ≡ length (list_bytes o.starts) → front + rest + 8 ≡ length (row_offsets_bytes o)
+-- the rows, the offsets and eight bytes are as long as the bytes of both
+pub row_offsets-long : (front rest : ℕ) (o : RowOffsets) → front ≡ length (row_set_bytes o.set)
+    → rest ≡ length (list_bytes o.starts) → front + rest + 8 ≡ length (row_offsets_bytes o)
 unfolding row_offsets_bytes
 row_offsets-long front rest o f r =
-    let behind : length (list_bytes o.starts ++ to_le_bytes w64 (length (row_set_bytes o.set))) ≡ length (list_bytes o.starts) + 8 = length-append (list_bytes o.starts) (to_le_bytes w64 (length (row_set_bytes o.set))) in
+    let behind : length (list_bytes o.starts ++ to_le_bytes w64 (length (row_set_bytes o.set))) ≡ length
+    (list_bytes o.starts) + 8 = length-append (list_bytes o.starts)
+    (to_le_bytes w64 (length (row_set_bytes o.set))) in
     omega (arith, length-append (row_set_bytes o.set) (list_bytes o.starts ++ to_le_bytes w64 (length (row_set_bytes o.set))))
 
 -- 64 bits say how long they are
-pub row_offsets-fits : (front rest : ℕ) (o : RowOffsets) → AreOffsetsOf32 o → nat_le (2 ^ 32 - 1) (length o.set.rows) ≡ false → front ≡ length (row_set_bytes o.set) → rest ≡ length (list_bytes o.starts) → front + rest < 2 ^ 37
+pub row_offsets-fits : (front rest : ℕ) (o : RowOffsets) → AreOffsetsOf32 o
+    → nat_le (2 ^ 32 - 1) (length o.set.rows) ≡ false → front ≡ length (row_set_bytes o.set)
+    → rest ≡ length (list_bytes o.starts) → front + rest < 2 ^ 37
 row_offsets-fits front rest o a limit f r =
     let set : AreRowsOf32 o.set = record { rows = a.offsets.rows; fits = a.fits } in
     omega (arith, row_set_bytes-few o.set set, list_bytes-most o.starts, starts-few o a limit)
@@ -88,14 +117,26 @@ index_code full_index = refl
 index_code (optional_index s) = refl
 index_code (multivalued_index o) = refl
 
-pub index-written : (a b d : SeenSink) (end : Unit {0}) (result : Result (Unit {0}) ColumnarError) (code : ℕ) (i : Index) → code ≡ cardinality_code (cardinality_written i) → Serializes a b (Ok end) (code ∷ []) → Serializes b d result (body_bytes i) → Serializes a d result (index_bytes i)
+-- an index is written as the code of its cardinality and what stands behind it
+pub index-written :
+    (a b d : SeenSink) (end : Unit {0}) (result : Result (Unit {0}) ColumnarError) (code : ℕ) (i : Index)
+    → code ≡ cardinality_code (cardinality_written i) → Serializes a b (Ok end) (code ∷ [])
+    → Serializes b d result (body_bytes i) → Serializes a d result (index_bytes i)
 index-written a b d end result code i e front rest =
-    subst (Serializes a d result) (ap (λ c. c ∷ body_bytes i) e ∙ sym (index_code i)) (serializes-then a b d end result (code ∷ []) (body_bytes i) front rest)
+    subst (Serializes a d result) (ap (λ c. c ∷ body_bytes i) e ∙ sym (index_code i))
+    (serializes-then a b d end result (code ∷ []) (body_bytes i) front rest)
 
+-- an index is one byte longer than what stands behind its code
 pub index-long : (rest : ℕ) (i : Index) → rest ≡ length (body_bytes i) → 1 + rest ≡ length (index_bytes i)
 index-long rest i e = omega (arith, ap length (index_code i))
 
+-- the bytes of an index within the limit are fewer than 2 ^ 64
 pub index-fits : (rest : ℕ) (i : Index) → IsIndex i → is_past_limit i ≡ false → rest ≡ length (body_bytes i) → 1 + rest < 2 ^ 64
 index-fits rest full_index a limit e = omega arith
 index-fits rest (optional_index s) a limit e = omega (arith, row_set_bytes-few s a)
-index-fits rest (multivalued_index o) a limit e = omega (arith, row_offsets-fits (length (row_set_bytes o.set)) (length (list_bytes o.starts)) o a limit refl refl, row_offsets-long (length (row_set_bytes o.set)) (length (list_bytes o.starts)) o refl refl)
+index-fits rest (multivalued_index o) a limit e =
+    omega (
+      arith,
+      row_offsets-fits (length (row_set_bytes o.set)) (length (list_bytes o.starts)) o a limit refl refl,
+      row_offsets-long (length (row_set_bytes o.set)) (length (list_bytes o.starts)) o refl refl,
+    )

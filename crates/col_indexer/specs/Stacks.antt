@@ -16,8 +16,8 @@ pub record Segments : Type 0 where
   pub counts : List ℕ
 
 -- indexes of an order's segments
-abbrev pub segments_of : List ColumnIndex → List ℕ → Segments
-segments_of indexes counts = record { shapes = map shape_of indexes; counts = counts }
+abbrev pub index_segments : List ColumnIndex → List ℕ → Segments
+index_segments indexes counts = record { shapes = map shape_of indexes; counts = counts }
 
 -- the counts of all rows
 abbrev pub stacked_counts : Segments → List ℕ

@@ -2,6 +2,7 @@
 ghost use Rattle.std.specs.Prelude.{◌≡◌, ◌-◌, ◌^◌, nat_le, false, length, Some, IfOk};
 ghost use Rattle.col_common.specs.Serializing.{Serializes};
 ghost use Rattle.col_model.specs.Index.{row_offsets, shape};
+ghost use Rattle.col_model.specs.Version.{current_version};
 ghost use Rattle.col_numbers.specs.Written.{done};
 ghost use Rattle.col_indexer.specs.Spelling.{offsets_by_rows, row_offsets_bytes, body_bytes};
 ghost use Rattle.col_indexer.specs.Spelling as spelled;
@@ -68,7 +69,7 @@ pub fn serialize_column_index<K: Sink>(
         (index_bytes (index_of column_index.entry)) }
     ensures length { IfOk result (λ n. n ≡ length (index_bytes (index_of column_index.entry))) }
     // What was written stands for the index.
-    ensures again { shape (index_bytes (index_of column_index.entry)) 2
+    ensures again { shape (index_bytes (index_of column_index.entry)) current_version
         ≡ Some (index_shape (index_of column_index.entry)) }
 {
     indexes_are_read_back();

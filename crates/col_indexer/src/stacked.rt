@@ -7,7 +7,7 @@ ghost use Rattle.col_numbers.specs.Readers.{list_of};
 ghost use Rattle.col_indexer.specs.Counted.{counts_in};
 ghost use Rattle.col_index.specs.Indexes.{shape_of};
 ghost use Rattle.col_common.specs.Walks.{IsNext};
-ghost use Rattle.col_indexer.specs.Stacks.{AreSegments, segments_of, stacked_counts};
+ghost use Rattle.col_indexer.specs.Stacks.{AreSegments, index_segments, stacked_counts};
 ghost use Rattle.col_indexer.specs.Stacks.{StandsAtRow, stacked_rows_to_give, StandsAtOffset, stacked_offsets_to_give};
 
 use crate::stacked_lists::{collected_rows, collected_starts};
@@ -28,13 +28,13 @@ pub struct StackedRowIds<'a> {
 }
 
 impl<'a> Model for StackedRowIds<'a> {
-    ghost use Rattle.col_indexer.specs.Stacks.{Segments, AreSegments, segments_of};
+    ghost use Rattle.col_indexer.specs.Stacks.{Segments, AreSegments, index_segments};
 
     ghost Value = { Segments };
 
-    ghost view = { λ s. segments_of s.column_indexes.now s.order.now };
+    ghost view = { λ s. index_segments s.column_indexes.now s.order.now };
 
-    ghost invariant = { λ s. AreSegments (segments_of s.column_indexes.now s.order.now) };
+    ghost invariant = { λ s. AreSegments (index_segments s.column_indexes.now s.order.now) };
 }
 
 /// The start offsets of indexes one behind another. Contracts see the same.
@@ -45,20 +45,20 @@ pub struct StackedStartOffsets<'a> {
 }
 
 impl<'a> Model for StackedStartOffsets<'a> {
-    ghost use Rattle.col_indexer.specs.Stacks.{Segments, AreSegments, segments_of};
+    ghost use Rattle.col_indexer.specs.Stacks.{Segments, AreSegments, index_segments};
 
     ghost Value = { Segments };
 
-    ghost view = { λ s. segments_of s.column_indexes.now s.order.now };
+    ghost view = { λ s. index_segments s.column_indexes.now s.order.now };
 
-    ghost invariant = { λ s. AreSegments (segments_of s.column_indexes.now s.order.now) };
+    ghost invariant = { λ s. AreSegments (index_segments s.column_indexes.now s.order.now) };
 }
 
 impl<'a> StackedRowIds<'a> {
     /// The rows of indexes of an order's segments.
     pub fn new(column_indexes: &'a [ColumnIndex], order: &'a StackMergeOrder) -> StackedRowIds<'a>
-        requires { AreSegments (segments_of column_indexes.now order.now) }
-        ensures { result ≡ segments_of column_indexes.now order.now }
+        requires { AreSegments (index_segments column_indexes.now order.now) }
+        ensures { result ≡ index_segments column_indexes.now order.now }
     {
         StackedRowIds {
             column_indexes,
@@ -80,8 +80,8 @@ impl<'a> StackedStartOffsets<'a> {
         column_indexes: &'a [ColumnIndex],
         order: &'a StackMergeOrder,
     ) -> StackedStartOffsets<'a>
-        requires { AreSegments (segments_of column_indexes.now order.now) }
-        ensures { result ≡ segments_of column_indexes.now order.now }
+        requires { AreSegments (index_segments column_indexes.now order.now) }
+        ensures { result ≡ index_segments column_indexes.now order.now }
     {
         StackedStartOffsets {
             column_indexes,
@@ -234,10 +234,10 @@ pub(crate) fn num_values(column_index: &ColumnIndex, num_rows: RowId) -> RowId
 // The next row, from a walk.
 #[inline(always)]
 fn next_row(column_indexes: &[ColumnIndex], order: &StackMergeOrder, at: &mut Walk) -> Option<RowId>
-    requires segments { AreSegments (segments_of column_indexes.now order.now) }
-    requires stands { StandsAtRow (segments_of column_indexes.now order.now) at.old }
-    ensures stands { StandsAtRow (segments_of column_indexes.now order.now) at.new }
-    ensures value { let left = stacked_rows_to_give (segments_of column_indexes.now order.now) in
+    requires segments { AreSegments (index_segments column_indexes.now order.now) }
+    requires stands { StandsAtRow (index_segments column_indexes.now order.now) at.old }
+    ensures stands { StandsAtRow (index_segments column_indexes.now order.now) at.new }
+    ensures value { let left = stacked_rows_to_give (index_segments column_indexes.now order.now) in
         IsNext (left at.old) result (left at.new) }
 {
     let num_segments = order.num_segments() as u64;
@@ -266,10 +266,10 @@ fn next_start(
     order: &StackMergeOrder,
     at: &mut Walk,
 ) -> Option<RowId>
-    requires segments { AreSegments (segments_of column_indexes.now order.now) }
-    requires stands { StandsAtOffset (segments_of column_indexes.now order.now) at.old }
-    ensures stands { StandsAtOffset (segments_of column_indexes.now order.now) at.new }
-    ensures value { let left = stacked_offsets_to_give (segments_of column_indexes.now order.now) in
+    requires segments { AreSegments (index_segments column_indexes.now order.now) }
+    requires stands { StandsAtOffset (index_segments column_indexes.now order.now) at.old }
+    ensures stands { StandsAtOffset (index_segments column_indexes.now order.now) at.new }
+    ensures value { let left = stacked_offsets_to_give (index_segments column_indexes.now order.now) in
         IsNext (left at.old) result (left at.new) }
 {
     if at.place == 0 {

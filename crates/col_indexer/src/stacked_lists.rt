@@ -3,7 +3,7 @@ ghost use Rattle.std.specs.Prelude.{◌≡◌, ◌<◌, ◌^◌, ◌+◌, ◌++�
 ghost use Rattle.col_model.specs.Positions.{rows_with_value, starts_of};
 ghost use Rattle.col_index.specs.Indexes.{shape_of};
 ghost use Rattle.col_indexer.specs.Counted.{counts_in, rows_behind, ends_behind};
-ghost use Rattle.col_indexer.specs.Stacks.{AreSegments, segments_of, stacked_counts};
+ghost use Rattle.col_indexer.specs.Stacks.{AreSegments, index_segments, stacked_counts};
 
 use crate::stacked::{num_values, row_at, start_at};
 use col_common::RowId;
@@ -37,9 +37,9 @@ pub(crate) fn collected_rows(
     column_indexes: &[ColumnIndex],
     order: &StackMergeOrder,
 ) -> Result<Vec<RowId>, AllocError>
-    requires segments { AreSegments (segments_of column_indexes.now order.now) }
+    requires segments { AreSegments (index_segments column_indexes.now order.now) }
     ensures { IfOk result (λ v. v.items
-        ≡ rows_with_value (stacked_counts (segments_of column_indexes.now order.now))) }
+        ≡ rows_with_value (stacked_counts (index_segments column_indexes.now order.now))) }
 {
     let capacity = max_rows(column_indexes, order.num_rows());
     let mut rows = Vec::with_capacity(alloc, capacity as usize)?;
@@ -78,9 +78,9 @@ pub(crate) fn collected_starts(
     column_indexes: &[ColumnIndex],
     order: &StackMergeOrder,
 ) -> Result<Vec<RowId>, AllocError>
-    requires segments { AreSegments (segments_of column_indexes.now order.now) }
+    requires segments { AreSegments (index_segments column_indexes.now order.now) }
     ensures { IfOk result (λ v. v.items
-        ≡ starts_of (stacked_counts (segments_of column_indexes.now order.now))) }
+        ≡ starts_of (stacked_counts (index_segments column_indexes.now order.now))) }
 {
     let capacity = max_rows(column_indexes, order.num_rows()).saturating_add(1);
     let mut starts = Vec::with_capacity(alloc, capacity as usize)?;

@@ -25,20 +25,30 @@ not_true : (b : Bool) → (b ≡ true → ⊥) → b ≡ false
 not_true true h = absurd (h refl)
 not_true false h = refl
 
+-- a text without a zero byte is a name
 pub name_of-text : (bytes : List ℕ) → has_no_zero bytes ≡ true → IsUtf8 bytes → only_if (is_name bytes) bytes ≡ Some bytes
 name_of-text bytes z u = ap (λ b. only_if b bytes) (and_from _ _ (is_utf8-from_IsUtf8 bytes u) z)
 
+-- bytes that aren't UTF-8 are no name
 pub name_of-no_text : (bytes : List ℕ) → (IsUtf8 bytes → ⊥) → only_if (is_name bytes) bytes ≡ None
-name_of-no_text bytes n = ap (λ b. only_if b bytes) (and_left (is_utf8 bytes) (has_no_zero bytes) (not_true (is_utf8 bytes) (λ e. n (IsUtf8-from_is_utf8 bytes e))))
+name_of-no_text bytes n =
+    ap (λ b. only_if b bytes)
+    (and_left (is_utf8 bytes) (has_no_zero bytes) (not_true (is_utf8 bytes) (λ e. n (IsUtf8-from_is_utf8 bytes e))))
 
 -- ---- order
 
 -- keys with names compare by name, then by code
-pub is_before-keys : (a b : Key) → is_name a.name ≡ true → is_name b.name ≡ true → is_before (key_bytes a) (key_bytes b) ≡ is_lt (ordering_then (slice_cmp nat_cmp a.name b.name) (nat_cmp (type_code a.column_type) (type_code b.column_type)))
-is_before-keys a b p q = ap is_lt (slice_cmp-keys a.name b.name (type_code a.column_type) (type_code b.column_type) (and_parts _ _ p).1 (and_parts _ _ q).1)
+pub is_before-keys : (a b : Key) → is_name a.name ≡ true → is_name b.name ≡ true
+    → is_before (key_bytes a) (key_bytes b)
+    ≡ is_lt
+    (ordering_then (slice_cmp nat_cmp a.name b.name) (nat_cmp (type_code a.column_type) (type_code b.column_type)))
+is_before-keys a b p q =
+    ap is_lt (slice_cmp-keys a.name b.name (type_code a.column_type) (type_code b.column_type) (and_parts _ _ p).1
+    (and_parts _ _ q).1)
 
 -- one item is left, or none
-pub ascending-done : {A : Type 0} (f : A → List ℕ) (xs : List A) (i : ℕ) (total : Bool) → length xs ≤ suc i → is_ascending (map f (drop i xs)) ≡ total → total ≡ true
+pub ascending-done : {A : Type 0} (f : A → List ℕ) (xs : List A) (i : ℕ) (total : Bool) → length xs ≤ suc i
+    → is_ascending (map f (drop i xs)) ≡ total → total ≡ true
 ascending-done f [] zero total h so_far = sym so_far
 ascending-done f [] (suc i) total h so_far = sym so_far
 ascending-done f (x ∷ []) zero total h so_far = sym so_far
@@ -47,6 +57,7 @@ ascending-done f (x ∷ []) (suc (suc i)) total h so_far = sym so_far
 ascending-done f (x ∷ y ∷ xs) zero total h so_far = absurd (omega arith)
 ascending-done f (x ∷ y ∷ xs) (suc i) total h so_far = ascending-done f (y ∷ xs) i total (omega arith) so_far
 
+-- keys that were read have the bytes of the keys that they are seen as
 pub key_texts : (ks : List KeyedLength) → map (λ k. key_bytes (key_seen k.key)) ks ≡ map key_bytes (keys_seen ks)
 key_texts [] = refl
 key_texts (k ∷ ks) = ap (λ r. key_bytes (key_seen k.key) ∷ r) (key_texts ks)
@@ -64,11 +75,15 @@ is_of_number k = is_numerical (kind_of k.key.column_type)
 abbrev pub names_of : List KeyedLength → List (List ℕ)
 names_of ks = map (λ k. string_bytes k.key.name) (filter is_of_number ks)
 
-kept : (b : Bool) (k : KeyedLength) (ks : List KeyedLength) → names_of ks ≡ map (λ k. k.name) (filter (λ k. is_numerical k.column_type) (keys_seen ks))
-    → map (λ k. string_bytes k.key.name) (cond b (k ∷ filter is_of_number ks) (filter is_of_number ks)) ≡ map (λ k. k.name) (cond b (key_seen k.key ∷ filter (λ k. is_numerical k.column_type) (keys_seen ks)) (filter (λ k. is_numerical k.column_type) (keys_seen ks)))
+kept : (b : Bool) (k : KeyedLength) (ks : List KeyedLength)
+    → names_of ks ≡ map (λ k. k.name) (filter (λ k. is_numerical k.column_type) (keys_seen ks))
+    → map (λ k. string_bytes k.key.name) (cond b (k ∷ filter is_of_number ks) (filter is_of_number ks))
+    ≡ map (λ k. k.name) (cond b (key_seen k.key ∷ filter (λ k. is_numerical k.column_type) (keys_seen ks))
+    (filter (λ k. is_numerical k.column_type) (keys_seen ks)))
 kept true k ks e = ap (λ r. string_bytes k.key.name ∷ r) e
 kept false k ks e = e
 
+-- the names of the columns of numbers are those of the keys with a type of numbers
 pub numerical_names : (ks : List KeyedLength) → names_of ks ≡ map (λ k. k.name) (filter (λ k. is_numerical k.column_type) (keys_seen ks))
 numerical_names [] = refl
 numerical_names (k ∷ ks) = kept (is_of_number k) k ks (numerical_names ks)

@@ -13,28 +13,28 @@ use Rattle.col_model.specs.U64List.{joined_lists}
 use Rattle.col_model.specs.Version.{current_version}
 
 -- how many columns were put, and for each its key with the length of its bytes, as spelled
-pub record Columns : Type 0 where
+pub record PutColumns : Type 0 where
   pub count : ℕ
   pub table : List ℕ
 
 -- no column was put
-abbrev pub no_columns : Columns
+abbrev pub no_columns : PutColumns
 no_columns = record { count = 0; table = [] }
 
 -- the columns, and one more of so many bytes
-abbrev pub with_column : Columns → Key → ℕ → Columns
+abbrev pub with_column : PutColumns → Key → ℕ → PutColumns
 with_column columns key n =
     record { count = columns.count + 1; table = columns.table ++ keyed_length_bytes (key, n) }
 
 -- the key table and the footer of a file of these columns
-abbrev pub end_bytes : Columns → ℕ → List ℕ
+abbrev pub end_bytes : PutColumns → ℕ → List ℕ
 end_bytes columns row_count =
     let table = vint_bytes columns.count ++ columns.table in
     table ++ footer_bytes (length table) row_count
 
 -- A column was put: Ok added just its bytes to the sink, and its key and length to the columns. A
 -- refusal leaves the columns.
-pub record Puts (old new : Columns) (a b : SeenSink) (result : Result (Unit {0}) ColumnarError)
+pub record Puts (old new : PutColumns) (a b : SeenSink) (result : Result (Unit {0}) ColumnarError)
     (key : Key) (bytes : List ℕ) : Type 0 where
   pub written : Serializes a b result bytes
   pub listed : OnOk result (new ≡ with_column old key (length bytes))
@@ -42,7 +42,7 @@ pub record Puts (old new : Columns) (a b : SeenSink) (result : Result (Unit {0})
   pub kept : OnErr result (new ≡ old)
 
 -- These columns were put under these keys since the sink was as it was at the start.
-pub record HavePut (start now : SeenSink) (columns : Columns)
+pub record HavePut (start now : SeenSink) (columns : PutColumns)
     (ps : List (Key × List ℕ)) : Type 0 where
   pub written : Serializes start now (Ok tt) (joined_lists (map (λ p. p.1) ps))
   pub table : columns.table ≡ flat_map keyed_length_bytes (keyed_lengths ps)

@@ -1,5 +1,6 @@
 //! What stands at the end of a file: the keys of its columns, and its footer; and the serializer
-//! that writes both behind the columns. Contracts see the bytes as the definitions read them.
+//! that writes both behind the columns. Contracts see the bytes as the definitions read them. Beside
+//! them the slots that merges join: a name with a category of types.
 #![tactic(auto)]
 
 mod column_key;
@@ -10,6 +11,7 @@ mod format_version;
 mod key_table;
 mod laws;
 mod serializer;
+mod slot_key;
 
 pub use column_key::ColumnKey;
 pub use column_serializer::ColumnSerializer;
@@ -19,3 +21,4 @@ pub use format_version::{VERSION_FOOTER_NUM_BYTES, footer, parse_footer};
 pub use key_table::{KeyedLength, parse_key_table, take_all};
 pub use laws::{categories_compare_as_their_places, keys_compare_by_name_then_code};
 pub use serializer::ColumnarSerializer;
+pub use slot_key::SlotKey;

@@ -27,9 +27,9 @@ pub struct ColumnarSerializer {
 }
 
 impl Model for ColumnarSerializer {
-    ghost use Rattle.col_keys.specs.Put.{Columns};
+    ghost use Rattle.col_keys.specs.Put.{PutColumns};
 
-    ghost Value = { Columns };
+    ghost Value = { PutColumns };
 
     ghost view = { λ s. record { count = s.num_columns; table = s.table } };
 }

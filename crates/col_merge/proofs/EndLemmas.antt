@@ -25,7 +25,7 @@ use Rattle.col_keys.proofs.StandLemmas.{same-keys, stands-for}
 use Rattle.col_file.specs.Readers.{SeenReader, IsRead}
 use Rattle.col_merge.specs.Merges.{AddsSlots, AddsTable}
 use Rattle.col_merge.specs.Parts.{told_parts}
-use Rattle.col_slots.specs.Slots.{keys_read, counts_read, slots_by_keys}
+use Rattle.col_merge_plan.specs.Slots.{keys_read, counts_read, slots_by_keys}
 use Rattle.col_merge.specs.Turns.{RefusesMerge, ArePutAs}
 use Rattle.col_merge.proofs.JoinedLemmas.{joined-slot}
 use Rattle.col_merge.proofs.KeyLemmas.{bare, keys-of_slots}
@@ -37,7 +37,8 @@ use Rattle.col_merge.proofs.TurnLemmas.{goes-itself, merge-refused}
 
 -- ---- the keys
 
-below-bare : (s : Slot) (cs : List Column) → below_all slot_cmp s (entries (map bare (map key_of_column cs))) ≡ below_all slot_cmp s (entries cs)
+below-bare : (s : Slot) (cs : List Column)
+    → below_all slot_cmp s (entries (map bare (map key_of_column cs))) ≡ below_all slot_cmp s (entries cs)
 below-bare s [] = refl
 below-bare s (c ∷ cs) = ap (λ b. is_lt (slot_cmp s (column_slot c)) && b) (below-bare s cs)
 
@@ -50,7 +51,8 @@ map-itself [] = refl
 map-itself (s ∷ ss) = ap (λ r. s ∷ r) (map-itself ss)
 
 module _ (f : Slot → Result (Option Column) Refusal) (own : (s : Slot) (c : Column) → f s ≡ Ok (Some c) → column_slot c ≡ s) where
-  made-named : (ss : List Slot) (os : List (Option Column)) → AreNames ss → EachIs f ss os → AllByRecursion (λ k. is_name k.name ≡ true) (map key_of_column (filter_map (λ o. o) os))
+  made-named : (ss : List Slot) (os : List (Option Column)) → AreNames ss → EachIs f ss os
+      → AllByRecursion (λ k. is_name k.name ≡ true) (map key_of_column (filter_map (λ o. o) os))
   made-named [] [] names e = tt
   made-named [] (o ∷ os) names e = absurd e
   made-named (s ∷ ss) [] names e = absurd e
@@ -58,7 +60,9 @@ module _ (f : Slot → Result (Option Column) Refusal) (own : (s : Slot) (c : Co
   made-named (s ∷ ss) (Some c ∷ os) names e = (ap (λ s. is_name s.name) (own s c e.0) ∙ names.0, made-named ss os names.1 e.1)
 
   -- the keys of the columns that were put are keys of one file
-  pub are_keys-put : (n : ℕ) (ps : List (Key × List ℕ)) (ss : List Slot) (os : List (Option Column)) → AreNames ss → T (rises slot_cmp ss) → each_ok f ss ≡ Ok os → map (part_put n) ps ≡ map part_of_column (filter_map (λ o. o) os) → AreKeys (map (λ p. p.0) ps)
+  pub are_keys-put : (n : ℕ) (ps : List (Key × List ℕ)) (ss : List Slot) (os : List (Option Column)) → AreNames ss
+      → T (rises slot_cmp ss) → each_ok f ss ≡ Ok os
+      → map (part_put n) ps ≡ map part_of_column (filter_map (λ o. o) os) → AreKeys (map (λ p. p.0) ps)
   are_keys-put n ps ss os names sorted e same =
       let cs = filter_map (λ o. o) os in
       let each = each-is f ss os e in
@@ -72,7 +76,8 @@ module _ (f : Slot → Result (Option Column) Refusal) (own : (s : Slot) (c : Co
 -- ---- the whole
 
 -- what is so of each list of parts that is told
-pub told-each : {P : List Part → Type 0} (rs : List SeenReader) → ((parts : List Part) → told_parts rs ≡ Some parts → P parts) → IfSome (told_parts rs) P
+pub told-each : {P : List Part → Type 0} (rs : List SeenReader)
+    → ((parts : List Part) → told_parts rs ≡ Some parts → P parts) → IfSome (told_parts rs) P
 told-each {P = P} rs f = by (told_parts rs) refl
   where
     by : (o : Option (List Part)) → told_parts rs ≡ o → IfSome o P
@@ -89,7 +94,8 @@ pub record IsMergeOf (rs : List SeenReader) (required : List Required) (order : 
   pub names : AllByRecursion (λ r. is_name r.name ≡ true) required
   pub slots_are : slots ≡ slots_by_keys (keys_read rs) required
 
-module _ (rs : List SeenReader) (required : List Required) (order : Order) (n : ℕ) (slots : List Slot) (is : IsMergeOf rs required order n slots) where
+module _ (rs : List SeenReader) (required : List Required) (order : Order) (n : ℕ) (slots : List Slot)
+    (is : IsMergeOf rs required order n slots) where
   -- the joined column of a slot
   abbrev joined : List Part → Slot → Result (Option Column) Refusal
   joined parts slot = joined_column order (picks_of order) parts required slot
@@ -108,12 +114,16 @@ module _ (rs : List SeenReader) (required : List Required) (order : Order) (n : 
     parts-slots = is.slots_are ∙ slots-told rs parts required parts-are
 
     parts-refused : (refusal : Refusal) → each_ok (joined parts) slots ≡ Err refusal → merged parts required order ≡ Err refusal
-    parts-refused refusal e = merged-slots parts required order (picks_of order) parts-picked parts-few is.accepted refusal (ap (each_ok (joined parts)) (sym parts-slots) ∙ e)
+    parts-refused refusal e =
+        merged-slots parts required order (picks_of order) parts-picked parts-few is.accepted refusal
+        (ap (each_ok (joined parts)) (sym parts-slots) ∙ e)
 
-    parts-merged : (os : List (Option Column)) → each_ok (joined parts) slots ≡ Ok os → merged parts required order ≡ Ok (record { row_count = n; columns = filter_map (λ o. o) os })
+    parts-merged : (os : List (Option Column)) → each_ok (joined parts) slots ≡ Ok os
+        → merged parts required order ≡ Ok (record { row_count = n; columns = filter_map (λ o. o) os })
     parts-merged os e =
         let table : ℕ → Table = λ n. record { row_count = n; columns = filter_map (λ o. o) os } in
-        merged-table parts required order (picks_of order) parts-picked parts-few is.accepted os (ap (each_ok (joined parts)) (sym parts-slots) ∙ e) ∙ ap (λ n. Ok (table n)) (sym is.rows)
+        merged-table parts required order (picks_of order) parts-picked parts-few is.accepted os
+        (ap (each_ok (joined parts)) (sym parts-slots) ∙ e) ∙ ap (λ n. Ok (table n)) (sym is.rows)
 
     parts-named : AreNames slots
     parts-named = subst AreNames (sym is.slots_are) (slots-named rs parts required parts-are is.names)
@@ -122,30 +132,46 @@ module _ (rs : List SeenReader) (required : List Required) (order : Order) (n : 
     parts-rise = subst (λ ss. T (rises slot_cmp ss)) (sym is.slots_are) (slots-rise (keys_read rs) required)
 
     -- the file of the columns that were put
-    file-added : (start end : SeenSink) (ps : List (Key × List ℕ)) (r : Result (List (Option Column)) Refusal) → each_ok (joined parts) slots ≡ r → ArePutAs n ps r → Appends start end (file_bytes n ps) → (AreKeys (map (λ p. p.0) ps) → HasColumns (file_bytes n ps) n ps) → AddsTable start end (merged parts required order)
+    file-added : (start end : SeenSink) (ps : List (Key × List ℕ)) (r : Result (List (Option Column)) Refusal)
+        → each_ok (joined parts) slots ≡ r → ArePutAs n ps r → Appends start end (file_bytes n ps)
+        → (AreKeys (map (λ p. p.0) ps) → HasColumns (file_bytes n ps) n ps)
+        → AddsTable start end (merged parts required order)
     file-added start end ps (Ok os) e put added has = record {
       table = record { row_count = n; columns = filter_map (λ o. o) os };
       is = parts-merged os e;
       file = file_bytes n ps;
       added = added;
-      stands = stands-for (file_bytes n ps) n ps (filter_map (λ o. o) os) (has (are_keys-put (joined parts) (joined-slot order (picks_of order) parts required) n ps slots os parts-named parts-rise e put)) put;
+      stands =
+          stands-for (file_bytes n ps) n ps (filter_map (λ o. o) os) (has (are_keys-put (joined parts)
+          (joined-slot order (picks_of order) parts required) n ps slots os parts-named parts-rise e put)) put;
     }
     file-added start end ps (Err refusal) e put added has = absurd put
 
-  told-added : (o : Option (List Part)) → told_parts rs ≡ o → (start end : SeenSink) (ps : List (Key × List ℕ)) → IfSome o (λ parts. ArePutAs n ps (each_ok (joined parts) slots)) → Appends start end (file_bytes n ps) → (AreKeys (map (λ p. p.0) ps) → HasColumns (file_bytes n ps) n ps) → IfSome o (λ parts. AddsTable start end (merged parts required order))
+  told-added : (o : Option (List Part)) → told_parts rs ≡ o → (start end : SeenSink) (ps : List (Key × List ℕ))
+      → IfSome o (λ parts. ArePutAs n ps (each_ok (joined parts) slots)) → Appends start end (file_bytes n ps)
+      → (AreKeys (map (λ p. p.0) ps) → HasColumns (file_bytes n ps) n ps)
+      → IfSome o (λ parts. AddsTable start end (merged parts required order))
   told-added None t start end ps put added has = tt
   told-added (Some parts) t start end ps put added has = file-added parts t start end ps (each_ok (joined parts) slots) refl put added has
 
   -- A file of the slots' columns was added.
-  pub table-added : (start end : SeenSink) → AddsSlots rs start end n joined slots → IfSome (told_parts rs) (λ parts. AddsTable start end (merged parts required order))
+  pub table-added : (start end : SeenSink) → AddsSlots rs start end n joined slots
+      → IfSome (told_parts rs) (λ parts. AddsTable start end (merged parts required order))
   table-added start end h = told-added (told_parts rs) refl start end h.ps h.told h.added h.has
 
   -- the first slot that isn't merged
-  pub table-refused : (news : List SeenReader) (start end : SeenSink) (e : ColumnarError) → RefusesMerge rs news start end e (λ parts. each_ok (joined parts) slots) → RefusesMerge rs news start end e (λ parts. merged parts required order)
-  table-refused news start end e h = merge-refused (λ k. 0) rs rs news start start end (all_read-none (λ k. 0) rs) (goes-itself start) (λ parts. each_ok (joined parts) slots) (λ parts. merged parts required order) (λ refusal. told-each rs (λ parts t. parts-refused parts t refusal)) e h
+  pub table-refused : (news : List SeenReader) (start end : SeenSink) (e : ColumnarError)
+      → RefusesMerge rs news start end e (λ parts. each_ok (joined parts) slots)
+      → RefusesMerge rs news start end e (λ parts. merged parts required order)
+  table-refused news start end e h =
+      merge-refused (λ k. 0) rs rs news start start end (all_read-none (λ k. 0) rs) (goes-itself start)
+      (λ parts. each_ok (joined parts) slots) (λ parts. merged parts required order)
+      (λ refusal. told-each rs (λ parts t. parts-refused parts t refusal)) e h
 
 -- the end of a file wasn't written
-pub end-refused : {A : Type 0} (olds news : List SeenReader) (start end : SeenSink) (e : ColumnarError) (bytes : List ℕ) (expected : List Part → Result A Refusal) → Serializes start end (Err e) bytes → RefusesMerge olds news start end e expected
+pub end-refused : {A : Type 0} (olds news : List SeenReader) (start end : SeenSink) (e : ColumnarError)
+    (bytes : List ℕ) (expected : List Part → Result A Refusal) → Serializes start end (Err e) bytes
+    → RefusesMerge olds news start end e expected
 end-refused olds news start end e bytes expected h = by h.causes
   where
     by : (e ≡ OutOfMemory) ⊎ (e ≡ WriteFault) → RefusesMerge olds news start end e expected

@@ -23,6 +23,7 @@ bare-sound k e = record {
   row_count = refl;
   cardinality = refl;
   cells = refl;
+  bytes = refl;
   ascending = refl;
   among = refl;
   without = λ _. refl;
@@ -37,16 +38,24 @@ bytes-bare : (ks : List Key) → map (λ c. key_bytes (key_of_column c)) (map ba
 bytes-bare [] = refl
 bytes-bare (k ∷ ks) = ap (λ r. key_bytes k ∷ r) (bytes-bare ks)
 
-names-bare : (ks : List Key) → map (λ c. c.name) (filter (λ c. is_numerical c.column_type) (map bare ks)) ≡ map (λ k. k.name) (filter (λ k. is_numerical k.column_type) ks)
+names-bare : (ks : List Key)
+    → map (λ c. c.name) (filter (λ c. is_numerical c.column_type) (map bare ks))
+    ≡ map (λ k. k.name) (filter (λ k. is_numerical k.column_type) ks)
 names-bare [] = refl
 names-bare (k ∷ ks) = by (is_numerical k.column_type) (names-bare ks)
   where
-    by : (b : Bool) → map (λ c. c.name) (filter (λ c. is_numerical c.column_type) (map bare ks)) ≡ map (λ k. k.name) (filter (λ k. is_numerical k.column_type) ks) → map (λ c. c.name) (cond b (bare k ∷ filter (λ c. is_numerical c.column_type) (map bare ks)) (filter (λ c. is_numerical c.column_type) (map bare ks))) ≡ map (λ k. k.name) (cond b (k ∷ filter (λ k. is_numerical k.column_type) ks) (filter (λ k. is_numerical k.column_type) ks))
+    by : (b : Bool) → map (λ c. c.name) (filter (λ c. is_numerical c.column_type) (map bare ks))
+        ≡ map (λ k. k.name) (filter (λ k. is_numerical k.column_type) ks)
+        → map (λ c. c.name) (cond b (bare k ∷ filter (λ c. is_numerical c.column_type) (map bare ks))
+        (filter (λ c. is_numerical c.column_type) (map bare ks)))
+        ≡ map (λ k. k.name)
+        (cond b (k ∷ filter (λ k. is_numerical k.column_type) ks) (filter (λ k. is_numerical k.column_type) ks))
     by true e = ap (λ r. k.name ∷ r) e
     by false e = e
 
 -- names in the order of their slots
-pub keys-of_slots : (ks : List Key) → AllByRecursion (λ k. is_name k.name ≡ true) ks → T (is_sorted slot_cmp (entries (map bare ks))) → are_keys ks ≡ true
+pub keys-of_slots : (ks : List Key) → AllByRecursion (λ k. is_name k.name ≡ true) ks
+    → T (is_sorted slot_cmp (entries (map bare ks))) → are_keys ks ≡ true
 keys-of_slots ks all s =
     let sound = sound-table 0 (map bare ks) (omega arith) s (all-sound ks all) in
     and_from _ _ (ap is_ascending (sym (bytes-bare ks)) ∙ sound.ascending) (ap is_ascending (sym (names-bare ks)) ∙ sound.one_numerical)

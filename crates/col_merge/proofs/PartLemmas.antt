@@ -16,7 +16,7 @@ use Rattle.col_model.proofs.DecodedNumbers.{step-of}
 use Rattle.col_model.proofs.SharedTypes.{some≢none, same-some}
 use Rattle.col_file.specs.Readers.{SeenReader, IsRead}
 use Rattle.col_merge.specs.Parts.{told_part, told_parts}
-use Rattle.col_slots.specs.Slots.{entry_slot, file_slots, keys_read, counts_read, slots_by_keys}
+use Rattle.col_merge_plan.specs.Slots.{entry_slot, file_slots, keys_read, counts_read, slots_by_keys}
 use Rattle.col_merge.proofs.NameLemmas.{AreNamed, keys-named}
 
 -- a part is what a reader's bytes give
@@ -26,10 +26,12 @@ pub record IsPartOf (r : SeenReader) (p : Part) : Type 0 where
   pub read : keys bytes ≡ Some r.keys
   pub is : p ≡ record { row_count = r.keys.row_count; columns = map (part_column bytes r.keys) r.keys.entries }
 
+-- the parts are those of the readers, one by one
 abbrev pub ArePartsOf : List SeenReader → List Part → Type 0
 ArePartsOf rs parts = AllZip IsPartOf rs parts
 
-part-read : (bytes : List ℕ) (k : FileKeys) (p : Part) → keys bytes ≡ Some k → parts_of bytes ≡ Some p → p ≡ record { row_count = k.row_count; columns = map (part_column bytes k) k.entries }
+part-read : (bytes : List ℕ) (k : FileKeys) (p : Part) → keys bytes ≡ Some k → parts_of bytes ≡ Some p
+    → p ≡ record { row_count = k.row_count; columns = map (part_column bytes k) k.entries }
 unfolding parts_of
 part-read bytes k p e h =
     let made : FileKeys → Part = λ k. record { row_count = k.row_count; columns = map (part_column bytes k) k.entries } in
@@ -42,6 +44,7 @@ part-told r p read e = by r.file.told refl read.told e
     by None t k e = absurd (some≢none p (sym e))
     by (Some bytes) t k e = record { bytes = bytes; told = t; read = k; is = part-read bytes r.keys p k e }
 
+-- parts that readers tell are what their bytes give
 pub parts-told : (rs : List SeenReader) (parts : List Part) → AllByRecursion IsRead rs → told_parts rs ≡ Some parts → ArePartsOf rs parts
 parts-told [] [] all e = tt
 parts-told [] (p ∷ parts) all e = absurd (nil≢cons p parts (same-some [] (p ∷ parts) e))
@@ -55,6 +58,7 @@ parts-told (r ∷ rs) parts all e =
 
 -- ---- row counts and slots
 
+-- the parts have the row counts that the readers have
 pub counts-told : (rs : List SeenReader) (parts : List Part) → ArePartsOf rs parts → row_counts parts ≡ counts_read rs
 counts-told [] [] all = refl
 counts-told [] (p ∷ parts) all = absurd all
@@ -68,18 +72,21 @@ entry-slots bytes k (e ∷ es) = ap (λ ss. entry_slot e ∷ ss) (entry-slots by
 part-slots : (r : SeenReader) (p : Part) → IsPartOf r p → map part_slot p.columns ≡ file_slots r.keys
 part-slots r p h = ap (λ (p : Part). map part_slot p.columns) h.is ∙ entry-slots h.bytes r.keys r.keys.entries
 
-joined-slots : (rs : List SeenReader) (parts : List Part) → ArePartsOf rs parts → joined_lists (map (λ p. map part_slot p.columns) parts) ≡ joined_lists (map file_slots (keys_read rs))
+joined-slots : (rs : List SeenReader) (parts : List Part) → ArePartsOf rs parts
+    → joined_lists (map (λ p. map part_slot p.columns) parts) ≡ joined_lists (map file_slots (keys_read rs))
 joined-slots [] [] all = refl
 joined-slots [] (p ∷ parts) all = absurd all
 joined-slots (r ∷ rs) [] all = absurd all
 joined-slots (r ∷ rs) (p ∷ parts) all = ap₂ (λ xs ys. xs ++ ys) (part-slots r p all.0) (joined-slots rs parts all.1)
 
 -- the slots by what the readers say are those of the parts
-pub slots-told : (rs : List SeenReader) (parts : List Part) (required : List Required) → ArePartsOf rs parts → slots_by_keys (keys_read rs) required ≡ all_slots parts required
+pub slots-told : (rs : List SeenReader) (parts : List Part) (required : List Required) → ArePartsOf rs parts
+    → slots_by_keys (keys_read rs) required ≡ all_slots parts required
 slots-told rs parts required all = ap (λ ss. distinct_items slot_cmp (map required_slot required ++ ss)) (sym (joined-slots rs parts all))
 
 -- ---- names
 
+-- each slot's name can be a name
 abbrev pub AreNames : List Slot → Type 0
 AreNames ss = AllByRecursion (λ (s : Slot). is_name s.name ≡ true) ss
 
@@ -95,7 +102,9 @@ files-named : (rs : List SeenReader) (parts : List Part) → ArePartsOf rs parts
 files-named [] [] all = tt
 files-named [] (p ∷ parts) all = absurd all
 files-named (r ∷ rs) [] all = absurd all
-files-named (r ∷ rs) (p ∷ parts) all = names-joined (file_slots r.keys) (joined_lists (map file_slots (keys_read rs))) (entry-names r.keys.entries (keys-named all.0.bytes r.keys all.0.read)) (files-named rs parts all.1)
+files-named (r ∷ rs) (p ∷ parts) all =
+    names-joined (file_slots r.keys) (joined_lists (map file_slots (keys_read rs)))
+    (entry-names r.keys.entries (keys-named all.0.bytes r.keys all.0.read)) (files-named rs parts all.1)
 
 required-named : (required : List Required) → AllByRecursion (λ r. is_name r.name ≡ true) required → AreNames (map required_slot required)
 required-named [] all = tt
@@ -105,7 +114,8 @@ one-named : (x : Slot) (zs : List Slot) → is_name x.name ≡ true → AreNames
 one-named x [] h all = (h, tt)
 one-named x (z ∷ zs) h all = go (slot_cmp x z) (one-named x zs h all.1)
   where
-    go : (o : Ordering) → AreNames (with_item slot_cmp x zs) → AreNames (match_ordering o (x ∷ z ∷ zs) (z ∷ zs) (z ∷ with_item slot_cmp x zs))
+    go : (o : Ordering) → AreNames (with_item slot_cmp x zs)
+        → AreNames (match_ordering o (x ∷ z ∷ zs) (z ∷ zs) (z ∷ with_item slot_cmp x zs))
     go Less rest = (h, all)
     go Equal rest = all
     go Greater rest = (all.0, rest)
@@ -116,22 +126,32 @@ distinct-named [] all = tt
 distinct-named (x ∷ xs) all = one-named x (distinct_items slot_cmp xs) all.0 (distinct-named xs all.1)
 
 -- each slot has a name
-pub slots-named : (rs : List SeenReader) (parts : List Part) (required : List Required) → ArePartsOf rs parts → AllByRecursion (λ r. is_name r.name ≡ true) required → AreNames (slots_by_keys (keys_read rs) required)
-slots-named rs parts required all names = distinct-named (map required_slot required ++ joined_lists (map file_slots (keys_read rs))) (names-joined (map required_slot required) (joined_lists (map file_slots (keys_read rs))) (required-named required names) (files-named rs parts all))
+pub slots-named : (rs : List SeenReader) (parts : List Part) (required : List Required) → ArePartsOf rs parts
+    → AllByRecursion (λ r. is_name r.name ≡ true) required → AreNames (slots_by_keys (keys_read rs) required)
+slots-named rs parts required all names =
+    distinct-named (map required_slot required ++ joined_lists (map file_slots (keys_read rs))) (names-joined
+    (map required_slot required) (joined_lists (map file_slots (keys_read rs))) (required-named required names)
+    (files-named rs parts all))
 
 -- ---- one part
 
 -- a part passes a test, so some part does
-pub some-part : (rs : List SeenReader) (parts : List Part) (test : Part → Bool) (at : ℕ) (r : SeenReader) → told_parts rs ≡ Some parts → slice_get rs at ≡ Some r → IfSome (told_part r) (λ p. test p ≡ true) → list_any test parts ≡ true
+pub some-part : (rs : List SeenReader) (parts : List Part) (test : Part → Bool) (at : ℕ) (r : SeenReader)
+    → told_parts rs ≡ Some parts → slice_get rs at ≡ Some r → IfSome (told_part r) (λ p. test p ≡ true)
+    → list_any test parts ≡ true
 some-part [] parts test at r e h t = absurd (some≢none r (sym h))
 some-part (x ∷ rs) parts test at r e h t =
     let a = step-of (told_part x) (λ y. told_parts rs >>= λ ys. Some (y ∷ ys)) parts e in
     let b = step-of (told_parts rs) (λ ys. Some (a.x ∷ ys)) parts a.rest in
-    subst (λ parts. list_any test parts ≡ true) (same-some (a.x ∷ b.x) parts b.rest) (by at a.x b.x a.first b.first h (λ at e h. some-part rs b.x test at r e h t))
+    subst (λ parts. list_any test parts ≡ true) (same-some (a.x ∷ b.x) parts b.rest)
+    (by at a.x b.x a.first b.first h (λ at e h. some-part rs b.x test at r e h t))
   where
     here : (p : Part) (ps : List Part) → told_part r ≡ Some p → list_any test (p ∷ ps) ≡ true
     here p ps f = ap (λ b. b || list_any test ps) (subst (λ o. IfSome o (λ p. test p ≡ true)) f t)
 
-    by : (at : ℕ) (p : Part) (ps : List Part) → told_part x ≡ Some p → told_parts rs ≡ Some ps → slice_get (x ∷ rs) at ≡ Some r → ((at : ℕ) → told_parts rs ≡ Some ps → slice_get rs at ≡ Some r → list_any test ps ≡ true) → list_any test (p ∷ ps) ≡ true
+    by : (at : ℕ) (p : Part) (ps : List Part) → told_part x ≡ Some p → told_parts rs ≡ Some ps
+        → slice_get (x ∷ rs) at ≡ Some r
+        → ((at : ℕ) → told_parts rs ≡ Some ps → slice_get rs at ≡ Some r → list_any test ps ≡ true)
+        → list_any test (p ∷ ps) ≡ true
     by zero p ps f g h later = here p ps (ap told_part (sym (same-some x r h)) ∙ f)
     by (suc at) p ps f g h later = ap (λ b. test p || b) (later at g h) ∙ or_right (test p) true refl

@@ -9,33 +9,63 @@ use Rattle.col_file.specs.Readers.{SeenReader, Reads}
 use Rattle.col_model.specs.File.{parts_of}
 use Rattle.col_merge.specs.Parts.{told_part, told_parts}
 use Rattle.col_merge.specs.Readings.{Stays, AllRead, SomeReaderRose}
-use Rattle.col_slots.specs.Slots.{counts_read}
+use Rattle.col_merge_plan.specs.Slots.{counts_read}
 
 pub stays-itself : (times : ℕ) (r : SeenReader) → Stays times r r
 stays-itself times r = record { told = refl; size = refl; later = omega arith; reads = omega arith; keys = refl; mark = refl }
 
 pub stays-then : (m n : ℕ) (a b c : SeenReader) → Stays m a b → Stays n b c → Stays (m + n) a c
-stays-then m n a b c h k = record { told = k.told ∙ h.told; size = k.size ∙ h.size; later = omega (arith, h.later, k.later); reads = omega (arith, h.reads, k.reads); keys = k.keys ∙ h.keys; mark = k.mark ∙ h.mark }
+stays-then m n a b c h k =
+    record {
+      told = k.told ∙ h.told;
+      size = k.size ∙ h.size;
+      later = omega (arith, h.later, k.later);
+      reads = omega (arith, h.reads, k.reads);
+      keys = k.keys ∙ h.keys;
+      mark = k.mark ∙ h.mark;
+    }
 
 pub stays-most : (m n : ℕ) (a b : SeenReader) → m ≤ n → Stays m a b → Stays n a b
-stays-most m n a b le h = record { told = h.told; size = h.size; later = h.later; reads = omega (arith, h.reads, le); keys = h.keys; mark = h.mark }
+stays-most m n a b le h =
+    record {
+      told = h.told;
+      size = h.size;
+      later = h.later;
+      reads = omega (arith, h.reads, le);
+      keys = h.keys;
+      mark = h.mark;
+    }
 
 -- a reader that was read
 pub stays-read : (times : ℕ) (a b : SeenReader) → Reads times a b → Stays times a b
-stays-read times a b h = record { told = h.file.told; size = h.file.size; later = h.file.later; reads = h.file.reads; keys = h.keys; mark = h.file.mark }
+stays-read times a b h =
+    record {
+      told = h.file.told;
+      size = h.file.size;
+      later = h.file.later;
+      reads = h.file.reads;
+      keys = h.keys;
+      mark = h.file.mark;
+    }
 
+-- readers that stay as they are were read no more than so often
 pub all_read-none : (times : FileKeys → ℕ) (rs : List SeenReader) → AllRead times rs rs
 all_read-none times [] = tt
 all_read-none times (r ∷ rs) = (stays-itself (times r.keys) r, all_read-none times rs)
 
+-- readings after others are at most as many as both together
 pub all_read-then : (m n : FileKeys → ℕ) (rs ss us : List SeenReader) → AllRead m rs ss → AllRead n ss us → AllRead (λ k. m k + n k) rs us
 all_read-then m n [] [] [] h k = tt
 all_read-then m n [] [] (u ∷ us) h k = absurd k
 all_read-then m n [] (s ∷ ss) us h k = absurd h
 all_read-then m n (r ∷ rs) [] us h k = absurd h
 all_read-then m n (r ∷ rs) (s ∷ ss) [] h k = absurd k
-all_read-then m n (r ∷ rs) (s ∷ ss) (u ∷ us) h k = (stays-then (m r.keys) (n r.keys) r s u h.0 (subst (λ keys. Stays (n keys) s u) h.0.keys k.0), all_read-then m n rs ss us h.1 k.1)
+all_read-then m n (r ∷ rs) (s ∷ ss) (u ∷ us) h k = (
+  stays-then (m r.keys) (n r.keys) r s u h.0 (subst (λ keys. Stays (n keys) s u) h.0.keys k.0),
+  all_read-then m n rs ss us h.1 k.1,
+)
 
+-- readings of at most a count are of at most a greater one
 pub all_read-most : (m n : FileKeys → ℕ) (rs ss : List SeenReader) → ((k : FileKeys) → m k ≤ n k) → AllRead m rs ss → AllRead n rs ss
 all_read-most m n [] [] le h = tt
 all_read-most m n [] (s ∷ ss) le h = absurd h
@@ -48,12 +78,15 @@ part-stays : (times : ℕ) (r s : SeenReader) → Stays times r s → told_part 
 part-stays times r s h = ap (λ o. o >>= parts_of) h.told
 
 module _ (times : FileKeys → ℕ) where
+  -- readers tell the same parts after they were read
   pub parts-stay : (rs ss : List SeenReader) → AllRead times rs ss → told_parts ss ≡ told_parts rs
   parts-stay [] [] h = refl
   parts-stay [] (s ∷ ss) h = absurd h
   parts-stay (r ∷ rs) [] h = absurd h
-  parts-stay (r ∷ rs) (s ∷ ss) h = ap₂ (λ o p. o >>= λ y. p >>= λ ys. Some (y ∷ ys)) (part-stays (times r.keys) r s h.0) (parts-stay rs ss h.1)
+  parts-stay (r ∷ rs) (s ∷ ss) h =
+      ap₂ (λ o p. o >>= λ y. p >>= λ ys. Some (y ∷ ys)) (part-stays (times r.keys) r s h.0) (parts-stay rs ss h.1)
 
+  -- readers have the same row counts after they were read
   pub counts-stay : (rs ss : List SeenReader) → AllRead times rs ss → counts_read ss ≡ counts_read rs
   counts-stay [] [] h = refl
   counts-stay [] (s ∷ ss) h = absurd h
@@ -72,16 +105,31 @@ record WasAt (rs : List SeenReader) (at : ℕ) (now : SeenReader) : Type 0 where
   was : slice_get rs at ≡ Some old
   later : old.file.faults ≤ now.file.faults
 
-was-at : (times : FileKeys → ℕ) (rs ss : List SeenReader) (at : ℕ) (s : SeenReader) → AllRead times rs ss → slice_get ss at ≡ Some s → WasAt rs at s
+was-at : (times : FileKeys → ℕ) (rs ss : List SeenReader) (at : ℕ) (s : SeenReader) → AllRead times rs ss
+    → slice_get ss at ≡ Some s → WasAt rs at s
 was-at times rs [] at s h e = absurd (some≢none s (sym e))
 was-at times [] (x ∷ ss) at s h e = absurd h
-was-at times (r ∷ rs) (x ∷ ss) zero s h e = record { old = r; was = refl; later = subst (λ (x : SeenReader). r.file.faults ≤ x.file.faults) (same-some x s e) h.0.later }
-was-at times (r ∷ rs) (x ∷ ss) (suc at) s h e = let w = was-at times rs ss at s h.1 e in record { old = w.old; was = w.was; later = w.later }
+was-at times (r ∷ rs) (x ∷ ss) zero s h e =
+    record {
+      old = r;
+      was = refl;
+      later = subst (λ (x : SeenReader). r.file.faults ≤ x.file.faults) (same-some x s e) h.0.later;
+    }
+was-at times (r ∷ rs) (x ∷ ss) (suc at) s h e =
+    let w = was-at times rs ss at s h.1 e in record { old = w.old; was = w.was; later = w.later }
 
+-- a fault that came after some readings came since before them
 pub rose-before : (times : FileKeys → ℕ) (rs ss us : List SeenReader) → AllRead times rs ss → SomeReaderRose ss us → SomeReaderRose rs us
 rose-before times rs ss us h k =
     let w = was-at times rs ss k.at k.old h k.was in
-    record { at = k.at; old = w.old; new = k.new; was = w.was; is = k.is; rose = rose-later w.old.file.faults k.old.file.faults k.new.file.faults w.later k.rose }
+    record {
+      at = k.at;
+      old = w.old;
+      new = k.new;
+      was = w.was;
+      is = k.is;
+      rose = rose-later w.old.file.faults k.old.file.faults k.new.file.faults w.later k.rose;
+    }
 
 -- ---- one reader in its place
 
@@ -99,8 +147,11 @@ left-at rs ss at s h e = sym (from-drop rs at) ∙ ap (λ xs. slice_get xs 0) (s
     from-drop (x ∷ xs) zero = refl
     from-drop (x ∷ xs) (suc at) = from-drop xs at
 
+-- to set the reader at a place leaves those behind it as they were
 pub left-set : (rs ss : List SeenReader) (at : ℕ) (s : SeenReader) → AreLeft at rs ss → AreLeft (at + 1) rs (set ss at s)
-left-set rs ss at s h = subst (λ n. AreLeft n rs (set ss at s)) (sym (add-one at)) (behind ss at s ∙ next ss at ∙ ap (drop 1) h ∙ sym (next rs at))
+left-set rs ss at s h =
+    subst (λ n. AreLeft n rs (set ss at s)) (sym (add-one at))
+    (behind ss at s ∙ next ss at ∙ ap (drop 1) h ∙ sym (next rs at))
   where
     behind : (xs : List SeenReader) (at : ℕ) (s : SeenReader) → drop (suc at) (set xs at s) ≡ drop (suc at) xs
     behind [] zero s = refl
@@ -120,11 +171,14 @@ get-set (x ∷ rs) zero r s e = refl
 get-set (x ∷ rs) (suc at) r s e = get-set rs at r s e
 
 -- a reader that wasn't read before was read
-pub all_read-set : (times : FileKeys → ℕ) (rs ss : List SeenReader) (at : ℕ) (r s : SeenReader) → AllRead times rs ss → slice_get rs at ≡ Some r → Stays (times r.keys) r s → AllRead times rs (set ss at s)
+pub all_read-set : (times : FileKeys → ℕ) (rs ss : List SeenReader) (at : ℕ) (r s : SeenReader)
+    → AllRead times rs ss → slice_get rs at ≡ Some r → Stays (times r.keys) r s → AllRead times rs (set ss at s)
 all_read-set times [] ss at r s h e k = absurd (some≢none r (sym e))
 all_read-set times (x ∷ rs) [] at r s h e k = absurd h
 all_read-set times (x ∷ rs) (y ∷ ss) zero r s h e k = (subst (λ (x : SeenReader). Stays (times x.keys) x s) (sym (same-some x r e)) k, h.1)
 all_read-set times (x ∷ rs) (y ∷ ss) (suc at) r s h e k = (h.0, all_read-set times rs ss at r s h.1 e k)
 
-pub rose-set : (rs ss : List SeenReader) (at : ℕ) (r s : SeenReader) → slice_get rs at ≡ Some r → slice_get ss at ≡ Some r → Rose r.file.faults s.file.faults → SomeReaderRose rs (set ss at s)
+-- a reader whose count of faults rose, set in its place, is one of all whose count rose
+pub rose-set : (rs ss : List SeenReader) (at : ℕ) (r s : SeenReader) → slice_get rs at ≡ Some r
+    → slice_get ss at ≡ Some r → Rose r.file.faults s.file.faults → SomeReaderRose rs (set ss at s)
 rose-set rs ss at r s e f k = record { at = at; old = r; new = s; was = e; is = get-set ss at r s f; rose = k }

@@ -14,7 +14,7 @@ use Rattle.col_model.proofs.OrderingLaws.{less_of}
 use Rattle.col_model.proofs.SlotLaws.{slots_total}
 use Rattle.col_file.specs.Readers.{SeenReader}
 use Rattle.col_merge.specs.Readings.{AllRead, AllStay, slot_reads, slots_reads}
-use Rattle.col_slots.specs.Slots.{entry_slot, slots_by_keys}
+use Rattle.col_merge_plan.specs.Slots.{entry_slot, slots_by_keys}
 use Rattle.col_merge.proofs.ReadingLemmas.{all_read-then, all_read-most}
 
 abbrev one_if : Bool → ℕ
@@ -53,7 +53,9 @@ once x (s ∷ ss) h = by (same_slot x s) refl (once x ss (right _ _ h))
     by : (b : Bool) → same_slot x s ≡ b → sum_by (λ s. one_if (same_slot x s)) ss ≤ 1 → sum_by (λ s. one_if (same_slot x s)) (s ∷ ss) ≤ 1
     by true e later =
         let here : one_if (same_slot x s) ≡ 1 = ap one_if e in
-        let rest : sum_by (λ t. one_if (same_slot x t)) ss ≡ 0 = subst (λ y. sum_by (λ t. one_if (same_slot y t)) ss ≡ 0) (sym (same-slots x s e)) (none-behind s ss (left _ _ h)) in
+        let rest : sum_by (λ t. one_if (same_slot x t)) ss ≡ 0 =
+        subst (λ y. sum_by (λ t. one_if (same_slot y t)) ss ≡ 0) (sym (same-slots x s e))
+        (none-behind s ss (left _ _ h)) in
         omega (arith, here, rest, sum_by-cons (λ s. one_if (same_slot x s)) s ss)
     by false e later =
         let here : one_if (same_slot x s) ≡ 0 = ap one_if e in
@@ -65,12 +67,15 @@ either true false = omega arith
 either false true = omega arith
 either false false = omega arith
 
-reads-few : (ss : List Slot) → T (rises slot_cmp ss) → (es : List Entry) → sum_by (λ s. one_if (list_any (λ e. same_slot (entry_slot e) s) es)) ss ≤ length es
+reads-few : (ss : List Slot) → T (rises slot_cmp ss) → (es : List Entry)
+    → sum_by (λ s. one_if (list_any (λ e. same_slot (entry_slot e) s) es)) ss ≤ length es
 reads-few ss h [] =
     let none = sum-none (λ s. 0) ss (λ s. refl) in
     omega (arith, none)
 reads-few ss h (e ∷ es) =
-    let more = sum-both (λ s. one_if (list_any (λ e. same_slot (entry_slot e) s) (e ∷ es))) (λ s. one_if (same_slot (entry_slot e) s)) (λ s. one_if (list_any (λ e. same_slot (entry_slot e) s) es)) ss (λ s. either (same_slot (entry_slot e) s) (list_any (λ e. same_slot (entry_slot e) s) es)) in
+    let more = sum-both (λ s. one_if (list_any (λ e. same_slot (entry_slot e) s) (e ∷ es)))
+    (λ s. one_if (same_slot (entry_slot e) s)) (λ s. one_if (list_any (λ e. same_slot (entry_slot e) s) es)) ss
+    (λ s. either (same_slot (entry_slot e) s) (list_any (λ e. same_slot (entry_slot e) s) es)) in
     let first = once (entry_slot e) ss h in
     let rest = reads-few ss h es in
     omega (arith, more, first, rest)
@@ -80,7 +85,8 @@ pub slots-rise : (ks : List FileKeys) (required : List Required) → T (rises sl
 slots-rise ks required = rises-distinct slot_cmp slots_total _
 
 -- All slots were merged: no file was read more often than it has columns.
-pub all-stay : (ks : List FileKeys) (required : List Required) (slots : List Slot) (rs ss : List SeenReader) → slots ≡ slots_by_keys ks required → AllRead (slots_reads slots) rs ss → AllStay rs ss
+pub all-stay : (ks : List FileKeys) (required : List Required) (slots : List Slot) (rs ss : List SeenReader)
+    → slots ≡ slots_by_keys ks required → AllRead (slots_reads slots) rs ss → AllStay rs ss
 all-stay ks required slots rs ss are read =
     let rise = subst (λ slots. T (rises slot_cmp slots)) (sym are) (slots-rise ks required) in
     all_read-most (slots_reads slots) (λ k. length k.entries) rs ss (λ k. reads-few slots rise k.entries) read
@@ -92,13 +98,23 @@ module _ (slots : List Slot) (i : ℕ) (slot : Slot) (within : i < length slots)
   turn-reads k = ap (λ s. slots_reads (take i slots) k + slot_reads s k) is ∙ sym (sum_by_more (λ s. slot_reads s k) slots i slot within)
 
   -- one more slot was merged
-  pub read-more : (rs ss us : List SeenReader) → AllRead (slots_reads (take i slots)) rs ss → AllRead (slot_reads slot) ss us → AllRead (slots_reads (take (i + 1) slots)) rs us
-  read-more rs ss us h k = all_read-most (λ k. slots_reads (take i slots) k + slot_reads slot k) (slots_reads (take (i + 1) slots)) rs us (λ k. let same = turn-reads k in omega (arith, same)) (all_read-then (slots_reads (take i slots)) (slot_reads slot) rs ss us h k)
+  pub read-more : (rs ss us : List SeenReader) → AllRead (slots_reads (take i slots)) rs ss
+      → AllRead (slot_reads slot) ss us → AllRead (slots_reads (take (i + 1) slots)) rs us
+  read-more rs ss us h k =
+      all_read-most (λ k. slots_reads (take i slots) k + slot_reads slot k) (slots_reads (take (i + 1) slots)) rs us
+      (λ k. let same = turn-reads k in omega (arith, same))
+      (all_read-then (slots_reads (take i slots)) (slot_reads slot) rs ss us h k)
 
   -- the slots behind it weren't
-  pub read-stops : (rs ss us : List SeenReader) → AllRead (slots_reads (take i slots)) rs ss → AllRead (slot_reads slot) ss us → AllRead (slots_reads slots) rs us
-  read-stops rs ss us h k = all_read-most (slots_reads (take (i + 1) slots)) (slots_reads slots) rs us (λ k. sum_by-take-le (λ s. slot_reads s k) slots (i + 1)) (read-more rs ss us h k)
+  pub read-stops : (rs ss us : List SeenReader) → AllRead (slots_reads (take i slots)) rs ss
+      → AllRead (slot_reads slot) ss us → AllRead (slots_reads slots) rs us
+  read-stops rs ss us h k =
+      all_read-most (slots_reads (take (i + 1) slots)) (slots_reads slots) rs us
+      (λ k. sum_by-take-le (λ s. slot_reads s k) slots (i + 1)) (read-more rs ss us h k)
 
 -- all slots were merged
-pub read-all : (slots : List Slot) (i : ℕ) (rs ss : List SeenReader) → AllRead (slots_reads (take i slots)) rs ss → AllRead (slots_reads slots) rs ss
-read-all slots i rs ss h = all_read-most (slots_reads (take i slots)) (slots_reads slots) rs ss (λ k. sum_by-take-le (λ s. slot_reads s k) slots i) h
+pub read-all : (slots : List Slot) (i : ℕ) (rs ss : List SeenReader) → AllRead (slots_reads (take i slots)) rs ss
+    → AllRead (slots_reads slots) rs ss
+read-all slots i rs ss h =
+    all_read-most (slots_reads (take i slots)) (slots_reads slots) rs ss
+    (λ k. sum_by-take-le (λ s. slot_reads s k) slots i) h

@@ -13,7 +13,7 @@ use Rattle.col_types.specs.Kinds.{kind_of}
 use Rattle.col_types.specs.declared.column_type.ColumnType.{ColumnType}
 use Rattle.col_order.specs.Orders.{picks_of}
 use Rattle.col_file.specs.Readers.{SeenReader}
-use Rattle.col_slot.specs.JoinedSlots.{IsJoined}
+use Rattle.col_merge_slot.specs.JoinedSlots.{IsJoined}
 use Rattle.col_merge.specs.Parts.{told_parts}
 use Rattle.col_merge.specs.Turns.{refusal_of, RefusesMerge}
 

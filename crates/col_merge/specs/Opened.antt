@@ -12,7 +12,7 @@ use Rattle.col_dynamic.specs.Dynamic.{dynamic_shape, value_count}
 use Rattle.col_dynamic.specs.declared.dynamic_column.DynamicColumn.{DynamicColumn}
 use Rattle.col_file.specs.Handles.{Handle}
 use Rattle.col_file.specs.Readers.{SeenReader}
-use Rattle.col_slot.specs.JoinedSlots.{part_seen}
+use Rattle.col_merge_slot.specs.JoinedSlots.{part_seen}
 use Rattle.col_merge.specs.Parts.{told_part, told_parts}
 use Rattle.col_merge.specs.Readings.{SomeReaderRose}
 

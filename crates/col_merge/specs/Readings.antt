@@ -5,7 +5,7 @@ use Rattle.col_common.specs.Causes.{Rose}
 use Rattle.col_model.specs.Category.{Slot, same_slot}
 use Rattle.col_model.specs.Keys.{FileKeys}
 use Rattle.col_file.specs.Readers.{SeenReader}
-use Rattle.col_slots.specs.Slots.{entry_slot}
+use Rattle.col_merge_plan.specs.Slots.{entry_slot}
 
 -- a reader's file was read at most so often, and stays as it was but for its counts
 pub record Stays (times : ℕ) (old new : SeenReader) : Type 0 where

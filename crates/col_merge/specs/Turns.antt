@@ -8,7 +8,7 @@ use Rattle.col_model.specs.File.{Part, part_of_column}
 use Rattle.col_model.specs.Keys.{Key}
 use Rattle.col_model.specs.Refusal.{Refusal, each_ok, invalid_data, bad_order, bad_name, required_conflict, cannot_coerce, numerical_conflict, too_large}
 use Rattle.col_model.specs.Table.{Column}
-use Rattle.col_keys.specs.Put.{Columns, Puts, HavePut, part_put}
+use Rattle.col_keys.specs.Put.{PutColumns, Puts, HavePut, part_put}
 use Rattle.col_file.specs.Readers.{SeenReader}
 use Rattle.col_merge.specs.Parts.{told_parts}
 use Rattle.col_merge.specs.Readings.{SomeReaderRose}
@@ -41,12 +41,12 @@ RefusesMerge olds news a b WriteFault expected = Faulted a b
 RefusesMerge olds news a b e expected = RefusesParts olds e expected
 
 -- what a sink held stays in front, and its count of faults never falls
-pub record GoesOn (a b : SeenSink) : Type 0 where
+pub record IsLaterSink (a b : SeenSink) : Type 0 where
   pub grown : Grows a b
   pub later : a.faults ≤ b.faults
 
 -- one column was put, or none
-abbrev pub PutsOne : Columns → Columns → SeenSink → SeenSink → Option (Key × List ℕ) → Type 0
+abbrev pub PutsOne : PutColumns → PutColumns → SeenSink → SeenSink → Option (Key × List ℕ) → Type 0
 PutsOne old new a b None = (new ≡ old) × (b ≡ a)
 PutsOne old new a b (Some p) = Puts old new a b (Ok tt) p.0 p.1
 
@@ -57,14 +57,14 @@ IsPutAs n (Some p) expected =
     (c : Column) × (expected ≡ Ok (Some c)) × (part_put n p ≡ part_of_column c)
 
 -- one slot was merged
-pub record MergedOne (rs : List SeenReader) (old new : Columns) (a b : SeenSink) (n : ℕ)
+pub record MergedOne (rs : List SeenReader) (old new : PutColumns) (a b : SeenSink) (n : ℕ)
     (expected : List Part → Result (Option Column) Refusal) : Type 0 where
   pub one : Option (Key × List ℕ)
   pub put : PutsOne old new a b one
   pub told : IfSome (told_parts rs) (λ parts. IsPutAs n one (expected parts))
 
 -- one slot was merged, or refused
-abbrev pub MergesOne : List SeenReader → List SeenReader → Columns → Columns → SeenSink →
+abbrev pub MergesOne : List SeenReader → List SeenReader → PutColumns → PutColumns → SeenSink →
     SeenSink → Result (Unit {0}) ColumnarError → ℕ →
     (List Part → Result (Option Column) Refusal) → Type 0
 MergesOne olds news old new a b (Ok done) n expected = MergedOne olds old new a b n expected
@@ -76,7 +76,7 @@ ArePutAs n ps (Ok cs) = map (part_put n) ps ≡ map part_of_column (filter_map (
 ArePutAs n ps (Err refusal) = ⊥
 
 -- These slots were merged since the start.
-pub record MergedSoFar (rs : List SeenReader) (start now : SeenSink) (columns : Columns) (n : ℕ)
+pub record MergedSoFar (rs : List SeenReader) (start now : SeenSink) (columns : PutColumns) (n : ℕ)
     (expected : List Part → Slot → Result (Option Column) Refusal) (slots : List Slot)
     : Type 0 where
   pub ps : List (Key × List ℕ)
@@ -84,7 +84,7 @@ pub record MergedSoFar (rs : List SeenReader) (start now : SeenSink) (columns : 
   pub told : IfSome (told_parts rs) (λ parts. ArePutAs n ps (each_ok (expected parts) slots))
 
 -- slots were merged, or the first one that wasn't says why
-abbrev pub MergesSlots : List SeenReader → List SeenReader → Columns → SeenSink → SeenSink →
+abbrev pub MergesSlots : List SeenReader → List SeenReader → PutColumns → SeenSink → SeenSink →
     Result (Unit {0}) ColumnarError → ℕ →
     (List Part → Slot → Result (Option Column) Refusal) → List Slot → Type 0
 MergesSlots olds news columns a b (Ok done) n expected slots =

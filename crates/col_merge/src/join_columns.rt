@@ -7,18 +7,18 @@ ghost use Rattle.col_order.specs.Orders.{counts_of, picks_of};
 ghost use Rattle.col_order.specs.RowOrders.{order_of};
 ghost use Rattle.col_types.specs.Kinds.{kind_of};
 ghost use Rattle.col_merge.specs.Joined.{HasJoinCause, JoinsBytes, JoinsColumns, joined_by};
-ghost use Rattle.col_slot.specs.JoinedSlots.{AreOpened};
-ghost use Rattle.col_slot.specs.Segments.{HaveRows};
+ghost use Rattle.col_merge_slot.specs.JoinedSlots.{AreOpened};
+ghost use Rattle.col_merge_slot.specs.Segments.{HaveRows};
 ghost use Rattle.col_merge.specs.Readings.{AllRead, slot_reads};
-ghost use Rattle.col_slots.specs.Slots.{counts_read};
+ghost use Rattle.col_merge_plan.specs.Slots.{counts_read};
 
 use crate::open_columns::open_columns;
 use col_common::{Buffer, ColumnarError, FileHandle};
 use col_dynamic::DynamicColumn;
 use col_file::{ColumnarReader, files_are_read};
+use col_keys::SlotKey;
+use col_merge_slot::join_slot;
 use col_order::MergeRowOrder;
-use col_slot::join_slot;
-use col_slots::SlotKey;
 use col_types::ColumnType;
 use std::alloc::Global;
 

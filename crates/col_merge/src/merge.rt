@@ -7,16 +7,16 @@ ghost use Rattle.col_order.specs.RowOrders.{order_of};
 ghost use Rattle.col_merge.specs.Joined.{joined_by};
 ghost use Rattle.col_merge.specs.Merges.{MergesFiles, WritesSlots};
 ghost use Rattle.col_merge.specs.Readings.{AllRead, AllStay, slots_reads};
-ghost use Rattle.col_slots.specs.RequiredTypes.{known_type};
-ghost use Rattle.col_slots.specs.Slots.{counts_read, required_of};
-ghost use Rattle.col_merge.specs.Turns.{GoesOn};
+ghost use Rattle.col_merge_plan.specs.RequiredTypes.{known_type};
+ghost use Rattle.col_merge_plan.specs.Slots.{counts_read, required_of};
+ghost use Rattle.col_merge.specs.Turns.{IsLaterSink};
 
 use crate::turn::merge_slots;
 use col_common::{ColumnarError, FileHandle, RowId, Sink};
 use col_file::{ColumnarReader, files_are_read};
-use col_keys::ColumnarSerializer;
+use col_keys::{ColumnarSerializer, SlotKey};
+use col_merge_plan::{is_order_of, required_types, slots_of};
 use col_order::{MergeRowOrder, orders_are_picks};
-use col_slots::{SlotKey, is_order_of, required_types, slots_of};
 use col_types::ColumnType;
 use std::alloc::Global;
 use std::collections::BTreeMap;
@@ -36,7 +36,7 @@ pub fn merge_columnar<F: FileHandle, K: Sink>(
         (K.seen output.old) (K.seen output.new) result
         (λ parts. merged parts (required_of required_columns.now) (order_of merge_row_order)) }
     ensures kept { AllStay columnar_readers.old columnar_readers.new }
-    ensures sink { GoesOn (K.seen output.old) (K.seen output.new) }
+    ensures sink { IsLaterSink (K.seen output.old) (K.seen output.new) }
 {
     files_are_read(columnar_readers);
     orders_are_picks(&merge_row_order);
@@ -77,7 +77,7 @@ fn write_slots<F: FileHandle, K: Sink>(
         (length (picks_of (order_of merge_row_order.now)))
         (joined_by (order_of merge_row_order.now) required) slots.now }
     ensures kept { AllRead (slots_reads slots.now) columnar_readers.old columnar_readers.new }
-    ensures sink { GoesOn (K.seen output.old) (K.seen output.new) }
+    ensures sink { IsLaterSink (K.seen output.old) (K.seen output.new) }
 {
     let mut columns = ColumnarSerializer::new(alloc);
     merge_slots(

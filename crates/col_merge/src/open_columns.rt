@@ -3,14 +3,14 @@ ghost use Rattle.std.specs.Prelude.{◌≡◌, find, option_map, IfOk, IfErr};
 ghost use Rattle.col_common.specs.declared.error.ColumnarError.TheVariants as refusals;
 ghost use Rattle.col_model.specs.Category.{same_slot};
 ghost use Rattle.col_file.specs.Handles.{handle_of};
-ghost use Rattle.col_slots.specs.Slots.{entry_slot};
+ghost use Rattle.col_merge_plan.specs.Slots.{entry_slot};
 ghost use Rattle.col_merge.specs.Opened.{IsOpenedAs, AllOpenedAs, RefusesColumn, RefusesColumns};
 ghost use Rattle.col_merge.specs.Readings.{Stays, AllRead, slot_reads};
 
 use col_common::{ColumnarError, FileHandle};
 use col_dynamic::DynamicColumn;
 use col_file::{ColumnarReader, DynamicColumnHandle};
-use col_slots::SlotKey;
+use col_keys::SlotKey;
 use std::alloc::Global;
 
 // Opens the column that each reader has under a slot, where it has one: its file is read once. It
@@ -42,7 +42,7 @@ fn open_in<F: FileHandle>(
     ensures err { IfErr result (RefusesColumn slot.now reader.old reader.new) }
     ensures kept { Stays (slot_reads slot.now reader.old.keys) reader.old reader.new }
 {
-    reader.tell();
+    reader.file_is_whole();
     match find_handle(alloc, reader, slot)? {
         Some(handle) => Ok(Some(handle.open(alloc, reader)?)),
         None => Ok(None),

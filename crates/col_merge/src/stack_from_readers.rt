@@ -2,7 +2,7 @@
 ghost use Rattle.std.specs.Prelude.{◌≡◌, ◌↔◌, ◌⊎◌, ◌^◌, ◌≤◌, ℕ, List, sum, nat_lt, Err, IfOk, IfErr};
 ghost use Rattle.col_common.specs.declared.error.ColumnarError.TheVariants as refusals;
 ghost use Rattle.col_common.specs.Reading.{only_if};
-ghost use Rattle.col_slots.specs.Slots.{counts_read};
+ghost use Rattle.col_merge_plan.specs.Slots.{counts_read};
 
 use col_common::{ColumnarError, FileHandle, RowId};
 use col_file::ColumnarReader;

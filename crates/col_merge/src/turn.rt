@@ -9,16 +9,15 @@ ghost use Rattle.col_keys.specs.KeyTables.{key_at};
 ghost use Rattle.col_keys.specs.Put.{Puts, no_columns};
 ghost use Rattle.col_merge.specs.Joined.{joined_by};
 ghost use Rattle.col_merge.specs.Readings.{AllRead, slot_reads, slots_reads};
-ghost use Rattle.col_slots.specs.RequiredTypes.{known_type};
-ghost use Rattle.col_slots.specs.Slots.{counts_read};
-ghost use Rattle.col_merge.specs.Turns.{GoesOn, MergesOne, MergesSlots};
+ghost use Rattle.col_merge_plan.specs.RequiredTypes.{known_type};
+ghost use Rattle.col_merge_plan.specs.Slots.{counts_read};
+ghost use Rattle.col_merge.specs.Turns.{IsLaterSink, MergesOne, MergesSlots};
 
 use crate::join_columns::join_columns;
 use col_common::{Buffer, ColumnarError, FileHandle, Sink};
 use col_file::ColumnarReader;
-use col_keys::ColumnarSerializer;
+use col_keys::{ColumnarSerializer, SlotKey};
 use col_order::MergeRowOrder;
-use col_slots::SlotKey;
 use col_types::ColumnType;
 use std::alloc::Global;
 use std::collections::BTreeMap;
@@ -43,7 +42,7 @@ pub(crate) fn merge_slots<F: FileHandle, K: Sink>(
         (length (picks_of (order_of merge_row_order.now)))
         (joined_by (order_of merge_row_order.now) required) slots.now }
     ensures kept { AllRead (slots_reads slots.now) columnar_readers.old columnar_readers.new }
-    ensures sink { GoesOn (K.seen output.old) (K.seen output.new) }
+    ensures sink { IsLaterSink (K.seen output.old) (K.seen output.new) }
 {
     for slot in slots {
         let wanted = types.get(slot).copied();
@@ -78,7 +77,7 @@ fn merge_slot<F: FileHandle, K: Sink>(
         (length (picks_of (order_of merge_row_order.now)))
         (λ parts. joined_by (order_of merge_row_order.now) required parts slot.now) }
     ensures kept { AllRead (slot_reads slot.now) columnar_readers.old columnar_readers.new }
-    ensures sink { GoesOn (K.seen output.old) (K.seen output.new) }
+    ensures sink { IsLaterSink (K.seen output.old) (K.seen output.new) }
 {
     match join_columns(alloc, columnar_readers, slot, wanted, merge_row_order)? {
         Some((column_type, bytes)) => put_column(slot.name(), column_type, bytes, columns, output),

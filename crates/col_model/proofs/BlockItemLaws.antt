@@ -27,38 +27,63 @@ ceil_fits m = omega arith
 abbrev with_front : List ℕ → List (List ℕ) × List ℕ → Option (List (List ℕ) × List ℕ)
 with_front xs rest = Some (xs ∷ rest.0, rest.1)
 
-front-behind : (xs : List ℕ) (o : Option (List (List ℕ) × List ℕ)) → (o >>= with_front xs >>= nothing_left) ≡ ((o >>= nothing_left) >>= λ xss. Some (xs ∷ xss))
+front-behind : (xs : List ℕ) (o : Option (List (List ℕ) × List ℕ))
+    → (o >>= with_front xs >>= nothing_left) ≡ ((o >>= nothing_left) >>= λ xss. Some (xs ∷ xss))
 front-behind xs None = refl
 front-behind xs (Some rest) = sym (only_if-then (λ xss. xs ∷ xss) (length rest.1 == 0) rest.0)
 
 -- a packed block, and what is behind it
-behind-test : (b c : Bool) (os : List ℕ) (above : List ℕ → List ℕ) (o : Option (List (List ℕ) × List ℕ)) (xss : List (List ℕ)) → (o >>= nothing_left) ≡ only_if c xss → ((only_if b os >>= λ offsets. o >>= with_front (above offsets)) >>= nothing_left) ≡ only_if (b && c) (above os ∷ xss)
-behind-test true c os above o xss e = front-behind (above os) o ∙ ap (λ r. r >>= λ yss. Some (above os ∷ yss)) e ∙ only_if-then (λ yss. above os ∷ yss) c xss
+behind-test :
+    (b c : Bool) (os : List ℕ) (above : List ℕ → List ℕ) (o : Option (List (List ℕ) × List ℕ)) (xss : List (List ℕ))
+    → (o >>= nothing_left) ≡ only_if c xss
+    → ((only_if b os >>= λ offsets. o >>= with_front (above offsets)) >>= nothing_left)
+    ≡ only_if (b && c) (above os ∷ xss)
+behind-test true c os above o xss e =
+    front-behind (above os) o ∙ ap (λ r. r >>= λ yss. Some (above os ∷ yss)) e
+    ∙ only_if-then (λ yss. above os ∷ yss) c xss
 behind-test false c os above o xss e = refl
 
 -- the blocks, where they are packed and nothing else
-pub blocks-lists : (n : ℕ) (ls : List LinearParams) (bytes : List ℕ) → (blocks n ls bytes >>= nothing_left) ≡ only_if (are_blocks n ls bytes) (block_lists n ls bytes)
+pub blocks-lists : (n : ℕ) (ls : List LinearParams) (bytes : List ℕ)
+    → (blocks n ls bytes >>= nothing_left) ≡ only_if (are_blocks n ls bytes) (block_lists n ls bytes)
 unfolding blocks are_blocks block_lists
 blocks-lists n [] bytes = refl
 blocks-lists n (l ∷ ls) bytes =
     let len = block_bytes n l in
     elim (cases_lt (length bytes) len) [
       | inl p ↦ rw (lt-leb len (length bytes) p) refl
-      | inr p ↦ rw (le-leb len (length bytes) p, packed-front bytes l.offset_width (block_len n) len (ceil_fits (block_len n * l.offset_width)) p)
-          (behind-test (is_packed (take len bytes) (block_len n * l.offset_width)) (are_blocks (n - 512) ls (drop len bytes)) (map (item bytes l.offset_width) (range_with_len 0 (block_len n))) (λ os. map (above_line l) (enumerate_from 0 os)) (blocks (n - 512) ls (drop len bytes)) (block_lists (n - 512) ls (drop len bytes)) (blocks-lists (n - 512) ls (drop len bytes))
-          ∙ ap (λ xs. only_if (is_packed (take len bytes) (block_len n * l.offset_width) && are_blocks (n - 512) ls (drop len bytes)) (xs ∷ block_lists (n - 512) ls (drop len bytes))) (above_line-items l bytes (block_len n)))
+      | inr p ↦ rw (
+        le-leb len (length bytes) p,
+        packed-front bytes l.offset_width (block_len n) len
+            (ceil_fits (block_len n * l.offset_width)) p,
+      )
+          (behind-test (is_packed (take len bytes) (block_len n * l.offset_width))
+          (are_blocks (n - 512) ls (drop len bytes)) (map (item bytes l.offset_width)
+          (range_with_len 0 (block_len n))) (λ os. map (above_line l) (enumerate_from 0 os)) (blocks (n - 512) ls
+          (drop len bytes)) (block_lists (n - 512) ls (drop len bytes)) (blocks-lists (n - 512) ls
+          (drop len bytes))
+          ∙ ap (λ xs. only_if (is_packed (take len bytes) (block_len n * l.offset_width) && are_blocks (n - 512) ls
+          (drop len bytes)) (xs ∷ block_lists (n - 512) ls (drop len bytes))) (above_line-items l bytes (block_len
+          n)))
     ]
 
 -- ---- the items one after another
 
-pub length-joined-block_lists : (n : ℕ) (ls : List LinearParams) (bytes : List ℕ) → n ≤ 512 * length ls → length (joined_lists (block_lists n ls bytes)) ≡ n
+pub length-joined-block_lists : (n : ℕ) (ls : List LinearParams) (bytes : List ℕ) → n ≤ 512 * length ls
+    → length (joined_lists (block_lists n ls bytes)) ≡ n
 unfolding block_lists
 length-joined-block_lists n [] bytes h = omega arith
 length-joined-block_lists n (l ∷ ls) bytes h =
-    rw (length-append (linear_items l bytes (block_len n)) (joined_lists (block_lists (n - 512) ls (drop (block_bytes n l) bytes))), length-linear_items l bytes (block_len n), length-joined-block_lists (n - 512) ls (drop (block_bytes n l) bytes) (omega arith)) (omega arith)
+    rw (
+      length-append (linear_items l bytes (block_len n))
+          (joined_lists (block_lists (n - 512) ls (drop (block_bytes n l) bytes))),
+      length-linear_items l bytes (block_len n),
+      length-joined-block_lists (n - 512) ls (drop (block_bytes n l) bytes) (omega arith),
+    ) (omega arith)
 
 -- an item of the first block
-first-block : (n : ℕ) (l : LinearParams) (ls : List LinearParams) (bytes : List ℕ) (i : ℕ) → i < 512 → linear_item l bytes i ≡ block_item n (l ∷ ls) bytes i
+first-block : (n : ℕ) (l : LinearParams) (ls : List LinearParams) (bytes : List ℕ) (i : ℕ) → i < 512
+    → linear_item l bytes i ≡ block_item n (l ∷ ls) bytes i
 unfolding block_start
 first-block n l ls bytes i h =
     let k : i / 512 ≡ 0 = omega arith in
@@ -66,7 +91,8 @@ first-block n l ls bytes i h =
     rw (k, j) refl
 
 -- an item of a later block is that of the blocks behind the first
-later-block : (n : ℕ) (l : LinearParams) (ls : List LinearParams) (bytes : List ℕ) (i : ℕ) → 512 ≤ i → block_item (n - 512) ls (drop (block_bytes n l) bytes) (i - 512) ≡ block_item n (l ∷ ls) bytes i
+later-block : (n : ℕ) (l : LinearParams) (ls : List LinearParams) (bytes : List ℕ) (i : ℕ) → 512 ≤ i
+    → block_item (n - 512) ls (drop (block_bytes n l) bytes) (i - 512) ≡ block_item n (l ∷ ls) bytes i
 unfolding block_start
 later-block n l ls bytes i h =
     let k : i / 512 ≡ suc ((i - 512) / 512) = omega arith in
@@ -74,7 +100,8 @@ later-block n l ls bytes i h =
     rw (k, j, drop-drop (block_start (n - 512) ls ((i - 512) / 512)) (block_bytes n l) bytes) refl
 
 -- the item at a place
-pub block_lists-at : (n : ℕ) (ls : List LinearParams) (bytes : List ℕ) (i : ℕ) → n ≤ 512 * length ls → i < n → slice_index (joined_lists (block_lists n ls bytes)) i ≡ block_item n ls bytes i
+pub block_lists-at : (n : ℕ) (ls : List LinearParams) (bytes : List ℕ) (i : ℕ) → n ≤ 512 * length ls → i < n
+    → slice_index (joined_lists (block_lists n ls bytes)) i ≡ block_item n ls bytes i
 unfolding block_lists
 block_lists-at n [] bytes i h p = absurd (omega arith)
 block_lists-at n (l ∷ ls) bytes i h p =
@@ -87,16 +114,22 @@ block_lists-at n (l ∷ ls) bytes i h p =
           get_or_append_left first later 0 i short ∙ linear_items-at l bytes (block_len n) i (omega arith) ∙ first-block n l ls bytes i q)
       | inr q ↦ (
           let long : length first ≡ 512 = length-linear_items l bytes (block_len n) ∙ omega arith in
-          get_or-append_right first later 512 i 0 long q ∙ block_lists-at (n - 512) ls behind (i - 512) (omega arith) (omega arith) ∙ later-block n l ls bytes i q)
+          get_or-append_right first later 512 i 0 long q ∙ block_lists-at (n - 512) ls behind (i - 512) (omega arith)
+          (omega arith) ∙ later-block n l ls bytes i q)
     ]
 
-pub joined-block_lists : (n : ℕ) (ls : List LinearParams) (bytes : List ℕ) → n ≤ 512 * length ls → joined_lists (block_lists n ls bytes) ≡ map (block_item n ls bytes) (range_with_len 0 n)
-joined-block_lists n ls bytes h = fill_by_all (block_item n ls bytes) (joined_lists (block_lists n ls bytes)) n 0 (length-joined-block_lists n ls bytes h) (λ i p. block_lists-at n ls bytes i h p)
+pub joined-block_lists : (n : ℕ) (ls : List LinearParams) (bytes : List ℕ) → n ≤ 512 * length ls
+    → joined_lists (block_lists n ls bytes) ≡ map (block_item n ls bytes) (range_with_len 0 n)
+joined-block_lists n ls bytes h =
+    fill_by_all (block_item n ls bytes) (joined_lists (block_lists n ls bytes)) n 0
+    (length-joined-block_lists n ls bytes h) (λ i p. block_lists-at n ls bytes i h p)
 
 -- ---- the list
 
 -- so many items are read
-pub length-items : {A : Type 0} (read : List ℕ → Option (A × List ℕ)) (n : ℕ) (bytes : List ℕ) (xs : List A) (rest : List ℕ) → items read n bytes ≡ Some (xs, rest) → length xs ≡ n
+pub length-items :
+    {A : Type 0} (read : List ℕ → Option (A × List ℕ)) (n : ℕ) (bytes : List ℕ) (xs : List A) (rest : List ℕ)
+    → items read n bytes ≡ Some (xs, rest) → length xs ≡ n
 unfolding items
 length-items read zero bytes xs rest e = ap (λ q. length q.0) (sym (same_Some _ _ e))
 length-items {A} read (suc n) bytes xs rest e =
@@ -106,26 +139,37 @@ length-items {A} read (suc n) bytes xs rest e =
 
 length-lines : (n : ℕ) (footer : List ℕ) (ls : List LinearParams) → (items params_at n footer >>= nothing_left) ≡ Some ls → length ls ≡ n
 length-lines n footer ls e =
-    option_and_then_some nothing_left (items params_at n footer) ls e (λ r e1 e2. ap length (sym (cond_some (length r.1 == 0) r.0 ls e2).1) ∙ length-items params_at n footer r.0 r.1 e1)
+    option_and_then_some nothing_left (items params_at n footer) ls e (λ r e1 e2.
+    ap length (sym (cond_some (length r.1 == 0) r.0 ls e2).1) ∙ length-items params_at n footer r.0 r.1 e1)
 
 -- steps above the least
-scaled : (s : Stats) (ls : List LinearParams) (body : List ℕ) → s.count ≤ 512 * length ls → map (λ k. (s.least + s.divisor * k) % 2 ^ 64) (joined_lists (block_lists s.count ls body)) ≡ blockwise_items s ls body
+scaled : (s : Stats) (ls : List LinearParams) (body : List ℕ) → s.count ≤ 512 * length ls
+    → map (λ k. (s.least + s.divisor * k) % 2 ^ 64) (joined_lists (block_lists s.count ls body))
+    ≡ blockwise_items s ls body
 scaled s ls body h =
     ap (map (λ k. (s.least + s.divisor * k) % 2 ^ 64)) (joined-block_lists s.count ls body h)
     ∙ map-map (block_item s.count ls body) (λ k. (s.least + s.divisor * k) % 2 ^ 64) (range_with_len 0 s.count)
 
 -- a list in blocks, where its lines are read
-pub blockwise_values-some : (s : Stats) (bytes body footer : List ℕ) (ls : List LinearParams) → parts_by_second w64 bytes ≡ Some (body, footer) → (items params_at (div_ceil s.count 512) footer >>= nothing_left) ≡ Some ls → blockwise_values s bytes ≡ only_if (are_blocks s.count ls body) (blockwise_items s ls body)
+pub blockwise_values-some : (s : Stats) (bytes body footer : List ℕ) (ls : List LinearParams)
+    → parts_by_second w64 bytes ≡ Some (body, footer)
+    → (items params_at (div_ceil s.count 512) footer >>= nothing_left) ≡ Some ls
+    → blockwise_values s bytes ≡ only_if (are_blocks s.count ls body) (blockwise_items s ls body)
 unfolding blockwise_values
 blockwise_values-some s bytes body footer ls p q =
     let enough : s.count ≤ 512 * length ls = omega (arith, length-lines (div_ceil s.count 512) footer ls q) in
-    rw (p, q, blocks-lists s.count ls body) (only_if-then (λ xss. map (λ k. (s.least + s.divisor * k) % 2 ^ 64) (joined_lists xss)) (are_blocks s.count ls body) (block_lists s.count ls body) ∙ ap (only_if (are_blocks s.count ls body)) (scaled s ls body enough))
+    rw (p, q, blocks-lists s.count ls body) (only_if-then
+    (λ xss. map (λ k. (s.least + s.divisor * k) % 2 ^ 64) (joined_lists xss)) (are_blocks s.count ls body)
+    (block_lists s.count ls body) ∙ ap (only_if (are_blocks s.count ls body)) (scaled s ls body enough))
 
 -- where a part is missing there is no list
 pub blockwise_values-no_parts : (s : Stats) (bytes : List ℕ) → parts_by_second w64 bytes ≡ None → blockwise_values s bytes ≡ None
 unfolding blockwise_values
 blockwise_values-no_parts s bytes p = rw p refl
 
-pub blockwise_values-no_lines : (s : Stats) (bytes body footer : List ℕ) → parts_by_second w64 bytes ≡ Some (body, footer) → (items params_at (div_ceil s.count 512) footer >>= nothing_left) ≡ None → blockwise_values s bytes ≡ None
+-- bytes whose footer doesn't hold a line for each block, and nothing more, stand for no list
+pub blockwise_values-no_lines : (s : Stats) (bytes body footer : List ℕ)
+    → parts_by_second w64 bytes ≡ Some (body, footer)
+    → (items params_at (div_ceil s.count 512) footer >>= nothing_left) ≡ None → blockwise_values s bytes ≡ None
 unfolding blockwise_values
 blockwise_values-no_lines s bytes body footer p q = rw (p, q) refl

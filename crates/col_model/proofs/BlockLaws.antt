@@ -34,7 +34,9 @@ pub joined-cut_blocks : (k : ℕ) (xs : List ℕ) → length xs ≤ 512 * k → 
 unfolding cut_blocks
 joined-cut_blocks zero [] h = refl
 joined-cut_blocks zero (x ∷ xs) h = absurd (omega arith)
-joined-cut_blocks (suc k) xs h = rw (joined-cut_blocks k (drop block_size xs) (rw (length-drop block_size xs) (omega arith))) (take-append-drop block_size xs)
+joined-cut_blocks (suc k) xs h =
+    rw (joined-cut_blocks k (drop block_size xs) (rw (length-drop block_size xs) (omega arith)))
+    (take-append-drop block_size xs)
 
 -- ---- blocks are read back
 
@@ -42,13 +44,16 @@ length-packed_block : (b : List ℕ) → length (packed_block b) ≡ div_ceil (l
 length-packed_block b =
     let l = block_line b in
     let os = offsets_from l b in
-    length-digits 256 (div_ceil (length os * l.offset_width) 8) (number_of (2 ^ l.offset_width) os) ∙ ap (λ n. div_ceil (n * l.offset_width) 8) (length-offsets_from l b)
+    length-digits 256 (div_ceil (length os * l.offset_width) 8) (number_of (2 ^ l.offset_width) os)
+    ∙ ap (λ n. div_ceil (n * l.offset_width) 8) (length-offsets_from l b)
 
 block_len-taken : (xs : List ℕ) → length (take block_size xs) ≡ block_len (length xs)
 block_len-taken xs = length-take block_size xs ∙ omega arith
 
 -- blocks are read back from their lines and their packed offsets, whatever follows
-pub blocks-cut_blocks : (k : ℕ) (xs rest : List ℕ) → AreBelow (2 ^ 64) xs → let bs = cut_blocks k xs in blocks (length xs) (map block_line bs) (joined_lists (map packed_block bs) ++ rest) ≡ Some (bs, rest)
+pub blocks-cut_blocks : (k : ℕ) (xs rest : List ℕ) → AreBelow (2 ^ 64) xs
+    → let bs = cut_blocks k xs in blocks (length xs) (map block_line bs)
+    (joined_lists (map packed_block bs) ++ rest) ≡ Some (bs, rest)
 unfolding blocks cut_blocks
 blocks-cut_blocks zero xs rest all = refl
 blocks-cut_blocks (suc k) xs rest all =
@@ -57,9 +62,11 @@ blocks-cut_blocks (suc k) xs rest all =
     let bs = cut_blocks k (drop block_size xs) in
     let behind = joined_lists (map packed_block bs) ++ rest in
     let count = block_len-taken xs in
-    let cut = front-append (div_ceil (block_len (length xs) * l.offset_width) 8) (packed_block b) behind (rw (← count) (sym (length-packed_block b))) in
+    let cut = front-append (div_ceil (block_len (length xs) * l.offset_width) 8) (packed_block b) behind
+    (rw (← count) (sym (length-packed_block b))) in
     let offsets = rw count at (packed-packed_offsets l b (block_offsets-fit b)) in
-    let later = rw (length-drop block_size xs) at (blocks-cut_blocks k (drop block_size xs) rest (all_dropped (λ x. x < 2 ^ 64) block_size xs all)) in
+    let later = rw (length-drop block_size xs) at
+    (blocks-cut_blocks k (drop block_size xs) rest (all_dropped (λ x. x < 2 ^ 64) block_size xs all)) in
     rw (append_assoc, cut, offsets, later, items-above_line l b (all_taken (λ x. x < 2 ^ 64) block_size xs all)) refl
 
 -- ---- lines are read back
@@ -68,7 +75,8 @@ lines-writable : (bs : List (List ℕ)) → AllByRecursion IsWritable (map block
 lines-writable [] = tt
 lines-writable (b ∷ bs) = (block_line-writable b, lines-writable bs)
 
-pub items-lines_bytes : (n : ℕ) (bs : List (List ℕ)) → n ≡ length bs → (items params_at n (lines_bytes bs) >>= nothing_left) ≡ Some (map block_line bs)
+pub items-lines_bytes : (n : ℕ) (bs : List (List ℕ)) → n ≡ length bs
+    → (items params_at n (lines_bytes bs) >>= nothing_left) ≡ Some (map block_line bs)
 items-lines_bytes n bs e =
     let read = items-flat_map params_at params_bytes IsWritable params_at-params_bytes (map block_line bs) [] (lines-writable bs) in
     let same = rw (append-nil, flat_map-map params_bytes block_line bs, length-map bs block_line, ← e) at read in
@@ -90,12 +98,16 @@ length-params_bytes l = rw (length-append, length-append) (omega (arith, length-
 
 pub length-lines_bytes : (bs : List (List ℕ)) → length (lines_bytes bs) ≤ 39 * length bs
 length-lines_bytes [] = omega arith
-length-lines_bytes (b ∷ bs) = rw (length-append (params_bytes (block_line b)) (lines_bytes bs)) (omega (arith, length-params_bytes (block_line b), length-lines_bytes bs))
+length-lines_bytes (b ∷ bs) =
+    rw (length-append (params_bytes (block_line b)) (lines_bytes bs))
+    (omega (arith, length-params_bytes (block_line b), length-lines_bytes bs))
 
 -- ---- lists are read back
 
 -- the blocks of numbers, where a reader knows how many there are
-pub blockwise_values-back : (s : Stats) (ks : List ℕ) → s.count ≡ length ks → length ks < 2 ^ 32 → AreBelow (2 ^ 64) ks → blockwise_values s (blocks_bytes (blocks_of ks)) ≡ Some (map (λ k. (s.least + s.divisor * k) % 2 ^ 64) ks)
+pub blockwise_values-back : (s : Stats) (ks : List ℕ) → s.count ≡ length ks → length ks < 2 ^ 32
+    → AreBelow (2 ^ 64) ks
+    → blockwise_values s (blocks_bytes (blocks_of ks)) ≡ Some (map (λ k. (s.least + s.divisor * k) % 2 ^ 64) ks)
 unfolding blockwise_values blocks_bytes
 blockwise_values-back s ks count len all =
     let k = block_count (length ks) in
@@ -118,8 +130,10 @@ values64-blockwise xs all len =
     let d = stats_of-describes xs all in
     let ks = steps_above s xs in
     let long : length ks ≡ length xs = length-map xs (λ x. (x - s.least) / s.divisor) in
-    let below : AreBelow (2 ^ 64) ks = mapped_all (λ k. k < 2 ^ 64) (λ x. (x - s.least) / s.divisor) xs (all_by (λ x p. omega (arith, div-le_self (x - s.least) s.divisor, p)) xs all) in
+    let below : AreBelow (2 ^ 64) ks = mapped_all (λ k. k < 2 ^ 64) (λ x. (x - s.least) / s.divisor) xs
+    (all_by (λ x p. omega (arith, div-le_self (x - s.least) s.divisor, p)) xs all) in
     let back : map (λ k. (s.least + s.divisor * k) % 2 ^ 64) ks ≡ xs =
-    sym (map-map (λ k. s.least + s.divisor * k) (λ x. x % 2 ^ 64) ks) ∙ ap (map (λ x. x % 2 ^ 64)) (steps_list-back xs s d) ∙ wrapped xs all in
+    sym (map-map (λ k. s.least + s.divisor * k) (λ x. x % 2 ^ 64) ks)
+    ∙ ap (map (λ x. x % 2 ^ 64)) (steps_list-back xs s d) ∙ wrapped xs all in
     values64-behind_stats 2 xs (blocks_bytes (blocks_of ks)) all len
     (blockwise_values-back s ks (d.count ∙ sym long) (rw long len) below ∙ ap Some back)

@@ -19,7 +19,10 @@ use Rattle.col_model.specs.Order.{stack, shuffle, picks}
 use Rattle.col_common.specs.Ascending.{differences}
 
 abbrev order_of : Bool → Result (List ℕ) Refusal
-order_of reversed = content_after_all [] (recorded 0 (codes "a") types.i64 (number (pos 5)) ∷ recorded 2 (codes "a") types.i64 (number (pos 3)) ∷ recorded 3 (codes "a") types.i64 (number (pos 5)) ∷ []) >>= λ w. sort_order w (codes "a") 4 reversed
+order_of reversed =
+    content_after_all [] (recorded 0 (codes "a") types.i64 (number (pos 5))
+    ∷ recorded 2 (codes "a") types.i64 (number (pos 3)) ∷ recorded 3 (codes "a") types.i64 (number (pos 5)) ∷ [])
+    >>= λ w. sort_order w (codes "a") 4 reversed
 
 sorted_docs : order_of false ≡ Ok (1 ∷ 2 ∷ 0 ∷ 3 ∷ [])
 unfolding col_model_on_literals
@@ -78,7 +81,9 @@ next_rows = refl
 
 -- eight zero bytes, least, greatest, count, the width of the greatest code, and ranges
 abbrev footer_bytes_of : ℕ → ℕ → ℕ → ℕ → List (List ℕ) → List ℕ
-footer_bytes_of least greatest count width ranges = replicate 8 0 ++ vint_bytes least ++ vint_bytes greatest ++ vint_bytes count ++ width ∷ vint_bytes (length ranges) ++ flat_map (λ r. r) ranges
+footer_bytes_of least greatest count width ranges =
+    replicate 8 0 ++ vint_bytes least ++ vint_bytes greatest ++ vint_bytes count ++ width
+    ∷ vint_bytes (length ranges) ++ flat_map (λ r. r) ranges
 
 -- a range that begins so far above the one before, and its length less one
 abbrev range_bytes : ℕ → ℕ → List ℕ
@@ -104,7 +109,8 @@ footer_one : address_footer (footer_bytes_of 2 4 1 2 (range_bytes 2 2 ∷ [])) �
 unfolding col_model_on_literals
 footer_one = refl
 
-footer_none : address_footer (footer_bytes_of 0 0 0 1 (range_bytes 0 0 ∷ [])) ≡ Some (record { least = 0; greatest = 0; count = 0; code_width = 1; ranges = (0, 0) ∷ [] })
+footer_none : address_footer (footer_bytes_of 0 0 0 1 (range_bytes 0 0 ∷ []))
+    ≡ Some (record { least = 0; greatest = 0; count = 0; code_width = 1; ranges = (0, 0) ∷ [] })
 unfolding col_model_on_literals
 footer_none = refl
 
@@ -130,7 +136,9 @@ other_header = refl
 version_read : version_of version_bytes ≡ Some 2
 version_read = refl
 
-version_unread : map version_of ((1 ∷ 0 ∷ 0 ∷ 0 ∷ 0x02 ∷ 0x71 ∷ 0x77 ∷ 0x42 ∷ []) ∷ (3 ∷ 0 ∷ 0 ∷ 0 ∷ 0x02 ∷ 0x71 ∷ 0x77 ∷ 0x42 ∷ []) ∷ []) ≡ None ∷ None ∷ []
+version_unread : map version_of
+    ((1 ∷ 0 ∷ 0 ∷ 0 ∷ 0x02 ∷ 0x71 ∷ 0x77 ∷ 0x42 ∷ []) ∷ (3 ∷ 0 ∷ 0 ∷ 0 ∷ 0x02 ∷ 0x71 ∷ 0x77 ∷ 0x42 ∷ []) ∷ [])
+    ≡ None ∷ None ∷ []
 version_unread = refl
 
 full_counts : counts (0 ∷ []) 2 3 ≡ Some (record { cardinality = full; of_rows = 1 ∷ 1 ∷ 1 ∷ [] })
@@ -152,15 +160,18 @@ old_row_count = refl
 
 -- ---- values and words
 
-as_bools : map (λ xs. images64 is_image_of_bool (bitpacked_bytes xs)) ((0 ∷ 1 ∷ []) ∷ (1 ∷ 5 ∷ 10 ∷ []) ∷ []) ≡ Some (0 ∷ 1 ∷ []) ∷ None ∷ []
+as_bools : map (λ xs. images64 is_image_of_bool (bitpacked_bytes xs)) ((0 ∷ 1 ∷ []) ∷ (1 ∷ 5 ∷ 10 ∷ []) ∷ [])
+    ≡ Some (0 ∷ 1 ∷ []) ∷ None ∷ []
 unfolding col_model_on_literals
 as_bools = refl
 
-as_u32s : map (λ xs. images64 is_image_of_u32 (bitpacked_bytes xs)) (((2 ^ 32 - 1) ∷ []) ∷ ((2 ^ 32) ∷ []) ∷ []) ≡ Some ((2 ^ 32 - 1) ∷ []) ∷ None ∷ []
+as_u32s : map (λ xs. images64 is_image_of_u32 (bitpacked_bytes xs)) (((2 ^ 32 - 1) ∷ []) ∷ ((2 ^ 32) ∷ []) ∷ [])
+    ≡ Some ((2 ^ 32 - 1) ∷ []) ∷ None ∷ []
 unfolding col_model_on_literals
 as_u32s = refl
 
-number_words : map number_word (codes "0" ∷ codes "07" ∷ codes "70" ∷ [] ∷ codes "-1" ∷ codes "18446744073709551615" ∷ codes "18446744073709551616" ∷ []) ≡ Some 0 ∷ None ∷ Some 70 ∷ None ∷ None ∷ Some (2 ^ 64 - 1) ∷ None ∷ []
+number_words : map number_word (codes "0" ∷ codes "07" ∷ codes "70" ∷ [] ∷ codes "-1" ∷ codes "18446744073709551615"
+    ∷ codes "18446744073709551616" ∷ []) ≡ Some 0 ∷ None ∷ Some 70 ∷ None ∷ None ∷ Some (2 ^ 64 - 1) ∷ None ∷ []
 number_words = refl
 
 gen_words : map (gen_number (codes "gen" ∷ codes "out" ∷ codes "7" ∷ [])) (0 ∷ 1 ∷ []) ≡ Some 7 ∷ None ∷ []

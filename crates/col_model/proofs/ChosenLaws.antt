@@ -20,7 +20,9 @@ abbrev HasEstimate : List ℕ → ℕ → Type 0
 HasEstimate xs codec = (e : ℕ) × (estimate xs codec ≡ Some e)
 
 -- the first of the codecs or one of the later ones
-by_estimate : (xs : List ℕ) (c : ℕ) (cs : List ℕ) (codec : ℕ) (later o : Option ℕ) → estimate xs c ≡ o → (later ≡ Some codec → HasEstimate xs codec) → chosen_before xs c cs later o ≡ Some codec → HasEstimate xs codec
+by_estimate : (xs : List ℕ) (c : ℕ) (cs : List ℕ) (codec : ℕ) (later o : Option ℕ) → estimate xs c ≡ o
+    → (later ≡ Some codec → HasEstimate xs codec) → chosen_before xs c cs later o ≡ Some codec
+    → HasEstimate xs codec
 by_estimate xs c cs codec later None e then p = then p
 by_estimate xs c cs codec later (Some n) e then p = by_test (list_all (λ d. is_not_below n (estimate xs d)) cs) p
   where
@@ -34,11 +36,13 @@ chosen-estimate xs [] codec p = absurd (none-some codec p)
 chosen-estimate xs (c ∷ cs) codec p = by_estimate xs c cs codec (chosen_codec xs cs) (estimate xs c) refl (chosen-estimate xs cs codec) p
 
 -- a list is read back under each codec that has an estimate
-pub values64-estimated : (xs : List ℕ) (codec : ℕ) → HasEstimate xs codec → AreBelow (2 ^ 64) xs → length xs < 2 ^ 32 → values64 (codec_bytes codec xs) ≡ Some xs
+pub values64-estimated : (xs : List ℕ) (codec : ℕ) → HasEstimate xs codec → AreBelow (2 ^ 64) xs
+    → length xs < 2 ^ 32 → values64 (codec_bytes codec xs) ≡ Some xs
 values64-estimated xs zero e all len = ap values64 (codec_bytes-bitpacked xs) ∙ values64-bitpacked_bytes xs all len
 values64-estimated xs (suc zero) e all len = values64-linear xs all len
 values64-estimated xs (suc (suc zero)) e all len = values64-blockwise xs all len
 values64-estimated xs (suc (suc (suc c))) e all len = absurd (none-some e.0 e.1)
 
+-- a list that is written under the codec chosen of those on offer is read back from its bytes
 pub values64-chosen : ChosenIsReadBack
 values64-chosen codecs xs codec all len p = values64-estimated xs codec (chosen-estimate xs codecs codec p) all len

@@ -58,6 +58,7 @@ bool_image false = refl
 bool_again : (n : ℕ) → is_image_of_bool n ≡ true → bool_code (bool_value n) ≡ n
 bool_again n h = grind (arith, nat_tests)
 
+-- the codes 0 and 1 stand for the two truth values, in their order
 pub bool_laws : IsCoded (2 ^ 64) (λ x y. Some (bool_cmp x y)) (λ _. true)
     bool_code bool_value is_image_of_bool
 bool_laws = record {
@@ -90,6 +91,7 @@ i64_known n h = grind (arith, ints, nat_tests)
 i64_again : (n : ℕ) → n < 2 ^ 64 → i64_code (signed_of n) ≡ n
 i64_again n h = grind (arith, ints, nat_tests)
 
+-- the numbers below 2 ^ 64 stand for the signed ones, in their order
 pub i64_laws : IsCoded (2 ^ 64) (λ x y. Some (int_cmp x y)) is_i64 i64_code signed_of (λ _. true)
 i64_laws = record {
   compares = i64_compares;

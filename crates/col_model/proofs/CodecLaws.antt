@@ -54,6 +54,7 @@ linear_line-writable xs =
       offset_width = is_width-width (greatest_of (deviations l xs) - low);
     }
 
+-- the line that is trained on a block has a slope, an intercept and a width that can be written
 pub block_line-writable : (xs : List ℕ) → IsWritable (block_line xs)
 unfolding block_line
 block_line-writable xs =
@@ -66,11 +67,14 @@ block_line-writable xs =
     }
 
 -- a line that is raised by low less half of the space, against one that isn't
-raised : (x b low s : ℕ) → low ≤ less_wrapped (x + half_space) ((b + s) % 2 ^ 64) → less_wrapped x ((less_wrapped (b + low) half_space + s) % 2 ^ 64) ≡ less_wrapped (x + half_space) ((b + s) % 2 ^ 64) - low
+raised : (x b low s : ℕ) → low ≤ less_wrapped (x + half_space) ((b + s) % 2 ^ 64)
+    → less_wrapped x ((less_wrapped (b + low) half_space + s) % 2 ^ 64)
+    ≡ less_wrapped (x + half_space) ((b + s) % 2 ^ 64) - low
 raised x b low s h = omega arith
 
 -- an offset from the raised line is the deviation less the least one
-pub raised-offset : (l : ℕ × ℕ) (low i x : ℕ) → low ≤ deviation l (i, x) → less_wrapped x (line l.0 (less_wrapped (l.1 + low) half_space) i) ≡ deviation l (i, x) - low
+pub raised-offset : (l : ℕ × ℕ) (low i x : ℕ) → low ≤ deviation l (i, x)
+    → less_wrapped x (line l.0 (less_wrapped (l.1 + low) half_space) i) ≡ deviation l (i, x) - low
 unfolding line
 raised-offset l low i x h = raised x l.1 low (signed_32 (i * l.0 % 2 ^ 64 / 2 ^ 32)) h
 
@@ -78,9 +82,11 @@ raised-offset l low i x h = raised x l.1 low (signed_32 (i * l.0 % 2 ^ 64 / 2 ^ 
 abbrev pub trained : List ℕ → ℕ × ℕ
 trained xs = line_of (take block_size xs)
 
+-- the least deviation from the trained line
 abbrev pub lowest : List ℕ → ℕ
 lowest xs = least_of (deviations (trained xs) xs)
 
+-- the greatest deviation from the trained line
 abbrev pub highest : List ℕ → ℕ
 highest xs = greatest_of (deviations (trained xs) xs)
 
@@ -89,10 +95,15 @@ deviations-below l [] = tt
 deviations-below l (p ∷ ps) = (less_wrapped-below (p.1 + half_space) (line l.0 l.1 p.0), deviations-below l ps)
 
 pub highest-below : (xs : List ℕ) → highest xs < 2 ^ 64
-highest-below xs = fold-max-one (λ v. v < 2 ^ 64) 0 (deviations (trained xs) xs) (lit< tt) (deviations-below (trained xs) (enumerate_from 0 xs))
+highest-below xs =
+    fold-max-one (λ v. v < 2 ^ 64) 0 (deviations (trained xs) xs) (lit< tt)
+    (deviations-below (trained xs) (enumerate_from 0 xs))
 
 -- a deviation between the least and the greatest gives an offset that fits
-linear-offset : (xs : List ℕ) (p : ℕ × ℕ) → (lowest xs ≤ deviation (trained xs) p) × (deviation (trained xs) p ≤ highest xs) → (offset_from (linear_line xs) p ≡ deviation (trained xs) p - lowest xs) × (offset_from (linear_line xs) p < 2 ^ (linear_line xs).offset_width)
+linear-offset : (xs : List ℕ) (p : ℕ × ℕ)
+    → (lowest xs ≤ deviation (trained xs) p) × (deviation (trained xs) p ≤ highest xs)
+    → (offset_from (linear_line xs) p ≡ deviation (trained xs) p - lowest xs)
+    × (offset_from (linear_line xs) p < 2 ^ (linear_line xs).offset_width)
 unfolding linear_line
 linear-offset xs p h =
     let e = raised-offset (trained xs) (lowest xs) p.0 p.1 h.0 in
@@ -100,7 +111,9 @@ linear-offset xs p h =
     let within : deviation (trained xs) p - lowest xs ≤ highest xs - lowest xs = omega (arith, h) in
     (e, rw e (lt_of_le_of_lt within (width-above (highest xs - lowest xs) fits)))
 
-deviations-within : (xs : List ℕ) → AllByRecursion (λ p. (lowest xs ≤ deviation (trained xs) p) × (deviation (trained xs) p ≤ highest xs)) (enumerate_from 0 xs)
+deviations-within : (xs : List ℕ)
+    → AllByRecursion (λ p. (lowest xs ≤ deviation (trained xs) p) × (deviation (trained xs) p ≤ highest xs))
+    (enumerate_from 0 xs)
 deviations-within xs =
     let ps = enumerate_from 0 xs in
     let ds = deviations (trained xs) xs in
@@ -110,7 +123,9 @@ deviations-within xs =
 
 -- the offsets of a list from its trained line fit the line's width
 pub linear_offsets-fit : (xs : List ℕ) → AreBelow (2 ^ (linear_line xs).offset_width) (offsets_from (linear_line xs) xs)
-linear_offsets-fit xs = mapped_all (λ v. v < 2 ^ (linear_line xs).offset_width) (offset_from (linear_line xs)) (enumerate_from 0 xs) (all_by (λ p h. (linear-offset xs p h).1) (enumerate_from 0 xs) (deviations-within xs))
+linear_offsets-fit xs =
+    mapped_all (λ v. v < 2 ^ (linear_line xs).offset_width) (offset_from (linear_line xs)) (enumerate_from 0 xs)
+    (all_by (λ p h. (linear-offset xs p h).1) (enumerate_from 0 xs) (deviations-within xs))
 
 -- ---- blocks
 

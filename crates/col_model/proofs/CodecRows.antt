@@ -16,7 +16,9 @@ linear_row : codec_bytes 1 rising ≡ 0x01 ∷ 0xe4 ∷ 0x81 ∷ 0x7f ∷ 0x83 �
 unfolding col_model_on_literals
 linear_row = refl
 
-blockwise_row : codec_bytes 2 rising ≡ 0x02 ∷ 0xe4 ∷ 0x81 ∷ 0x7f ∷ 0x83 ∷ 0x00 ∷ 0x84 ∷ 0 ∷ 0 ∷ 0 ∷ 0 ∷ 0x90 ∷ 0x80 ∷ 0 ∷ 7 ∷ 0 ∷ 0 ∷ 0 ∷ 0 ∷ 0 ∷ 0 ∷ 0 ∷ []
+blockwise_row : codec_bytes 2 rising
+    ≡ 0x02 ∷ 0xe4 ∷ 0x81 ∷ 0x7f ∷ 0x83 ∷ 0x00 ∷ 0x84 ∷ 0 ∷ 0 ∷ 0 ∷ 0 ∷ 0x90 ∷ 0x80 ∷ 0 ∷ 7 ∷ 0 ∷ 0 ∷ 0 ∷ 0 ∷ 0 ∷ 0
+    ∷ 0 ∷ []
 unfolding col_model_on_literals
 blockwise_row = refl
 

@@ -14,7 +14,9 @@ abbrev pub block_at : ℕ → List ℕ → List ℕ
 block_at k xs = take block_size (drop (512 * k) xs)
 
 later-block : (k : ℕ) (xs : List ℕ) → block_at k (drop block_size xs) ≡ block_at (suc k) xs
-later-block k xs = let e : 512 + 512 * k ≡ 512 * suc k = omega arith in ap (take block_size) (drop-drop (512 * k) 512 xs ∙ ap (λ n. drop n xs) e)
+later-block k xs =
+    let e : 512 + 512 * k ≡ 512 * suc k = omega arith in ap (take block_size)
+    (drop-drop (512 * k) 512 xs ∙ ap (λ n. drop n xs) e)
 
 -- one block more
 pub cut_blocks-more : (k : ℕ) (xs : List ℕ) → cut_blocks (k + 1) xs ≡ cut_blocks k xs ++ block_at k xs ∷ []
@@ -23,7 +25,8 @@ cut_blocks-more zero xs = refl
 cut_blocks-more (suc k) xs =
     let next : suc k ≡ k + 1 = omega arith in
     let later : cut_blocks (suc k) (drop block_size xs) ≡ cut_blocks k (drop block_size xs) ++ block_at (suc k) xs ∷ [] =
-    ap (λ m. cut_blocks m (drop block_size xs)) next ∙ cut_blocks-more k (drop block_size xs) ∙ ap (λ b. cut_blocks k (drop block_size xs) ++ b ∷ []) (later-block k xs) in
+    ap (λ m. cut_blocks m (drop block_size xs)) next ∙ cut_blocks-more k (drop block_size xs)
+    ∙ ap (λ b. cut_blocks k (drop block_size xs) ++ b ∷ []) (later-block k xs) in
     rw (add-one, later) refl
 
 -- what comes behind whole blocks changes none of them
@@ -32,4 +35,8 @@ unfolding cut_blocks
 cut_blocks-append zero xs ys h = refl
 cut_blocks-append (suc k) xs ys h =
     let room : 512 ≤ length xs = omega arith in
-    rw (take-append-le block_size xs ys room, drop-append-le block_size xs ys room, cut_blocks-append k (drop block_size xs) ys (rw (length-drop block_size xs) (omega arith))) refl
+    rw (
+      take-append-le block_size xs ys room,
+      drop-append-le block_size xs ys room,
+      cut_blocks-append k (drop block_size xs) ys (rw (length-drop block_size xs) (omega arith)),
+    ) refl

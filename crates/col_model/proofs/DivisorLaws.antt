@@ -14,7 +14,8 @@ use Rattle.col_model.proofs.CollectLaws.{spans_of, divides-gcd_of, gcd_of-divide
 differences-from : (d m : ℕ) (xs : List ℕ) → AllByRecursion (λ x. m ≤ x) xs → AllByRecursion (λ x. d ∣ x - m) xs → DividesDifferences d xs
 differences-from d m xs above all =
     let both = all_both (λ x. m ≤ x) (λ x. d ∣ x - m) xs above all in
-    all_by (λ x p. all_by (λ y q. let e : x - m - (y - m) ≡ x - y = omega (arith, p.0, q.0) in subst (λ k. d ∣ k) e (dvd-sub d p.1 q.1)) xs both) xs both
+    all_by (λ x p. all_by (λ y q. let e : x - m - (y - m) ≡ x - y = omega (arith, p.0, q.0) in subst (λ k. d ∣ k) e
+    (dvd-sub d p.1 q.1)) xs both) xs both
 
 -- what divides all differences divides those from the least item
 spans-from : (d : ℕ) (xs : List ℕ) → DividesDifferences d xs → AllByRecursion (λ x. d ∣ x - least_of xs) xs
@@ -35,14 +36,22 @@ divisor-apart d xs h p =
   where
     spread : gcd_of (spans_of xs) ≡ 0 → ⊥
     spread e =
-        let spans = all_mapped (λ x. 0 ∣ x) (λ x. x - least_of xs) xs (gcd_of-divides 0 (spans_of xs) (subst (λ g. 0 ∣ g) (sym e) (dvd-zero 0))) in
-        let low : greatest_of xs ≤ least_of xs = fold-max-one (λ x. x ≤ least_of xs) 0 xs (omega arith) (all_by (λ x p. let none = eq-zero_of_zero-dvd p in omega (arith, none)) xs spans) in
+        let spans = all_mapped (λ x. 0 ∣ x) (λ x. x - least_of xs) xs
+        (gcd_of-divides 0 (spans_of xs) (subst (λ g. 0 ∣ g) (sym e) (dvd-zero 0))) in
+        let low : greatest_of xs ≤ least_of xs = fold-max-one (λ x. x ≤ least_of xs) 0 xs (omega arith)
+        (all_by (λ x p. let none = eq-zero_of_zero-dvd p in omega (arith, none)) xs spans) in
         omega (arith, h, low)
 
+-- the divisor of a list's statistics is the greatest that divides all differences, and 1 where none
+-- differ
 pub divisor-is-greatest : DivisorIsGreatest
 unfolding stats_of
 divisor-is-greatest = record {
-  divides = λ xs. differences-from (stats_of xs).divisor (least_of xs) xs (least_of-all xs) (all_mapped (λ x. (stats_of xs).divisor ∣ x) (λ x. x - least_of xs) xs (divisor-divides (spans_of xs)));
-  greatest = λ xs d h all. divisor-apart d xs h (divides-gcd_of d (spans_of xs) (mapped_all (λ x. d ∣ x) (λ x. x - least_of xs) xs (spans-from d xs all)));
+  divides =
+      λ xs. differences-from (stats_of xs).divisor (least_of xs) xs (least_of-all xs)
+      (all_mapped (λ x. (stats_of xs).divisor ∣ x) (λ x. x - least_of xs) xs (divisor-divides (spans_of xs)));
+  greatest =
+      λ xs d h all. divisor-apart d xs h
+      (divides-gcd_of d (spans_of xs) (mapped_all (λ x. d ∣ x) (λ x. x - least_of xs) xs (spans-from d xs all)));
   one = λ xs e. ap at_least_one (zeros-gcd (spans_of xs) (alike-spans xs e));
 }

@@ -21,7 +21,8 @@ digits-items bytes w n =
     (λ i h. digits-at (2 ^ w) n m i (pow_pos w) h ∙ ap (λ p. m / p % 2 ^ w) (pow-pow w i))
 
 -- a packed list by its items
-pub packed-items : (bytes : List ℕ) (w n : ℕ) → packed bytes w n ≡ only_if (is_packed bytes (n * w)) (map (item bytes w) (range_with_len 0 n))
+pub packed-items : (bytes : List ℕ) (w n : ℕ)
+    → packed bytes w n ≡ only_if (is_packed bytes (n * w)) (map (item bytes w) (range_with_len 0 n))
 unfolding packed
 packed-items bytes w n = ap (only_if (is_packed bytes (n * w))) (digits-items bytes w n)
 
@@ -49,10 +50,16 @@ item-take bytes w n i len h fits within =
     sym (item-append (take len bytes) (drop len bytes) w n i h (rw long fits)) ∙ ap (λ b. item b w i) (take-append-drop len bytes)
 
 -- the items of a packed list at the front of the bytes
-pub packed-front : (bytes : List ℕ) (w n len : ℕ) → n * w ≤ 8 * len → len ≤ length bytes → packed (take len bytes) w n ≡ only_if (is_packed (take len bytes) (n * w)) (map (item bytes w) (range_with_len 0 n))
-packed-front bytes w n len fits within = packed-items (take len bytes) w n ∙ ap (only_if (is_packed (take len bytes) (n * w))) (same-range (item (take len bytes) w) (item bytes w) 0 n n (omega arith) (λ i h. item-take bytes w n i len h fits within))
+pub packed-front : (bytes : List ℕ) (w n len : ℕ) → n * w ≤ 8 * len → len ≤ length bytes
+    → packed (take len bytes) w n
+    ≡ only_if (is_packed (take len bytes) (n * w)) (map (item bytes w) (range_with_len 0 n))
+packed-front bytes w n len fits within =
+    packed-items (take len bytes) w n
+    ∙ ap (only_if (is_packed (take len bytes) (n * w))) (same-range (item (take len bytes) w) (item bytes w) 0 n n
+    (omega arith) (λ i h. item-take bytes w n i len h fits within))
   where
-    same-range : (f g : ℕ → ℕ) (a k n : ℕ) → a + k ≤ n → ((i : ℕ) → i < n → f i ≡ g i) → map f (range_with_len a k) ≡ map g (range_with_len a k)
+    same-range : (f g : ℕ → ℕ) (a k n : ℕ) → a + k ≤ n → ((i : ℕ) → i < n → f i ≡ g i)
+        → map f (range_with_len a k) ≡ map g (range_with_len a k)
     same-range f g a zero n h e = refl
     same-range f g a (suc k) n h e = rw (e a (omega arith)) (ap (λ r. g a ∷ r) (same-range f g (a + 1) k n (omega arith) e))
 
@@ -62,29 +69,41 @@ only_if-then f true x = refl
 only_if-then f false x = refl
 
 -- offsets above a line, place by place
-above-range : (l : LinearParams) (f : ℕ → ℕ) (k n : ℕ) → map (above_line l) (enumerate_from k (map f (range_with_len k n))) ≡ map (λ i. (line l.slope l.intercept i + f i) % 2 ^ 64) (range_with_len k n)
+above-range : (l : LinearParams) (f : ℕ → ℕ) (k n : ℕ)
+    → map (above_line l) (enumerate_from k (map f (range_with_len k n)))
+    ≡ map (λ i. (line l.slope l.intercept i + f i) % 2 ^ 64) (range_with_len k n)
 above-range l f k zero = refl
 above-range l f k (suc n) = ap (λ r. (line l.slope l.intercept k + f k) % 2 ^ 64 ∷ r) (above-range l f (k + 1) n)
 
-pub above_line-items : (l : LinearParams) (bytes : List ℕ) (n : ℕ) → map (above_line l) (enumerate_from 0 (map (item bytes l.offset_width) (range_with_len 0 n))) ≡ linear_items l bytes n
+-- packed offsets taken above their line are the items that the line's bytes stand for
+pub above_line-items : (l : LinearParams) (bytes : List ℕ) (n : ℕ)
+    → map (above_line l) (enumerate_from 0 (map (item bytes l.offset_width) (range_with_len 0 n)))
+    ≡ linear_items l bytes n
 above_line-items l bytes n = above-range l (item bytes l.offset_width) 0 n
 
 -- a list under Linear, where its line is read
-pub linear_values-some : (s : Stats) (bytes : List ℕ) (l : LinearParams) (rest : List ℕ) → params_at bytes ≡ Some (l, rest) → linear_values s bytes ≡ only_if (is_packed rest (s.count * l.offset_width)) (linear_items l rest s.count)
+pub linear_values-some : (s : Stats) (bytes : List ℕ) (l : LinearParams) (rest : List ℕ)
+    → params_at bytes ≡ Some (l, rest)
+    → linear_values s bytes ≡ only_if (is_packed rest (s.count * l.offset_width)) (linear_items l rest s.count)
 unfolding linear_values
 linear_values-some s bytes l rest e =
     let test = is_packed rest (s.count * l.offset_width) in
     let offsets = map (item rest l.offset_width) (range_with_len 0 s.count) in
-    rw (e, packed-items rest l.offset_width s.count) (only_if-then (λ os. map (above_line l) (enumerate_from 0 os)) test offsets ∙ ap (only_if test) (above_line-items l rest s.count))
+    rw (e, packed-items rest l.offset_width s.count) (
+    only_if-then (λ os. map (above_line l) (enumerate_from 0 os)) test offsets
+    ∙ ap (only_if test) (above_line-items l rest s.count))
 
+-- bytes that spell no line stand for no list
 pub linear_values-none : (s : Stats) (bytes : List ℕ) → params_at bytes ≡ None → linear_values s bytes ≡ None
 unfolding linear_values
 linear_values-none s bytes e = rw e refl
 
 -- ---- for a reader of the items
 
+-- a line's bytes stand for as many items as are asked for
 pub length-linear_items : (l : LinearParams) (bytes : List ℕ) (n : ℕ) → length (linear_items l bytes n) ≡ n
 length-linear_items l bytes n = length-map-range_with_len (linear_item l bytes) 0 n
 
+-- the item at a position below n is the one that the line's bytes have there
 pub linear_items-at : (l : LinearParams) (bytes : List ℕ) (n i : ℕ) → i < n → slice_index (linear_items l bytes n) i ≡ linear_item l bytes i
 linear_items-at l bytes n i h = get_or-map-range_with_len (linear_item l bytes) 0 n i i 0 h (omega arith)

@@ -19,33 +19,45 @@ abbrev pub OffsetsFit : LinearParams → List ℕ → Type 0
 OffsetsFit l xs = AreBelow (2 ^ l.offset_width) (offsets_from l xs)
 
 -- items are put back from their offsets, from position k on
-above-offsets_from : (l : LinearParams) (k : ℕ) (xs : List ℕ) → AreBelow (2 ^ 64) xs → map (above_line l) (enumerate_from k (map (offset_from l) (enumerate_from k xs))) ≡ xs
+above-offsets_from : (l : LinearParams) (k : ℕ) (xs : List ℕ) → AreBelow (2 ^ 64) xs
+    → map (above_line l) (enumerate_from k (map (offset_from l) (enumerate_from k xs))) ≡ xs
 above-offsets_from l k [] all = refl
 above-offsets_from l k (x ∷ xs) all = rw (above_line-offset_from l k x all.0) (ap (λ r. x ∷ r) (above-offsets_from l (k + 1) xs all.1))
 
-pub items-above_line : (l : LinearParams) (xs : List ℕ) → AreBelow (2 ^ 64) xs → map (above_line l) (enumerate_from 0 (offsets_from l xs)) ≡ xs
+-- items below 2 ^ 64 are their offsets from a line, taken above it again
+pub items-above_line : (l : LinearParams) (xs : List ℕ) → AreBelow (2 ^ 64) xs
+    → map (above_line l) (enumerate_from 0 (offsets_from l xs)) ≡ xs
 items-above_line l xs all = above-offsets_from l 0 xs all
 
+-- a line has one offset for each item
 pub length-offsets_from : (l : LinearParams) (xs : List ℕ) → length (offsets_from l xs) ≡ length xs
 length-offsets_from l xs = length-map (enumerate_from 0 xs) (offset_from l) ∙ length-enumerate_from 0 xs
 
 -- packed offsets are read back
-pub packed-packed_offsets : (l : LinearParams) (xs : List ℕ) → OffsetsFit l xs → packed (packed_offsets l xs) l.offset_width (length xs) ≡ Some (offsets_from l xs)
+pub packed-packed_offsets : (l : LinearParams) (xs : List ℕ) → OffsetsFit l xs
+    → packed (packed_offsets l xs) l.offset_width (length xs) ≡ Some (offsets_from l xs)
 packed-packed_offsets l xs fit = rw (← length-offsets_from l xs) (packed-packed_bytes l.offset_width (offsets_from l xs) fit)
 
 -- a line and offsets from it are read back
-pub linear_values-back : (s : Stats) (l : LinearParams) (xs : List ℕ) → s.count ≡ length xs → IsWritable l → OffsetsFit l xs → AreBelow (2 ^ 64) xs → linear_values s (params_bytes l ++ packed_offsets l xs) ≡ Some xs
+pub linear_values-back : (s : Stats) (l : LinearParams) (xs : List ℕ) → s.count ≡ length xs → IsWritable l
+    → OffsetsFit l xs → AreBelow (2 ^ 64) xs → linear_values s (params_bytes l ++ packed_offsets l xs) ≡ Some xs
 unfolding linear_values
-linear_values-back s l xs count writable fit all = rw (params_at-params_bytes l (packed_offsets l xs) writable, count, packed-packed_offsets l xs fit) (ap Some (items-above_line l xs all))
+linear_values-back s l xs count writable fit all =
+    rw (params_at-params_bytes l (packed_offsets l xs) writable, count, packed-packed_offsets l xs fit)
+    (ap Some (items-above_line l xs all))
 
 -- the statistics of a list are read back, whatever follows
-pub stats_at-own : (xs rest : List ℕ) → AreBelow (2 ^ 64) xs → length xs < 2 ^ 32 → stats_at (stats_bytes (stats_of xs) ++ rest) ≡ Some (stats_of xs, rest)
+pub stats_at-own : (xs rest : List ℕ) → AreBelow (2 ^ 64) xs → length xs < 2 ^ 32
+    → stats_at (stats_bytes (stats_of xs) ++ rest) ≡ Some (stats_of xs, rest)
 stats_at-own xs rest all len =
     let d = stats_of-describes xs all in
-    stats_at-stats_bytes (stats_of xs) rest (omega (arith, d.fits, d.top)) d.divisor_fits (steps-bound xs (stats_of xs) d) (omega (arith, d.count, len)) (are_possible-described xs all len) d.top
+    stats_at-stats_bytes (stats_of xs) rest (omega (arith, d.fits, d.top)) d.divisor_fits
+    (steps-bound xs (stats_of xs) d) (omega (arith, d.count, len)) (are_possible-described xs all len) d.top
 
 -- a list is read back where its items are, behind its statistics
-pub values64-behind_stats : (codec : ℕ) (xs body : List ℕ) → AreBelow (2 ^ 64) xs → length xs < 2 ^ 32 → values_by codec (stats_of xs) body ≡ Some xs → values64 (codec ∷ (stats_bytes (stats_of xs) ++ body)) ≡ Some xs
+pub values64-behind_stats : (codec : ℕ) (xs body : List ℕ) → AreBelow (2 ^ 64) xs → length xs < 2 ^ 32
+    → values_by codec (stats_of xs) body ≡ Some xs
+    → values64 (codec ∷ (stats_bytes (stats_of xs) ++ body)) ≡ Some xs
 unfolding values64
 values64-behind_stats codec xs body all len e = rw (stats_at-own xs body all len, e, same_stats-self (stats_of xs)) refl
 

@@ -14,6 +14,7 @@ pub all_push : {A : Type 0} (P : A → Type 0) (xs : List A) (x : A) → AllByRe
 all_push P [] x all p = (p, tt)
 all_push P (y ∷ xs) x all p = (all.0, all_push P xs x all.1 p)
 
+-- what all items of a list with one more at its end keep, the list's and the last one keep
 pub all_pushed : {A : Type 0} (P : A → Type 0) (xs : List A) (x : A) → AllByRecursion P (xs ++ x ∷ []) → AllByRecursion P xs × P x
 all_pushed P [] x all = (tt, all.0)
 all_pushed P (y ∷ xs) x all = let later = all_pushed P xs x all.1 in ((all.0, later.0), later.1)
@@ -24,6 +25,7 @@ all_taken P zero xs all = tt
 all_taken P (suc n) [] all = tt
 all_taken P (suc n) (x ∷ xs) all = (all.0, all_taken P n xs all.1)
 
+-- what all items keep, those after the first n keep
 pub all_dropped : (P : ℕ → Type 0) (n : ℕ) (xs : List ℕ) → AllByRecursion P xs → AllByRecursion P (drop n xs)
 all_dropped P zero xs all = all
 all_dropped P (suc n) [] all = tt
@@ -83,12 +85,21 @@ module _ {A : Type 0} (p : A → Bool) (d : A) where
   filter_none [] fails = refl
   filter_none (x ∷ xs) fails = rw (fails 0 (omega arith)) (filter_none xs (λ j h. fails (suc j) (omega arith)))
 
-  filter_front : (xs : List A) (n : ℕ) → n ≤ length xs → ((j : ℕ) → j < n → p (get_or xs j d) ≡ true) → ((j : ℕ) → n ≤ j → j < length xs → p (get_or xs j d) ≡ false) → filter p xs ≡ take n xs
+  filter_front : (xs : List A) (n : ℕ) → n ≤ length xs → ((j : ℕ) → j < n → p (get_or xs j d) ≡ true)
+      → ((j : ℕ) → n ≤ j → j < length xs → p (get_or xs j d) ≡ false) → filter p xs ≡ take n xs
   filter_front xs zero h passes fails = filter_none xs (λ j k. fails j (omega arith) k)
   filter_front [] (suc n) h passes fails = absurd (omega arith)
-  filter_front (x ∷ xs) (suc n) h passes fails = rw (passes 0 (omega arith)) (ap (λ ys. x ∷ ys) (filter_front xs n (omega arith) (λ j k. passes (suc j) (omega arith)) (λ j k l. fails (suc j) (omega arith) (omega arith))))
+  filter_front (x ∷ xs) (suc n) h passes fails =
+      rw (passes 0 (omega arith)) (ap (λ ys. x ∷ ys) (filter_front xs n (omega arith)
+      (λ j k. passes (suc j) (omega arith)) (λ j k l. fails (suc j) (omega arith) (omega arith))))
 
-  pub filter_run : (xs : List A) (start upto : ℕ) → start ≤ upto → upto ≤ length xs → ((j : ℕ) → j < start → p (get_or xs j d) ≡ false) → ((j : ℕ) → start ≤ j → j < upto → p (get_or xs j d) ≡ true) → ((j : ℕ) → upto ≤ j → j < length xs → p (get_or xs j d) ≡ false) → filter p xs ≡ take (upto - start) (drop start xs)
+  -- items that pass a test from one place up to another, and nowhere else, are the run between the
+  -- two
+  pub filter_run : (xs : List A) (start upto : ℕ) → start ≤ upto → upto ≤ length xs
+      → ((j : ℕ) → j < start → p (get_or xs j d) ≡ false)
+      → ((j : ℕ) → start ≤ j → j < upto → p (get_or xs j d) ≡ true)
+      → ((j : ℕ) → upto ≤ j → j < length xs → p (get_or xs j d) ≡ false)
+      → filter p xs ≡ take (upto - start) (drop start xs)
   filter_run xs zero upto o h early passes fails =
       let all : upto - 0 ≡ upto = omega arith in
       rw all (filter_front xs upto h (λ j k. passes j (omega arith) k) fails)
@@ -96,4 +107,6 @@ module _ {A : Type 0} (p : A → Bool) (d : A) where
   filter_run [] (suc start) (suc upto) o h early passes fails = absurd (omega arith)
   filter_run (x ∷ xs) (suc start) (suc upto) o h early passes fails =
       let less : suc upto - suc start ≡ upto - start = omega arith in
-      rw (early 0 (omega arith), less) (filter_run xs start upto (omega arith) (omega arith) (λ j k. early (suc j) (omega arith)) (λ j k l. passes (suc j) (omega arith) (omega arith)) (λ j k l. fails (suc j) (omega arith) (omega arith)))
+      rw (early 0 (omega arith), less) (filter_run xs start upto (omega arith) (omega arith)
+      (λ j k. early (suc j) (omega arith)) (λ j k l. passes (suc j) (omega arith) (omega arith))
+      (λ j k l. fails (suc j) (omega arith) (omega arith)))

@@ -1,3 +1,4 @@
+-- What is computed on literal bytes: the definitions that a test unfolds.
 use Rattle.std.specs.Prelude.{⊤}
 use Rattle.std.specs.Str.{is_utf8, chars}
 use lib.Utf8.{encode}
@@ -36,5 +37,13 @@ use Rattle.col_model.specs.Spelling.{column_bytes, keyed_length_bytes, key_table
 
 -- what a proof unfolds to compute a reading on literal bytes
 unfoldable pub col_model_on_literals : ⊤
-unfolding is_utf8 chars encode digits parts_by_first parts_by_second items groups group_bytes packed stats_of stats_at line bitpacked_values params_at linear_values blocks blockwise_values values64 trained_slope trained_line params_bytes linear_line linear_body cut_blocks block_line blocks_bytes blockwise_body bitpacked_body bitpacked_estimate linear_estimate blockwise_estimate chosen_codec coded_number ranges_from ranges_at address_footer_at coded_values values128 sorted_items distinct_items cut terms row_set row_offsets offset_counts_v1 shape counts number_rows term_column column key_of keyed_length key_table file_footer keys parts_of docs_between encode_with decode_pairs serde_json_on_literals numerical_type is_too_large written content_after picks joined_column merged line_spelled_by script_of report_of outcome_of_merge outcome gen_script hit_from sort_order column_bytes keyed_length_bytes key_table_bytes footer_bytes file_bytes
+unfolding is_utf8 chars encode digits parts_by_first parts_by_second items groups group_bytes packed stats_of
+    stats_at line bitpacked_values params_at linear_values blocks blockwise_values values64 trained_slope
+    trained_line params_bytes linear_line linear_body cut_blocks block_line blocks_bytes blockwise_body
+    bitpacked_body bitpacked_estimate linear_estimate blockwise_estimate chosen_codec coded_number ranges_from
+    ranges_at address_footer_at coded_values values128 sorted_items distinct_items cut terms row_set row_offsets
+    offset_counts_v1 shape counts number_rows term_column column key_of keyed_length key_table file_footer keys
+    parts_of docs_between encode_with decode_pairs serde_json_on_literals numerical_type is_too_large written
+    content_after picks joined_column merged line_spelled_by script_of report_of outcome_of_merge outcome gen_script
+    hit_from sort_order column_bytes keyed_length_bytes key_table_bytes footer_bytes file_bytes
 col_model_on_literals = tt

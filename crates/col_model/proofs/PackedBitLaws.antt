@@ -42,6 +42,7 @@ bit-below n w i j p q = omega (arith, mul-add-lt i w j n p q, mul_comm w n)
 byte-below : (b count : ℕ) → b < count → b / 8 < div_ceil count 8
 byte-below b count p = omega arith
 
+-- a packed list has the bits of its bytes
 pub packed-bits : PackedHasBits
 unfolding packed
 packed-bits bytes w n items all e i j p q =

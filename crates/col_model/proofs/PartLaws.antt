@@ -10,7 +10,11 @@ pub whole-columns : (ps : List PartColumn) (cs : List Column) → for_each whole
 whole-columns [] cs e = ap (map part_of_column) (same_Some [] cs e)
 whole-columns (p ∷ ps) cs e = by p.content refl (for_each whole_column ps) refl e (λ ys rest. whole-columns ps ys rest)
   where
-    by : (o : Option Content) → p.content ≡ o → (q : Option (List Column)) → for_each whole_column ps ≡ q → ((o >>= λ content. Some (record { name = p.name; column_type = p.column_type; content = content })) >>= λ (y : Column). q >>= λ ys. Some (y ∷ ys)) ≡ Some cs → ((ys : List Column) → for_each whole_column ps ≡ Some ys → ps ≡ map part_of_column ys) → p ∷ ps ≡ map part_of_column cs
+    by : (o : Option Content) → p.content ≡ o → (q : Option (List Column)) → for_each whole_column ps ≡ q
+        → ((o >>= λ content. Some (record { name = p.name; column_type = p.column_type; content = content })) >>=
+        λ (y : Column). q >>= λ ys. Some (y ∷ ys)) ≡ Some cs
+        → ((ys : List Column) → for_each whole_column ps ≡ Some ys → ps ≡ map part_of_column ys)
+        → p ∷ ps ≡ map part_of_column cs
     by None at q rest h later = cc
     by (Some content) at None rest h later = cc
     by (Some content) at (Some ys) rest h later =
@@ -21,9 +25,12 @@ whole-columns (p ∷ ps) cs e = by p.content refl (for_each whole_column ps) ref
 pub whole-table : (p : Part) (t : Table) → table_of_part p ≡ Some t → p ≡ part_of_table t
 whole-table p t e = by (for_each whole_column p.columns) refl e
   where
-    by : (q : Option (List Column)) → for_each whole_column p.columns ≡ q → (q >>= λ cs. Some (record { row_count = p.row_count; columns = cs })) ≡ Some t → p ≡ part_of_table t
+    by : (q : Option (List Column)) → for_each whole_column p.columns ≡ q
+        → (q >>= λ cs. Some (record { row_count = p.row_count; columns = cs })) ≡ Some t → p ≡ part_of_table t
     by None rest h = cc
-    by (Some cs) rest h = (λ i. record { row_count = p.row_count; columns = whole-columns p.columns cs rest i }) ∙ ap part_of_table (same_Some (record { row_count = p.row_count; columns = cs }) t h)
+    by (Some cs) rest h =
+        (λ i. record { row_count = p.row_count; columns = whole-columns p.columns cs rest i })
+        ∙ ap part_of_table (same_Some (record { row_count = p.row_count; columns = cs }) t h)
 
 -- the columns of a table, as parts of a file
 pub columns-whole : (cs : List Column) → for_each whole_column (map part_of_column cs) ≡ Some cs

@@ -7,6 +7,7 @@ use Rattle.col_model.specs.Refusal.{Refusal, ◌>>=◌, refuse_if, each_ok}
 pub err_not_ok : {A : Type 0} (e : Refusal) (y : A) → Err e ≡ Ok y → ⊥
 err_not_ok e y p = subst (λ r. T (is_ok r)) (sym p) tt
 
+-- two values that are the same answer are the same value
 pub same_Ok : {A : Type 0} (x y : A) → ◌≡◌ {A = Result A Refusal} (Ok x) (Ok y) → x ≡ y
 same_Ok {A} x y p = ap value p
   where
@@ -19,12 +20,15 @@ pub refuse_if-ok : {A : Type 0} (t : Bool) (e : Refusal) (f : ⊤ → Result A R
 refuse_if-ok true e f y p = absurd (err_not_ok e y p)
 refuse_if-ok false e f y p = p
 
-pub bind-ok : {A B : Type 0} (r : Result A Refusal) (f : A → Result B Refusal) (y : B) → (r >>= f) ≡ Ok y → (x : A) × (r ≡ Ok x) × (f x ≡ Ok y)
+-- where two steps in a row refuse nothing, the first gave something that the second goes on with
+pub bind-ok : {A B : Type 0} (r : Result A Refusal) (f : A → Result B Refusal) (y : B) → (r >>= f) ≡ Ok y
+    → (x : A) × (r ≡ Ok x) × (f x ≡ Ok y)
 bind-ok (Ok x) f y p = (x, refl, p)
 bind-ok (Err e) f y p = absurd (err_not_ok e y p)
 
 -- one more item of a list none of which is refused
-pub each-push : {A B : Type 0} (f : A → Result B Refusal) (xs : List A) (x : A) (ys : List B) (y : B) → each_ok f xs ≡ Ok ys → f x ≡ Ok y → each_ok f (xs ++ x ∷ []) ≡ Ok (ys ++ y ∷ [])
+pub each-push : {A B : Type 0} (f : A → Result B Refusal) (xs : List A) (x : A) (ys : List B) (y : B)
+    → each_ok f xs ≡ Ok ys → f x ≡ Ok y → each_ok f (xs ++ x ∷ []) ≡ Ok (ys ++ y ∷ [])
 each-push f [] x ys y e h = rw h (ap (λ ys. Ok (ys ++ y ∷ [])) (same_Ok [] ys e))
 each-push f (z ∷ xs) x ys y e h =
     let step = bind-ok (f z) (λ w. each_ok f xs >>= λ ws. Ok (w ∷ ws)) ys e in

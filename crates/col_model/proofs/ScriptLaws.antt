@@ -7,7 +7,8 @@ use Rattle.serde_json.specs.Read.{read}
 use Rattle.col_common.specs.Reading.{only_if}
 
 -- a piece that is a JSON text
-pub read-some : (piece : List ℕ) (d : Data) → IsUtf8 piece → read piece ≡ Some d → option_and_then read (only_if (is_utf8 piece) piece) ≡ Some d
+pub read-some : (piece : List ℕ) (d : Data) → IsUtf8 piece → read piece ≡ Some d
+    → option_and_then read (only_if (is_utf8 piece) piece) ≡ Some d
 read-some piece d u e = rw (is_utf8-from_IsUtf8 piece u) e
 
 -- a piece that is none

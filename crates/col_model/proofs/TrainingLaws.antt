@@ -11,6 +11,7 @@ pub line-below : (slope intercept x : ℕ) → line slope intercept x < 2 ^ 64
 unfolding line
 line-below slope intercept x = mod-lt (intercept + signed_32 (x * slope % 2 ^ 64 / 2 ^ 32)) (lit< tt)
 
+-- a difference that wraps at 2 ^ 64 is below it
 pub less_wrapped-below : (m n : ℕ) → less_wrapped m n < 2 ^ 64
 less_wrapped-below m n = mod-lt (m + (2 ^ 64 - n)) (lit< tt)
 
@@ -47,7 +48,8 @@ trained_slope-below first last steps =
     ]
 
 -- so do a trained slope and a trained intercept
-pub trained_line-below : (first last n : ℕ) (items : List (ℕ × ℕ)) → let l = trained_line first last n items in (l.0 < 2 ^ 64) × (l.1 < 2 ^ 64)
+pub trained_line-below : (first last n : ℕ) (items : List (ℕ × ℕ))
+    → let l = trained_line first last n items in (l.0 < 2 ^ 64) × (l.1 < 2 ^ 64)
 unfolding trained_line
 trained_line-below first last n items =
     let slope = trained_slope first last (n - 1) in

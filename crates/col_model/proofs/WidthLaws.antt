@@ -9,7 +9,8 @@ binary_digits-above zero n h = h
 binary_digits-above (suc k) n h =
     elim (cases_eq n 0) [
       | inl e ↦ rw (eq-eqb n 0 e) (omega arith)
-      | inr p ↦ rw (ne_eqb n 0 p, pow_more' (binary_digits k (n / 2))) (let later = binary_digits-above k (n / 2) (halved k n h) in omega (arith, later))
+      | inr p ↦ rw (ne_eqb n 0 p, pow_more' (binary_digits k (n / 2))) (let later =
+          binary_digits-above k (n / 2) (halved k n h) in omega (arith, later))
     ]
   where
     halved : (k n : ℕ) → n < 2 ^ suc k → n / 2 < 2 ^ k
@@ -18,6 +19,7 @@ binary_digits-above (suc k) n h =
     pow_more' : (j : ℕ) → 2 ^ (1 + j) ≡ 2 ^ j * 2
     pow_more' j = let e : 1 + j ≡ suc j = omega arith in rw e (pow-suc 2 j)
 
+-- a number below 2 ^ 64 fits into the bits that its width counts
 pub width-above : (n : ℕ) → n < 2 ^ 64 → n < 2 ^ width n
 width-above n h =
     elim (cases_lt n (2 ^ 56)) [

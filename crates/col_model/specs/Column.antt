@@ -61,8 +61,8 @@ number_rows bytes t version n = do
       (c, cut c.of_rows numbers)
 
 -- the rows with their cells
-abbrev pub content_of : List (List ℕ) → (ℕ → Cell) → Counts × List (List ℕ) → Content
-content_of found cell p =
+abbrev pub cut_content : List (List ℕ) → (ℕ → Cell) → Counts × List (List ℕ) → Content
+cut_content found cell p =
     record { cardinality = p.0.cardinality; terms = found; rows = map (map cell) p.1 }
 
 -- Dictionary, a column of ordinals below the term count, the dictionary's length.
@@ -72,12 +72,12 @@ term_column bytes t version n = do
   found ← terms parts.0
   p ← number_rows parts.1 t version n
   only_if (list_all (are_below (length found)) p.1)
-      (content_of found (term_cell found) p)
+      (cut_content found (term_cell found) p)
 
 -- What the bytes of a column of this type stand for, in a file of this version and row count.
 unfoldable pub column : List ℕ → ColumnType → ℕ → ℕ → Option Content
 column bytes t version n =
     let by_terms = term_column bytes t version n in
     let by_numbers =
-    number_rows bytes t version n >>= λ p. Some (content_of [] (number_cell t) p) in
+    number_rows bytes t version n >>= λ p. Some (cut_content [] (number_cell t) p) in
     if has_terms t then by_terms else by_numbers

@@ -3,7 +3,6 @@ use Rattle.std.specs.Prelude.{ℕ, ◌^◌, ◌==◌, ◌&&◌, ◌||◌, not, n
 use Rattle.std.specs.Str.{all_ascii_digits}
 use Rattle.std.specs.Str.Parse.{digits_value}
 use Rattle.col_common.specs.Reading.{only_if}
-use Rattle.col_model.specs.declared.limits.TheConstants.{MAX_SCRIPT_LEN}
 use Rattle.col_model.specs.GenScript.{gen_script}
 use Rattle.col_model.specs.Table.{Table}
 use Rattle.col_model.specs.File.{parts_of, part_of_table}
@@ -53,9 +52,9 @@ abbrev pub with_report : Bool → Script → Result Table Refusal → Outcome
 with_report short s (Ok t) = done t (report_of t s.finds short)
 with_report short s (Err e) = refused (status_of e)
 
--- the greatest length of a script
+-- the greatest length of a script, in bytes
 abbrev pub max_script_length : ℕ
-max_script_length = MAX_SCRIPT_LEN
+max_script_length = 16777216
 
 -- what a script comes to; none is a bad one
 abbrev pub script_outcome : Bool → List (List ℕ) → Option Script → Outcome

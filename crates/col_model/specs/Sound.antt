@@ -2,7 +2,7 @@
 use Rattle.std.specs.Prelude.{◌≡◌, ℕ, ◌<◌, ◌^◌, ◌==◌, nat_le, IsTrue, Bool, true, false, List, [], map, filter, length, bytes_eq, Some}
 use Rattle.std.specs.List.{list_all, list_any, AllByRecursion}
 use Rattle.col_common.specs.Reading.{IsBytes}
-use Rattle.col_common.specs.Ascending.{is_ascending}
+use Rattle.col_common.specs.Ascending.{are_below, is_ascending}
 use Rattle.col_model.specs.ColumnType.{is_numerical, has_terms}
 use Rattle.col_model.specs.Table.{Cell, number, text, Cardinality, full, optional, multivalued, Column, Table}
 use Rattle.col_model.specs.Keys.{Key, key_bytes, is_name}
@@ -24,13 +24,23 @@ abbrev pub is_among : List (List ℕ) → Cell → Bool
 is_among found (number z) = true
 is_among found (text s) = list_any (bytes_eq s) found
 
--- The column has n rows of its cardinality, with cells of its type. Its terms strictly ascend and
--- hold each text, and there are none but for str and bytes. It is within the limits.
+-- the numbers of a text are bytes
+abbrev pub are_bytes : List ℕ → Bool
+are_bytes s = are_below 256 s
+
+-- the cell is a number, or a text of bytes
+abbrev pub has_bytes : Cell → Bool
+has_bytes (number z) = true
+has_bytes (text s) = are_bytes s
+
+-- The column has n rows of its cardinality, with cells of its type. Its terms are bytes, strictly
+-- ascend and hold each text, and there are none but for str and bytes. It is within the limits.
 pub record IsSoundColumn (n : ℕ) (c : Column) : Type 0 where
   pub name : IsTrue (is_name c.name)
   pub row_count : length c.content.rows ≡ n
   pub cardinality : IsTrue (list_all (is_row_of c.content.cardinality) c.content.rows)
   pub cells : IsTrue (list_all (list_all (is_of_type c.column_type)) c.content.rows)
+  pub bytes : IsTrue (list_all are_bytes c.content.terms)
   pub ascending : IsTrue (is_ascending c.content.terms)
   pub among : IsTrue (list_all (list_all (is_among c.content.terms)) c.content.rows)
   pub without : has_terms c.column_type ≡ false → c.content.terms ≡ []

@@ -1,12 +1,12 @@
 -- The versions of the format. States docs/FORMAT.md, section 11.
 use Rattle.std.specs.Prelude.{ℕ, ◌==◌, ◌&&◌, Bool, List, ◌++◌, bytes_eq, Option}
 use Rattle.std.specs.Int.{w32, to_le_bytes}
-use Rattle.col_model.specs.declared.limits.TheConstants.{CURRENT_VERSION, MAGIC_BYTES}
+use Rattle.col_model.specs.declared.limits.TheConstants.{MAGIC_BYTES}
 use Rattle.col_common.specs.Reading.{◌>>=◌, only_if, le_number}
 
 -- the version that is written
 abbrev pub current_version : ℕ
-current_version = CURRENT_VERSION
+current_version = 2
 
 -- The versions that are read: 2 alone. Where version 1 is read too, this line becomes `is_version
 -- v = (v == 1) || (v == 2)`, and nothing else changes: `counts` has the indexes of version 1

@@ -14,11 +14,14 @@ pub record Collecting (P : List ℕ → Type 0) (left items : List ℕ) : Type 0
   pub collected : P found
   pub all : found ++ left ≡ items
 
+-- before the first item nothing is collected, and all items are left
 pub collecting-init : (P : List ℕ → Type 0) (left items : List ℕ) → P [] → left ≡ items → Collecting P left items
 collecting-init P left items p e = record { found = []; collected = p; all = e }
 
 -- one more
-pub collecting-step : (P Q : List ℕ → Type 0) (before after items : List ℕ) (x : ℕ) → ((xs : List ℕ) → P xs → Q (xs ++ x ∷ [])) → before ≡ x ∷ after → Collecting P before items → Collecting Q after items
+pub collecting-step : (P Q : List ℕ → Type 0) (before after items : List ℕ) (x : ℕ)
+    → ((xs : List ℕ) → P xs → Q (xs ++ x ∷ [])) → before ≡ x ∷ after → Collecting P before items
+    → Collecting Q after items
 collecting-step P Q before after items x more e c = record {
   found = c.found ++ x ∷ [];
   collected = more c.found c.collected;
@@ -26,7 +29,8 @@ collecting-step P Q before after items x more e c = record {
 }
 
 -- there is room for one more
-pub collecting-room : (P : List ℕ → Type 0) (before after items : List ℕ) (x : ℕ) → before ≡ x ∷ after → length items < 2 ^ 32 → Collecting P before items → (xs : List ℕ) × P xs × (length xs + 1 < 2 ^ 32)
+pub collecting-room : (P : List ℕ → Type 0) (before after items : List ℕ) (x : ℕ) → before ≡ x ∷ after
+    → length items < 2 ^ 32 → Collecting P before items → (xs : List ℕ) × P xs × (length xs + 1 < 2 ^ 32)
 collecting-room P before after items x e fits c =
     let count : length c.found + length before ≡ length items = sym (length-append c.found before) ∙ ap length c.all in
     let some : length before ≡ length after + 1 = ap length e ∙ omega arith in
@@ -41,14 +45,18 @@ pub record IsCollected (collector : Collected) (count : ℕ) (xs : List ℕ) : T
   pub is : collector ≡ collected_of xs
   pub count_is : count ≡ length xs
 
-pub collected-more : (old new : Collected) (m n x : ℕ) → ((xs : List ℕ) → old ≡ collected_of xs → new ≡ collected_of (xs ++ x ∷ [])) → n ≡ m + 1 → (xs : List ℕ) → IsCollected old m xs → IsCollected new n (xs ++ x ∷ [])
+-- what was collected of a list, with its count, takes one item more
+pub collected-more : (old new : Collected) (m n x : ℕ)
+    → ((xs : List ℕ) → old ≡ collected_of xs → new ≡ collected_of (xs ++ x ∷ [])) → n ≡ m + 1 → (xs : List ℕ)
+    → IsCollected old m xs → IsCollected new n (xs ++ x ∷ [])
 collected-more old new m n x more e xs c = record {
   is = more xs c.is;
   count_is = let k = length-append xs (x ∷ []) in omega (arith, k, c.count_is, e);
 }
 
 -- the collector counts as the count does
-pub collected-room : (s : Collected) (count : ℕ) (left items : List ℕ) → count < 2 ^ 32 → ¬ (count ≡ 2 ^ 32 - 1) → Collecting (IsCollected s count) left items → s.count + 1 < 2 ^ 32
+pub collected-room : (s : Collected) (count : ℕ) (left items : List ℕ) → count < 2 ^ 32 → ¬ (count ≡ 2 ^ 32 - 1)
+    → Collecting (IsCollected s count) left items → s.count + 1 < 2 ^ 32
 collected-room s count left items fits below c = omega (arith, collected-count s c.found c.collected.is, c.collected.count_is)
 
 -- each item is at most the greatest
@@ -57,7 +65,9 @@ unfolding stats_of
 fits-below xs top e fits = all_by (λ x p. omega (arith, p, e)) xs (fold-max 0 xs).1
 
 -- too many items, where one more comes at the last count
-pub too-many : (P : List ℕ → Type 0) (before after items : List ℕ) (x count : ℕ) → ((xs : List ℕ) → P xs → count ≡ length xs) → before ≡ x ∷ after → count ≡ 2 ^ 32 - 1 → Collecting P before items → 2 ^ 32 ≤ length items
+pub too-many : (P : List ℕ → Type 0) (before after items : List ℕ) (x count : ℕ)
+    → ((xs : List ℕ) → P xs → count ≡ length xs) → before ≡ x ∷ after → count ≡ 2 ^ 32 - 1
+    → Collecting P before items → 2 ^ 32 ≤ length items
 too-many P before after items x count counted e top c =
     let sum : length c.found + length before ≡ length items = sym (length-append c.found before) ∙ ap length c.all in
     let some : length before ≡ length after + 1 = ap length e ∙ omega arith in

@@ -12,7 +12,8 @@ use Rattle.col_model.proofs.StatsLaws.{map-map}
 
 -- ---- what holds of all values holds of those that were found
 
-found_each : {X : Type 0} (P : X → Type 0) (values : List X) (at : List ℕ) (read : List X) → All P values → map Some read ≡ map (slice_get values) at → AllByRecursion P read
+found_each : {X : Type 0} (P : X → Type 0) (values : List X) (at : List ℕ) (read : List X) → All P values
+    → map Some read ≡ map (slice_get values) at → AllByRecursion P read
 found_each P values at [] all e = tt
 found_each P values [] (x ∷ read) all e = absurd (omega (arith, ap length e))
 found_each P values (i ∷ at) (x ∷ read) all e =
@@ -22,13 +23,16 @@ found_each P values (i ∷ at) (x ∷ read) all e =
       found_each P values at read all later,
     )
 
-pub found_all : {X : Type 0} (P : X → Type 0) (values : List X) (at : List ℕ) (m : ℕ) (read rest : List X) → length read ≡ m → All P values → map Some read ≡ map (slice_get values) at → All P (take m (read ++ rest))
+-- what all values keep, those that are read at positions keep
+pub found_all : {X : Type 0} (P : X → Type 0) (values : List X) (at : List ℕ) (m : ℕ) (read rest : List X)
+    → length read ≡ m → All P values → map Some read ≡ map (slice_get values) at → All P (take m (read ++ rest))
 found_all P values at m read rest long all e =
     subst (All P) (sym (take_at read rest m long)) (All-from_recursion P read (found_each P values at read all e))
 
 -- ---- what they are seen as
 
-each_mapped : {X Y : Type 0} (f : X → Y) (values : List X) (at : List ℕ) → map (λ i. option_map f (slice_get values i)) at ≡ map (slice_get (map f values)) at
+each_mapped : {X Y : Type 0} (f : X → Y) (values : List X) (at : List ℕ)
+    → map (λ i. option_map f (slice_get values i)) at ≡ map (slice_get (map f values)) at
 each_mapped f values [] = refl
 each_mapped f values (i ∷ at) =
     let here = slice_get-map f values i in
@@ -36,7 +40,10 @@ each_mapped f values (i ∷ at) =
     λ j. sym here j ∷ later j
 
 -- those of a block that was read, behind which others may stand
-pub found_block : {X Y : Type 0} (f : X → Y) (values : List X) (at : List ℕ) (m : ℕ) (part : List (Option Y)) (read rest : List X) → length read ≡ m → part ≡ map (λ x. Some (f x)) (take m (read ++ rest)) → map Some read ≡ map (slice_get values) at → part ≡ map (slice_get (map f values)) at
+pub found_block :
+    {X Y : Type 0} (f : X → Y) (values : List X) (at : List ℕ) (m : ℕ) (part : List (Option Y)) (read rest : List X)
+    → length read ≡ m → part ≡ map (λ x. Some (f x)) (take m (read ++ rest))
+    → map Some read ≡ map (slice_get values) at → part ≡ map (slice_get (map f values)) at
 found_block f values at m part read rest long mapped is =
     mapped
     ∙ ap (map (λ x. Some (f x))) (take_at read rest m long)
@@ -45,27 +52,43 @@ found_block f values at m part read rest long mapped is =
     ∙ map-map (slice_get values) (option_map f) at
     ∙ each_mapped f values at
 
-pub seen_block : {X Y : Type 0} (f : X → Y) (values : List X) (at : List ℕ) (m : ℕ) (part : List Y) (read rest : List X) → length read ≡ m → part ≡ map f (take m (read ++ rest)) → map Some read ≡ map (slice_get values) at → map Some part ≡ map (slice_get (map f values)) at
+-- values that are read at positions and turned are the turned values there
+pub seen_block :
+    {X Y : Type 0} (f : X → Y) (values : List X) (at : List ℕ) (m : ℕ) (part : List Y) (read rest : List X)
+    → length read ≡ m → part ≡ map f (take m (read ++ rest)) → map Some read ≡ map (slice_get values) at
+    → map Some part ≡ map (slice_get (map f values)) at
 seen_block f values at m part read rest long mapped is =
     found_block f values at m (map Some part) read rest long (ap (map Some) mapped ∙ map-map f Some (take m (read ++ rest))) is
 
 -- ---- a block more
 
-behind : {Y : Type 0} (g : ℕ → Option Y) (indexes : List ℕ) (done m k : ℕ) (front part : List (Option Y)) → k ≡ m → front ≡ map g (take done indexes) → part ≡ map g (take k (drop done indexes)) → front ++ part ≡ map g (take (done + m) indexes)
+behind : {Y : Type 0} (g : ℕ → Option Y) (indexes : List ℕ) (done m k : ℕ) (front part : List (Option Y)) → k ≡ m
+    → front ≡ map g (take done indexes) → part ≡ map g (take k (drop done indexes))
+    → front ++ part ≡ map g (take (done + m) indexes)
 behind g indexes done m k front part count before next =
     ap (λ ys. ys ++ part) before
     ∙ ap (λ ys. map g (take done indexes) ++ ys) (next ∙ ap (λ n. map g (take n (drop done indexes))) count)
     ∙ sym (map-append g (take done indexes) (take m (drop done indexes)))
     ∙ ap (map g) (sym (take-add done m indexes))
 
-written : {Y : Type 0} (done m : ℕ) (output part : List Y) → done + m ≤ length output → length part ≡ m → take (done + m) (put_mid done (done + m - done) output part) ≡ take done output ++ part
-written done m output part room long = take-put_mid done (done + m - done) output part (done + m) (ap (λ n. done + n) (sym long)) (omega (arith, room))
+written : {Y : Type 0} (done m : ℕ) (output part : List Y) → done + m ≤ length output → length part ≡ m
+    → take (done + m) (put_mid done (done + m - done) output part) ≡ take done output ++ part
+written done m output part room long =
+    take-put_mid done (done + m - done) output part (done + m) (ap (λ n. done + n) (sym long)) (omega (arith, room))
 
-pub found_more : {Y : Type 0} (g : ℕ → Option Y) (indexes : List ℕ) (done m k : ℕ) (output part : List (Option Y)) → k ≡ m → done + m ≤ length output → length part ≡ m → part ≡ map g (take k (drop done indexes)) → take done output ≡ map g (take done indexes) → take (done + m) (put_mid done (done + m - done) output part) ≡ map g (take (done + m) indexes)
+-- a block of answers put behind those that are done is a block more that is done
+pub found_more : {Y : Type 0} (g : ℕ → Option Y) (indexes : List ℕ) (done m k : ℕ) (output part : List (Option Y))
+    → k ≡ m → done + m ≤ length output → length part ≡ m → part ≡ map g (take k (drop done indexes))
+    → take done output ≡ map g (take done indexes)
+    → take (done + m) (put_mid done (done + m - done) output part) ≡ map g (take (done + m) indexes)
 found_more g indexes done m k output part count room long next before =
     written done m output part room long ∙ behind g indexes done m k (take done output) part count before next
 
-pub seen_more : {Y : Type 0} (g : ℕ → Option Y) (indexes : List ℕ) (done m k : ℕ) (output part : List Y) → k ≡ m → done + m ≤ length output → length part ≡ m → map Some part ≡ map g (take k (drop done indexes)) → map Some (take done output) ≡ map g (take done indexes) → map Some (take (done + m) (put_mid done (done + m - done) output part)) ≡ map g (take (done + m) indexes)
+-- a block of values put behind those that are done is a block more that is done
+pub seen_more : {Y : Type 0} (g : ℕ → Option Y) (indexes : List ℕ) (done m k : ℕ) (output part : List Y) → k ≡ m
+    → done + m ≤ length output → length part ≡ m → map Some part ≡ map g (take k (drop done indexes))
+    → map Some (take done output) ≡ map g (take done indexes)
+    → map Some (take (done + m) (put_mid done (done + m - done) output part)) ≡ map g (take (done + m) indexes)
 seen_more g indexes done m k output part count room long next before =
     ap (map Some) (written done m output part room long)
     ∙ map-append Some (take done output) part

@@ -32,16 +32,16 @@ impl<T: MonotonicallyMappableToU64 + Default> NumValues<T> {
     ghost use Rattle.col_values.specs.Monotonic.{AllMapped};
     ghost use Rattle.col_numbers.specs.NumValues.{num_values_of, IsLow, IsHigh, HasExactBounds};
 
-    /// Each value is one of its type, and so is each bound of values; the bounds are exact.
-    pub fn tell(&self)
+    /// That each value is one of its type, and so is each bound of values; the bounds are exact.
+    pub fn values_are_in_type(&self)
         ensures values { AllMapped T.in_type (num_values_of self.now)
             (IsLow T.partial_cmp T.is_default self.now)
             (IsHigh T.partial_cmp T.is_default self.now) }
         ensures bounds { HasExactBounds T.partial_cmp T.is_default self.now }
     {
         match self {
-            NumValues::Read(values) => values.tell(),
-            NumValues::Coerced(values) => values.tell(),
+            NumValues::Read(values) => values.values_are_in_type(),
+            NumValues::Coerced(values) => values.values_are_in_type(),
             NumValues::Empty(_) => {}
         }
     }

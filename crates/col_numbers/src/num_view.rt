@@ -77,8 +77,8 @@ where
         (self.values, self.mapping)
     }
 
-    /// Each value is one of its type.
-    pub fn tell(&self)
+    /// That each value is one of its type.
+    pub fn values_are_in_type(&self)
         ensures { All (Passes T.in_type) self.now }
     {
         let _mapping = &self.mapping;

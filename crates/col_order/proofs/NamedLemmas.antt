@@ -33,7 +33,9 @@ unfolding named_rows
 named-is xs s n k h = get_or-map-range_with_len (λ k. list_any (is_row s k) xs) 0 n k k false h (omega arith)
 
 -- one address more, at any row
-row-more : (xs : List (ℕ × ℕ)) (s k segment row : ℕ) → list_any (is_row s k) (xs ++ ((segment, row) ∷ [])) ≡ (list_any (is_row s k) xs || (eqb segment s && eqb row k))
+row-more : (xs : List (ℕ × ℕ)) (s k segment row : ℕ)
+    → list_any (is_row s k) (xs ++ ((segment, row) ∷ []))
+    ≡ (list_any (is_row s k) xs || (eqb segment s && eqb row k))
 row-more xs s k segment row = grind (arith, list_any-append (is_row s k) xs ((segment, row) ∷ []))
 
 -- at its own row
@@ -45,19 +47,25 @@ row-other : (xs : List (ℕ × ℕ)) (s k row : ℕ) → k ≢ row → list_any 
 row-other xs s k row other = grind (arith, row-more xs s k s row, ne_eqb row k)
 
 -- at a row of another segment
-row-apart : (xs : List (ℕ × ℕ)) (s k segment row : ℕ) → s ≢ segment → list_any (is_row s k) (xs ++ ((segment, row) ∷ [])) ≡ list_any (is_row s k) xs
+row-apart : (xs : List (ℕ × ℕ)) (s k segment row : ℕ) → s ≢ segment
+    → list_any (is_row s k) (xs ++ ((segment, row) ∷ [])) ≡ list_any (is_row s k) xs
 row-apart xs s k segment row other = grind (arith, row-more xs s k segment row, ne_eqb segment s)
 
 -- flags by another spelling
-named_are : (xs : List (ℕ × ℕ)) (s n : ℕ) (flags : List Bool) → length flags ≡ n → ((k : ℕ) → k < n → list_any (is_row s k) xs ≡ get_or flags k false) → named_rows xs s n ≡ flags
+named_are : (xs : List (ℕ × ℕ)) (s n : ℕ) (flags : List Bool) → length flags ≡ n
+    → ((k : ℕ) → k < n → list_any (is_row s k) xs ≡ get_or flags k false) → named_rows xs s n ≡ flags
 named_are xs s n flags long each =
-    ext_get_or false (named_rows xs s n) flags (length-named xs s n ∙ sym long) (λ k h. let within : k < n = omega (arith, length-named xs s n) in named-is xs s n k within ∙ each k within)
+    ext_get_or false (named_rows xs s n) flags (length-named xs s n ∙ sym long)
+    (λ k h. let within : k < n = omega (arith, length-named xs s n) in named-is xs s n k within ∙ each k within)
 
 -- the flags with one set, row by row
-set_row : (xs : List (ℕ × ℕ)) (s n row k : ℕ) → row < n → k < n → (k ≡ row) ⊎ (k ≢ row) → list_any (is_row s k) (xs ++ ((s, row) ∷ [])) ≡ get_or (set (named_rows xs s n) row true) k false
+set_row : (xs : List (ℕ × ℕ)) (s n row k : ℕ) → row < n → k < n → (k ≡ row) ⊎ (k ≢ row)
+    → list_any (is_row s k) (xs ++ ((s, row) ∷ [])) ≡ get_or (set (named_rows xs s n) row true) k false
 set_row xs s n row k inside within (inl same) =
-    let put : get_or (set (named_rows xs s n) row true) row false ≡ true = get_or-set_same (named_rows xs s n) row true false (omega (arith, length-named xs s n)) in
-    ap (λ i. list_any (is_row s k) (xs ++ ((s, i) ∷ []))) (sym same) ∙ (row-same xs s k ∙ (sym put ∙ ap (λ i. get_or (set (named_rows xs s n) row true) i false) (sym same)))
+    let put : get_or (set (named_rows xs s n) row true) row false ≡ true =
+    get_or-set_same (named_rows xs s n) row true false (omega (arith, length-named xs s n)) in
+    ap (λ i. list_any (is_row s k) (xs ++ ((s, i) ∷ []))) (sym same)
+    ∙ (row-same xs s k ∙ (sym put ∙ ap (λ i. get_or (set (named_rows xs s n) row true) i false) (sym same)))
 set_row xs s n row k inside within (inr other) =
     row-other xs s k row other ∙ sym (get_or-set_other (named_rows xs s n) row k true false other ∙ named-is xs s n k within)
 

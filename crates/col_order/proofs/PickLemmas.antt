@@ -30,6 +30,7 @@ pub length-all_rows : (counts : List ℕ) → length (all_rows counts) ≡ sum c
 length-all_rows counts = length-rows_from 0 counts
 
 -- a shuffle picks the rows that it names
-pub picks-shuffle : (counts : List ℕ) (addresses : List (ℕ × ℕ)) → list_all (has_row counts) addresses ≡ true → picks (shuffle counts addresses) counts ≡ Some addresses
+pub picks-shuffle : (counts : List ℕ) (addresses : List (ℕ × ℕ)) → list_all (has_row counts) addresses ≡ true
+    → picks (shuffle counts addresses) counts ≡ Some addresses
 unfolding picks
 picks-shuffle counts addresses h = grind (arith, nat_list_eq_equiv.refl counts)

@@ -10,13 +10,19 @@ use Rattle.col_model.specs.Order.{has_row}
 use Rattle.col_order.specs.Orders.{address_of, shuffle_refusal}
 
 -- a row that no segment has
-pub refused-row : (counts : List ℕ) (addrs : List RowAddr) → list_all (λ a. has_row counts (address_of a)) addrs ≡ false → shuffle_refusal counts (map address_of addrs) ≡ Some BadOrder
+pub refused-row : (counts : List ℕ) (addrs : List RowAddr)
+    → list_all (λ a. has_row counts (address_of a)) addrs ≡ false
+    → shuffle_refusal counts (map address_of addrs) ≡ Some BadOrder
 refused-row counts addrs h = grind (arith, list_all-map (has_row counts) address_of addrs)
 
 -- too many rows
-pub refused-many : (counts : List ℕ) (addrs : List RowAddr) → list_all (λ a. has_row counts (address_of a)) addrs ≡ true → 2 ^ 32 ≤ length addrs → shuffle_refusal counts (map address_of addrs) ≡ Some TooLarge
+pub refused-many : (counts : List ℕ) (addrs : List RowAddr)
+    → list_all (λ a. has_row counts (address_of a)) addrs ≡ true → 2 ^ 32 ≤ length addrs
+    → shuffle_refusal counts (map address_of addrs) ≡ Some TooLarge
 refused-many counts addrs h many = grind (arith, nat_tests, list_all-map (has_row counts) address_of addrs, length-map addrs address_of)
 
 -- neither
-pub refused-none : (counts : List ℕ) (addrs : List RowAddr) → list_all (λ a. has_row counts (address_of a)) addrs ≡ true → length addrs < 2 ^ 32 → shuffle_refusal counts (map address_of addrs) ≡ None
+pub refused-none : (counts : List ℕ) (addrs : List RowAddr)
+    → list_all (λ a. has_row counts (address_of a)) addrs ≡ true → length addrs < 2 ^ 32
+    → shuffle_refusal counts (map address_of addrs) ≡ None
 refused-none counts addrs h few = grind (arith, nat_tests, list_all-map (has_row counts) address_of addrs, length-map addrs address_of)

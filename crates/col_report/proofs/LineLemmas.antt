@@ -17,7 +17,8 @@ length-cells cell [] = refl
 length-cells cell (x ∷ xs) = ap suc (length-cells cell xs)
 
 -- a list that is cut whole has as many cells as values
-cut-counted : {T : Type 0} (cell : T → Cell) (ks : List ℕ) (xs : List T) → sum ks ≡ length xs → length xs ≡ cell_count (map (map cell) (cut ks xs))
+cut-counted : {T : Type 0} (cell : T → Cell) (ks : List ℕ) (xs : List T) → sum ks ≡ length xs
+    → length xs ≡ cell_count (map (map cell) (cut ks xs))
 unfolding cut
 cut-counted cell [] xs e = sym e
 cut-counted cell (k ∷ ks) xs e =
@@ -25,7 +26,16 @@ cut-counted cell (k ∷ ks) xs e =
     let fits : k ≤ length xs = omega arith in
     let front : length (take k xs) ≡ k = length-take k xs ∙ (let f : min k (length xs) ≡ k = omega arith in f) in
     let rest = cut-counted cell ks (drop k xs) (let d = length-drop k xs in omega arith) in
-    omega (arith, cell_count-cons (map cell (take k xs)) (map (map cell) (cut ks (drop k xs))), length-cells cell (take k xs), front, rest, length-drop k xs, s, e)
+    omega (
+      arith,
+      cell_count-cons (map cell (take k xs)) (map (map cell) (cut ks (drop k xs))),
+      length-cells cell (take k xs),
+      front,
+      rest,
+      length-drop k xs,
+      s,
+      e,
+    )
 
 sum-zeros : (m : ℕ) → sum (replicate m 0) ≡ 0
 sum-zeros zero = refl
@@ -35,7 +45,9 @@ sum-ones : (m : ℕ) → sum (replicate m 1) ≡ m
 sum-ones zero = refl
 sum-ones (suc m) = sum-cons 1 (replicate m 1) ∙ (let more : 1 + sum (replicate m 1) ≡ suc m = omega (arith, sum-ones m) in more)
 
-pub cells-counted : {T : Type 0} (cell : T → Cell) (s : Shape) (xs : List T) → IsCounted s (length xs) → length xs ≡ cell_count (map (map cell) (rows_by s xs))
+-- there are as many values as cells in their rows
+pub cells-counted : {T : Type 0} (cell : T → Cell) (s : Shape) (xs : List T) → IsCounted s (length xs)
+    → length xs ≡ cell_count (map (map cell) (rows_by s xs))
 unfolding rows_by
 cells-counted cell (empty_shape m) xs none = cut-counted cell (replicate m 0) xs (sum-zeros m ∙ sym none)
 cells-counted cell full_shape xs any = cut-counted cell (replicate (length xs) 1) xs (sum-ones (length xs))
@@ -43,10 +55,13 @@ cells-counted cell (optional_shape cs) xs all = cut-counted cell cs xs all
 cells-counted cell (multivalued_shape cs) xs all = cut-counted cell cs xs all
 
 -- the line of a column alone, in a short report
-pub column-short : (a b : List ℕ) (c : Column) (line : Data) (short : Bool) → short ≡ true → line ≡ column_line c → Prints a b (line ∷ []) → Prints a b (column_lines short c)
+pub column-short : (a b : List ℕ) (c : Column) (line : Data) (short : Bool) → short ≡ true → line ≡ column_line c
+    → Prints a b (line ∷ []) → Prints a b (column_lines short c)
 column-short a b c line short is same printed = rw is (rw same at printed)
 
 -- and with its rows
-pub column-long : (a b d : List ℕ) (c : Column) (line : Data) (short : Bool) → short ≡ false → line ≡ column_line c → Prints a b (line ∷ []) → Prints b d (filled_lines c.column_type (enumerate_from 0 c.content.rows)) → Prints a d (column_lines short c)
+pub column-long : (a b d : List ℕ) (c : Column) (line : Data) (short : Bool) → short ≡ false → line ≡ column_line c
+    → Prints a b (line ∷ []) → Prints b d (filled_lines c.column_type (enumerate_from 0 c.content.rows))
+    → Prints a d (column_lines short c)
 unfolding filled_lines
 column-long a b d c line short is same printed rows = rw is (Prints-then a b d (column_line c ∷ []) (row_lines c) (rw same at printed) rows)

@@ -7,15 +7,17 @@ use Rattle.col_model.specs.ColumnType.{ColumnType, type_code}
 use Rattle.col_model.specs.Keys.{FileKeys}
 use Rattle.col_model.specs.Table.{Content, Column}
 use Rattle.col_file.specs.Handles.{entry_typed}
-use Rattle.col_report.specs.Opened.{opened, column_typed, AreRead}
+use Rattle.col_report.specs.Opened.{opened, column_typed, ColumnsAreRead}
 use Rattle.col_report.specs.declared.open.NamedColumn.{NamedColumn}
 use Rattle.col_report.proofs.ReadLemmas.{place-read, find-passes}
 
 abbrev contents : Option Column → Option Content
 contents o = option_map (λ c. c.content) o
 
-module _ (bytes : List ℕ) (k : FileKeys) (cs : List NamedColumn) (shown name : List ℕ) (u t : ColumnType) (read : AreRead bytes k cs) (named : shown ≡ name) (typed : u ≡ t) where
-  of-place : (place : Option ℕ) → option_and_then (slice_get k.entries) place ≡ entry_typed shown u k.entries → option_and_then (slice_get (map opened cs)) place ≡ column_typed name t (map opened cs)
+module _ (bytes : List ℕ) (k : FileKeys) (cs : List NamedColumn) (shown name : List ℕ) (u t : ColumnType)
+    (read : ColumnsAreRead bytes k cs) (named : shown ≡ name) (typed : u ≡ t) where
+  of-place : (place : Option ℕ) → option_and_then (slice_get k.entries) place ≡ entry_typed shown u k.entries
+      → option_and_then (slice_get (map opened cs)) place ≡ column_typed name t (map opened cs)
   of-place place is = place-read bytes k name t (map opened cs) place read (is ∙ ap₂ (λ n t. entry_typed n t k.entries) named typed)
 
   -- no entry has the name and the type

@@ -36,11 +36,15 @@ unfolding Spells
 false_spelled a b v is e = rw is e
 
 -- an address, by its octets
-pub octets-spelled : {E : Type 0} (r : Result (Unit {0}) E) (a b octets : List ℕ) (m n : ℕ) → m ≡ n → octets ≡ to_be_bytes w128 m → OnOk r (Spells a b (string (encode_lower octets))) → OnOk r (Spells a b (cell_data types.ip (unsigned_cell n)))
-octets-spelled r a b octets m n same is spelled = subst (λ s. OnOk r (Spells a b (string (encode_lower s)))) (is ∙ ap (to_be_bytes w128) same) spelled
+pub octets-spelled : {E : Type 0} (r : Result (Unit {0}) E) (a b octets : List ℕ) (m n : ℕ) → m ≡ n
+    → octets ≡ to_be_bytes w128 m → OnOk r (Spells a b (string (encode_lower octets)))
+    → OnOk r (Spells a b (cell_data types.ip (unsigned_cell n)))
+octets-spelled r a b octets m n same is spelled =
+    subst (λ s. OnOk r (Spells a b (string (encode_lower s)))) (is ∙ ap (to_be_bytes w128) same) spelled
 
 -- bytes that aren't UTF-8
-pub digits-spelled : (a b c d : List ℕ) (s : List ℕ) → b ≡ a ++ codes "[\"hex\"," → Spells b c (string (encode_lower s)) → d ≡ c ++ 93 ∷ [] → Spells a d (digits_data s)
+pub digits-spelled : (a b c d : List ℕ) (s : List ℕ) → b ≡ a ++ codes "[\"hex\","
+    → Spells b c (string (encode_lower s)) → d ≡ c ++ 93 ∷ [] → Spells a d (digits_data s)
 unfolding Spells escape_byte
 digits-spelled a b c d s one two three = rw (three, two, one) (simp append_assoc)
 
@@ -49,6 +53,7 @@ pub text-spelled : (a b t s : List ℕ) → t ≡ s → IsUtf8 s → b ≡ a ++ 
 unfolding Spells
 text-spelled a b t s same utf8 e = rw (is_utf8-from_IsUtf8 s utf8) (e ∙ ap (λ t. a ++ quoted t) same)
 
+-- a text that isn't UTF-8 is spelled by its digits
 pub other-spelled : (a b s : List ℕ) → (IsUtf8 s → ⊥) → Spells a b (digits_data s) → Spells a b (text_data s)
 other-spelled a b s other e = by (is_utf8 s) (λ is. other (IsUtf8-from_is_utf8 s is))
   where
@@ -57,7 +62,8 @@ other-spelled a b s other e = by (is_utf8 s) (λ is. other (IsUtf8-from_is_utf8 
     by false never = e
 
 -- a writer behind some bytes writes a text there
-pub text-quoted : (a before b s : List ℕ) (ts : List Token) → before ≡ a → b ≡ before ++ print ts → ts ≡ tokens.string s ∷ [] → b ≡ a ++ quoted s
+pub text-quoted : (a before b s : List ℕ) (ts : List Token) → before ≡ a → b ≡ before ++ print ts
+    → ts ≡ tokens.string s ∷ [] → b ≡ a ++ quoted s
 unfolding print_from
 text-quoted a before b s ts is_front is_all is_one =
     let text : print (tokens.string s ∷ []) ≡ quoted s = append-nil (quoted s) in

@@ -29,8 +29,8 @@ abbrev pub table_opened : ℕ → List NamedColumn → Table
 table_opened n cs = record { row_count = n; columns = map opened cs }
 
 -- columns are those that the bytes of a file stand for
-abbrev pub AreRead : List ℕ → FileKeys → List NamedColumn → Type 0
-AreRead bytes k cs = for_each (whole_entry bytes k) k.entries ≡ Some (map opened cs)
+abbrev pub ColumnsAreRead : List ℕ → FileKeys → List NamedColumn → Type 0
+ColumnsAreRead bytes k cs = for_each (whole_entry bytes k) k.entries ≡ Some (map opened cs)
 
 -- the column of a name and a type
 abbrev pub column_typed : List ℕ → ColumnType → List Column → Option Column

@@ -2,7 +2,7 @@
 ghost use Rattle.std.specs.Prelude.{◌≡◌, ◌∷◌, ◌++◌, [], map, string_bytes, Some, OnOk};
 ghost use Rattle.serde_json.specs.Data.{null};
 ghost use Rattle.col_dynamic.specs.Dynamic.{type_of, content_of};
-ghost use Rattle.col_find.specs.Finds as finds;
+ghost use Rattle.col_lines.specs.Finds as finds;
 ghost use Rattle.col_model.specs.Report.{count_data, list_data, Prints};
 ghost use Rattle.col_report.specs.Printed.{Spells, more_text};
 ghost use Rattle.col_report.specs.Reported.{docs_data, found_in, found_line, find_head};
@@ -12,7 +12,7 @@ use crate::text::{push_number, push_quoted};
 use crate::words::type_word;
 use col_common::DocId;
 use col_dynamic::DynamicColumn;
-use col_find::Find;
+use col_lines::Find;
 use std::alloc::{AllocError, Global};
 
 // Appends the line of a lookup in a column of its type.
@@ -24,7 +24,7 @@ pub(crate) fn push_find(
     docs: &mut Vec<DocId>,
     out: &mut Vec<u8>,
 ) -> Result<(), AllocError>
-    requires { type_of column.now ≡ finds.type_of find.now.ends }
+    requires { type_of column.now ≡ finds.ends_type find.now.ends }
     ensures { OnOk result (Prints out.old.items out.new.items (found_line (finds.find_of find.now)
         (found_in short (finds.find_of find.now) (Some (content_of column.now))) ∷ [])) }
 {
@@ -47,7 +47,7 @@ pub(crate) fn push_absent(alloc: Global, find: &Find, out: &mut Vec<u8>) -> Resu
 // Appends the line of a lookup up to what it finds.
 fn push_find_head(alloc: Global, find: &Find, out: &mut Vec<u8>) -> Result<(), AllocError>
     ensures { OnOk result (out.new.items ≡ out.old.items
-        ++ find_head (string_bytes find.now.name) (finds.type_of find.now.ends)) }
+        ++ find_head (string_bytes find.now.name) (finds.ends_type find.now.ends)) }
 {
     out.extend_from_slice(b"[\"find\",")?;
     push_quoted(alloc, out, &find.name)?;
@@ -65,7 +65,7 @@ fn push_found(
     docs: &mut Vec<DocId>,
     out: &mut Vec<u8>,
 ) -> Result<(), AllocError>
-    requires { type_of column.now ≡ finds.type_of find.now.ends }
+    requires { type_of column.now ≡ finds.ends_type find.now.ends }
     ensures { OnOk result (Spells out.old.items out.new.items
         (found_in short (finds.find_of find.now) (Some (content_of column.now)))) }
 {

@@ -2,7 +2,7 @@
 ghost use Rattle.std.specs.Prelude.{◌≡◌, map, IfOk, OnOk};
 ghost use Rattle.std.specs.List.{enumerate_from};
 ghost use Rattle.serde_json.specs.View.{view};
-ghost use Rattle.col_column.specs.Columns.{rows_in};
+ghost use Rattle.col_column.specs.Columns.{rows_of_values};
 ghost use Rattle.col_dynamic.specs.Dynamic.{type_of, content_of};
 ghost use Rattle.col_model.specs.ColumnType as types;
 ghost use Rattle.col_model.specs.Limits.{cell_count};
@@ -73,7 +73,7 @@ where
     T: PartialOrd + Copy,
     V: ColumnValues<T>,
     ensures { (cell : T → Cell) →
-        result ≡ cell_count (map (map cell) (rows_in V.values column.now)) }
+        result ≡ cell_count (map (map cell) (rows_of_values V.values column.now)) }
 {
     column.values_are_counted();
     column.values().num_vals()

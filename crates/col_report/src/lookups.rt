@@ -4,7 +4,7 @@ ghost use Rattle.col_column.specs.Columns.{content_seen};
 ghost use Rattle.col_column.specs.IpValues.{ip_values_of};
 ghost use Rattle.col_common.specs.Replacing.{Replaces};
 ghost use Rattle.col_dynamic.specs.Dynamic.{type_of, content_of};
-ghost use Rattle.col_find.specs.Finds as finds;
+ghost use Rattle.col_lines.specs.Finds as finds;
 ghost use Rattle.col_model.specs.ColumnType as types;
 ghost use Rattle.col_model.specs.Lookup.{docs_between};
 ghost use Rattle.col_model.specs.Table.{number};
@@ -15,7 +15,7 @@ ghost use Rattle.col_types.specs.Cells.{unsigned_cell, bool_cell};
 use col_column::{Column, IpColumn, NumColumn, lookups_are_those_of_cells};
 use col_common::{ColumnarError, DateTime, DocId};
 use col_dynamic::DynamicColumn;
-use col_find::{Ends, Find};
+use col_lines::{Ends, Find};
 use col_text::{BytesColumn, StrColumn};
 use col_types::HasAssociatedColumnType;
 use col_values::ColumnValues;
@@ -27,7 +27,7 @@ pub(crate) fn find_docs(
     find: &Find,
     docs: &mut Vec<DocId>,
 ) -> Result<(), ColumnarError>
-    requires { type_of column.now ≡ finds.type_of find.now.ends }
+    requires { type_of column.now ≡ finds.ends_type find.now.ends }
     ensures { Replaces result docs.new.items (docs_between (content_of column.now)
         (finds.low_of find.now.ends) (finds.high_of find.now.ends) find.now.from find.now.to) }
 {
@@ -49,7 +49,7 @@ fn find_flags(
     selected: Range<DocId>,
     docs: &mut Vec<DocId>,
 ) -> Result<(), ColumnarError>
-    requires { types.bool ≡ finds.type_of ends.now }
+    requires { types.bool ≡ finds.ends_type ends.now }
     ensures { Replaces result docs.new.items (docs_between
         (content_seen [] bool_cell column.now.shape (num_values_of column.now.values))
         (finds.low_of ends.now) (finds.high_of ends.now) selected.start selected.end) }
@@ -66,7 +66,7 @@ fn find_signed(
     selected: Range<DocId>,
     docs: &mut Vec<DocId>,
 ) -> Result<(), ColumnarError>
-    requires { types.i64 ≡ finds.type_of ends.now }
+    requires { types.i64 ≡ finds.ends_type ends.now }
     ensures { Replaces result docs.new.items (docs_between
         (content_seen [] number column.now.shape (num_values_of column.now.values))
         (finds.low_of ends.now) (finds.high_of ends.now) selected.start selected.end) }
@@ -83,7 +83,7 @@ fn find_unsigned(
     selected: Range<DocId>,
     docs: &mut Vec<DocId>,
 ) -> Result<(), ColumnarError>
-    requires { types.u64 ≡ finds.type_of ends.now }
+    requires { types.u64 ≡ finds.ends_type ends.now }
     ensures { Replaces result docs.new.items (docs_between
         (content_seen [] unsigned_cell column.now.shape (num_values_of column.now.values))
         (finds.low_of ends.now) (finds.high_of ends.now) selected.start selected.end) }
@@ -100,7 +100,7 @@ fn find_addresses(
     selected: Range<DocId>,
     docs: &mut Vec<DocId>,
 ) -> Result<(), ColumnarError>
-    requires { types.ip ≡ finds.type_of ends.now }
+    requires { types.ip ≡ finds.ends_type ends.now }
     ensures { Replaces result docs.new.items (docs_between
         (content_seen [] unsigned_cell column.now.shape (ip_values_of column.now.values))
         (finds.low_of ends.now) (finds.high_of ends.now) selected.start selected.end) }
@@ -117,7 +117,7 @@ fn find_times(
     selected: Range<DocId>,
     docs: &mut Vec<DocId>,
 ) -> Result<(), ColumnarError>
-    requires { types.datetime ≡ finds.type_of ends.now }
+    requires { types.datetime ≡ finds.ends_type ends.now }
     ensures { Replaces result docs.new.items (docs_between
         (content_seen [] number column.now.shape (num_values_of column.now.values))
         (finds.low_of ends.now) (finds.high_of ends.now) selected.start selected.end) }
@@ -134,7 +134,7 @@ fn find_bytes(
     selected: Range<DocId>,
     docs: &mut Vec<DocId>,
 ) -> Result<(), ColumnarError>
-    requires { types.bytes ≡ finds.type_of ends.now }
+    requires { types.bytes ≡ finds.ends_type ends.now }
     ensures { Replaces result docs.new.items (docs_between (texts_content column.now)
         (finds.low_of ends.now) (finds.high_of ends.now) selected.start selected.end) }
 {
@@ -150,7 +150,7 @@ fn find_texts(
     selected: Range<DocId>,
     docs: &mut Vec<DocId>,
 ) -> Result<(), ColumnarError>
-    requires { types.str ≡ finds.type_of ends.now }
+    requires { types.str ≡ finds.ends_type ends.now }
     ensures { Replaces result docs.new.items (docs_between (texts_content column.now)
         (finds.low_of ends.now) (finds.high_of ends.now) selected.start selected.end) }
 {

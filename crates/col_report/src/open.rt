@@ -1,6 +1,6 @@
 //! Opens the columns of a file.
-ghost use Rattle.std.specs.Prelude.{◌≡◌, true, map, string_bytes};
-ghost use Rattle.col_file.specs.Files.{Answers};
+ghost use Rattle.std.specs.Prelude.{◌≡◌, true, length, map, string_bytes};
+ghost use Rattle.col_file.specs.Files.{AnswersForHandle};
 ghost use Rattle.col_file.specs.Handles.{is_entry};
 ghost use Rattle.col_file.specs.Readers.{Reads};
 ghost use Rattle.col_model.specs.File.{for_each};
@@ -23,10 +23,10 @@ pub(crate) fn open_columns<F: FileHandle>(
     alloc: Global,
     reader: &mut ColumnarReader<F>,
 ) -> Result<Vec<NamedColumn>, ColumnarError>
-    ensures answer { Answers (λ cs columns. map opened columns.items ≡ cs)
+    ensures answer { AnswersForHandle (λ cs columns. map opened columns.items ≡ cs)
         reader.old.file reader.new.file result
         (λ bytes. for_each (whole_entry bytes reader.old.keys) reader.old.keys.entries) }
-    ensures keys { reader.new.keys ≡ reader.old.keys }
+    ensures reads { Reads (length reader.old.keys.entries) reader.old reader.new }
 {
     let mut columns = Vec::new(alloc);
     for (name, handle) in reader.list_columns(alloc)? {
@@ -44,7 +44,7 @@ fn open_named<F: FileHandle>(
     reader: &mut ColumnarReader<F>,
 ) -> Result<NamedColumn, ColumnarError>
     ensures answer { is_entry reader.old.keys handle.now ≡ true →
-        Answers (λ c column. opened column ≡ c) reader.old.file reader.new.file result
+        AnswersForHandle (λ c column. opened column ≡ c) reader.old.file reader.new.file result
         (λ bytes. whole_entry bytes reader.old.keys (entry_at (string_bytes name, handle.now))) }
     ensures kept { Reads 1 reader.old reader.new }
 {

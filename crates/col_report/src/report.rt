@@ -1,12 +1,13 @@
 //! Reports on open files.
-ghost use Rattle.std.specs.Prelude.{◌≡◌, ℕ, List, ◌∷◌, ◌++◌, [], map, flat_map, option_map, string_bytes, IfOk, IfSome, OnOk};
+ghost use Rattle.std.specs.Prelude.{◌≡◌, ℕ, List, ◌∷◌, ◌++◌, [], length, map, flat_map, option_map, string_bytes, IfOk, IfSome, OnOk, OnErr};
 ghost use Rattle.serde_json.specs.View.{view};
 ghost use Rattle.col_dynamic.specs.Dynamic.{type_of, content_of};
-ghost use Rattle.col_file.specs.Files.{Answers};
-ghost use Rattle.col_find.specs.Finds as wanted;
+ghost use Rattle.col_file.specs.Files.{AnswersForHandle};
+ghost use Rattle.col_file.specs.Readers.{Reads};
+ghost use Rattle.col_lines.specs.Finds as wanted;
 ghost use Rattle.col_model.specs.File.{table_of};
 ghost use Rattle.col_model.specs.Report.{rows_line, column_lines, find_line, report_of, Prints};
-ghost use Rattle.col_report.specs.Opened.{opened, column_typed, table_opened, AreRead};
+ghost use Rattle.col_report.specs.Opened.{opened, column_typed, table_opened, ColumnsAreRead};
 
 use crate::found::{push_absent, push_find};
 use crate::lines::push_column;
@@ -15,13 +16,13 @@ use crate::text::push_line;
 use col_common::{ColumnarError, FileHandle};
 use col_dynamic::DynamicColumn;
 use col_file::ColumnarReader;
-use col_find::Find;
+use col_lines::Find;
 use serde_json::{Value, json};
 use std::alloc::{AllocError, Global};
 
 /// Appends the report of a file and of what lookups find in it; a short one leaves out the rows,
-/// and counts the documents of lookups. Each column is read once, and all are open at once. It
-/// answers InvalidData where the bytes of some column are none of its type.
+/// and counts the documents of lookups. All columns are open at once. It answers InvalidData where
+/// the bytes of some column are none of its type.
 pub fn write_report<F: FileHandle>(
     alloc: Global,
     reader: &mut ColumnarReader<F>,
@@ -29,17 +30,33 @@ pub fn write_report<F: FileHandle>(
     short: bool,
     out: &mut Vec<u8>,
 ) -> Result<(), ColumnarError>
-    ensures answer { Answers (λ t _. out.new.items
+    ensures answer { AnswersForHandle (λ t _. out.new.items
         ≡ out.old.items ++ report_of t (map wanted.find_of finds.now) short)
         reader.old.file reader.new.file result table_of }
-    ensures keys { reader.new.keys ≡ reader.old.keys }
+    ensures kept { OnErr result (out.new.items ≡ out.old.items) }
+    // Also after a refusal.
+    ensures reads { Reads (length reader.old.keys.entries) reader.old reader.new }
 {
-    reader.tell();
+    reader.file_is_whole();
     let columns = open_columns(alloc, reader)?;
-    let pushed = push_report(alloc, reader, &columns, finds, short, out);
+    let mut report = Vec::new(alloc);
+    let pushed = push_report(alloc, reader, &columns, finds, short, &mut report);
     let_go(columns);
     pushed?;
+    append(report, out)?;
     Ok(())
+}
+
+// Appends a report; where nothing stands before it, nothing is copied.
+fn append(report: Vec<u8>, out: &mut Vec<u8>) -> Result<(), AllocError>
+    ensures ok { OnOk result (out.new.items ≡ out.old.items ++ report.items) }
+    ensures kept { OnErr result (out.new.items ≡ out.old.items) }
+{
+    if out.is_empty() {
+        *out = report;
+        return Ok(());
+    }
+    out.extend_from_slice(&report)
 }
 
 fn let_go(columns: Vec<NamedColumn>) {
@@ -55,7 +72,7 @@ fn push_report<F: FileHandle>(
     short: bool,
     out: &mut Vec<u8>,
 ) -> Result<(), AllocError>
-    ensures { (bytes : List ℕ) → AreRead bytes reader.now.keys columns.now →
+    ensures { (bytes : List ℕ) → ColumnsAreRead bytes reader.now.keys columns.now →
         OnOk result (out.new.items ≡ out.old.items
         ++ report_of (table_opened reader.now.keys.row_count columns.now)
         (map wanted.find_of finds.now) short) }
@@ -109,7 +126,7 @@ fn push_finds<F: FileHandle>(
     short: bool,
     out: &mut Vec<u8>,
 ) -> Result<(), AllocError>
-    ensures { (bytes : List ℕ) → AreRead bytes reader.now.keys columns.now → OnOk result
+    ensures { (bytes : List ℕ) → ColumnsAreRead bytes reader.now.keys columns.now → OnOk result
         (Prints out.old.items out.new.items (map (λ f. find_line
         (table_opened reader.now.keys.row_count columns.now) short (wanted.find_of f))
         finds.now)) }
@@ -131,7 +148,7 @@ fn push_found_line<F: FileHandle>(
     docs: &mut Vec<u32>,
     out: &mut Vec<u8>,
 ) -> Result<(), AllocError>
-    ensures { (bytes : List ℕ) → AreRead bytes reader.now.keys columns.now → OnOk result
+    ensures { (bytes : List ℕ) → ColumnsAreRead bytes reader.now.keys columns.now → OnOk result
         (Prints out.old.items out.new.items (find_line
         (table_opened reader.now.keys.row_count columns.now) short (wanted.find_of find.now)
         ∷ [])) }
@@ -148,11 +165,11 @@ fn column_of_find<'a, F: FileHandle>(
     columns: &'a [NamedColumn],
     find: &Find,
 ) -> Option<&'a DynamicColumn>
-    ensures kind { IfSome result (λ c. type_of c.now ≡ wanted.type_of find.now.ends) }
-    ensures column { (bytes : List ℕ) → AreRead bytes reader.now.keys columns.now →
+    ensures kind { IfSome result (λ c. type_of c.now ≡ wanted.ends_type find.now.ends) }
+    ensures column { (bytes : List ℕ) → ColumnsAreRead bytes reader.now.keys columns.now →
         option_map (λ c. content_of c.now) result
         ≡ option_map (λ c. c.content) (column_typed (string_bytes find.now.name)
-        (wanted.type_of find.now.ends) (map opened columns.now)) }
+        (wanted.ends_type find.now.ends) (map opened columns.now)) }
 {
     let Some(place) = reader.column_place(&find.name, find.ends.column_type()) else {
         return None;

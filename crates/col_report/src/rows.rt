@@ -1,7 +1,7 @@
 //! Prints the rows of a column.
 ghost use Rattle.std.specs.Prelude.{◌≡◌, ◌<◌, ◌≤◌, ◌∷◌, ◌++◌, [], length, map, slice_range, OnOk};
 ghost use Rattle.std.specs.List.{enumerate_from};
-ghost use Rattle.col_column.specs.Columns.{AreOf, docs_in, row_at, rows_in};
+ghost use Rattle.col_column.specs.Columns.{AreOf, num_docs_in, row_at, rows_of_values};
 ghost use Rattle.col_model.specs.Report.{cell_data, row_line, Prints};
 ghost use Rattle.col_report.specs.Printed.{filled_lines, more_text};
 
@@ -24,7 +24,7 @@ where
     V: ColumnValues<T>,
     P: PrintCells<T>,
     ensures { OnOk result (Prints out.old.items out.new.items (filled_lines P.kind
-        (enumerate_from 0 (map (map (P.cell cells.now)) (rows_in V.values column.now))))) }
+        (enumerate_from 0 (map (map (P.cell cells.now)) (rows_of_values V.values column.now))))) }
 {
     for row in 0..column.num_docs() {
         push_row(alloc, column, row, cells, out)?;
@@ -44,9 +44,9 @@ where
     T: PartialOrd + Copy,
     V: ColumnValues<T>,
     P: PrintCells<T>,
-    requires { row < docs_in V.values column.now }
+    requires { row < num_docs_in V.values column.now }
     ensures { OnOk result (Prints out.old.items out.new.items (filled_lines P.kind
-        ((row, map (P.cell cells.now) (row_at (rows_in V.values column.now) row)) ∷ []))) }
+        ((row, map (P.cell cells.now) (row_at (rows_of_values V.values column.now) row)) ∷ []))) }
 {
     let positions = positions_of(column, row);
     if positions.start == positions.end {
@@ -60,9 +60,9 @@ fn positions_of<T, V>(column: &Column<T, V>, row: u32) -> Range<u32>
 where
     T: PartialOrd + Copy,
     V: ColumnValues<T>,
-    requires { row < docs_in V.values column.now }
+    requires { row < num_docs_in V.values column.now }
     ensures { AreOf (V.values column.now.values) (result.start, result.end)
-        (row_at (rows_in V.values column.now) row) }
+        (row_at (rows_of_values V.values column.now) row) }
 {
     // That there are fewer than 2 ^ 32 values is known of the count.
     let _count = column.values().num_vals();

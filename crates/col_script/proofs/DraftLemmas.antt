@@ -9,13 +9,13 @@ use Rattle.col_model.specs.Recording.{Call, content_after, content_after_all}
 use Rattle.col_model.specs.Refusal.{Refusal, ◌>>=◌}
 use Rattle.col_model.specs.Written.{Recorded}
 use Rattle.col_model.specs.Script.{Find, Line, segment, call, require, order, lookup, segments_in, required_in, order_in, find_in}
-use Rattle.col_script.specs.Segments.{Content, Filled, filled, answered, content_behind, content_behind_all, after_call, after_calls}
+use Rattle.col_script.specs.Segments.{RecordedContent, Filled, filled, answered, content_behind, content_behind_all, after_call, after_calls}
 use Rattle.col_script.specs.Scripts.{summary_with, summary_from, has_segment, last_with}
 
 -- ---- calls
 
 -- no calls change nothing
-behind-none : (c : Content) → content_behind_all c [] ≡ c
+behind-none : (c : RecordedContent) → content_behind_all c [] ≡ c
 behind-none (Ok w) = refl
 behind-none (Err e) = refl
 
@@ -23,7 +23,7 @@ after-none : (f : Filled) → after_calls f [] ≡ f
 after-none f = ap (λ c. record { count = f.count; content = c }) (behind-none f.content)
 
 -- the first call and the others
-behind-call : (k : Content) (c : Call) (cs : List Call) → content_behind_all k (c ∷ cs) ≡ content_behind_all (content_behind k c) cs
+behind-call : (k : RecordedContent) (c : Call) (cs : List Call) → content_behind_all k (c ∷ cs) ≡ content_behind_all (content_behind k c) cs
 behind-call (Err e) c cs = refl
 behind-call (Ok w) c cs = go (content_after w c)
   where
@@ -37,18 +37,32 @@ after-one f c cs = ap (λ k. record { count = f.count; content = k }) (behind-ca
 module _ (earlier : List Filled) (required : List Required) (orders : List (List (ℕ × ℕ))) (finds : List Find) where
   -- ---- a segment line
 
+  -- a line of a segment puts the last segment to the earlier ones, and begins another
   pub with-segment : (last : Option Filled) (n : ℕ) (ls : List Line)
       → summary_with (record { earlier = earlier; last = last; required = required; orders = orders; finds = finds }) (segment n ∷ ls)
-      ≡ summary_with (record { earlier = earlier ++ option_to_list last; last = Some (record { count = n; content = Ok [] }); required = required; orders = orders; finds = finds }) ls
+      ≡ summary_with (record {
+        earlier = earlier ++ option_to_list last;
+        last = Some (record { count = n; content = Ok [] });
+        required = required;
+        orders = orders;
+        finds = finds;
+      })
+      ls
   unfolding summary_with
   with-segment None n ls =
-      ap (λ es. summary_from true (es ++ filled (record { count = n; calls = (segments_in ls).0 }) ∷ map filled (segments_in ls).1) (required ++ filter_map required_in ls) (orders ++ filter_map order_in ls) (finds ++ filter_map find_in ls)) (sym (append-nil earlier))
+      ap (λ es. summary_from true
+      (es ++ filled (record { count = n; calls = (segments_in ls).0 }) ∷ map filled (segments_in ls).1)
+      (required ++ filter_map required_in ls) (orders ++ filter_map order_in ls)
+      (finds ++ filter_map find_in ls)) (sym (append-nil earlier))
   with-segment (Some f) n ls =
       let more : List Filled = filled (record { count = n; calls = (segments_in ls).0 }) ∷ map filled (segments_in ls).1 in
-      ap (λ fs. summary_from true fs (required ++ filter_map required_in ls) (orders ++ filter_map order_in ls) (finds ++ filter_map find_in ls)) (ap (λ g. earlier ++ g ∷ more) (after-none f) ∙ sym (append_assoc earlier (f ∷ []) more))
+      ap (λ fs. summary_from true fs (required ++ filter_map required_in ls) (orders ++ filter_map order_in ls)
+      (finds ++ filter_map find_in ls))
+      (ap (λ g. earlier ++ g ∷ more) (after-none f) ∙ sym (append_assoc earlier (f ∷ []) more))
 
   -- ---- a record call
 
+  -- a call before the first segment makes no script
   pub with-early : (c : Call) (ls : List Line)
       → summary_with (record { earlier = earlier; last = None; required = required; orders = orders; finds = finds }) (call c ∷ ls) ≡ None
   unfolding summary_with
@@ -56,61 +70,86 @@ module _ (earlier : List Filled) (required : List Required) (orders : List (List
       let some : (suc (length (segments_in ls).0) == 0) ≡ false = ne_eqb _ 0 (λ e. absurd (omega arith)) in
       rw some refl
 
+  -- a call behind a segment changes what this segment holds
   pub with-call : (f : Filled) (c : Call) (ls : List Line)
       → summary_with (record { earlier = earlier; last = Some f; required = required; orders = orders; finds = finds }) (call c ∷ ls)
       ≡ summary_with (record { earlier = earlier; last = Some (after_call f c); required = required; orders = orders; finds = finds }) ls
   unfolding summary_with
-  with-call f c ls = ap (λ g. summary_from true (earlier ++ g ∷ map filled (segments_in ls).1) (required ++ filter_map required_in ls) (orders ++ filter_map order_in ls) (finds ++ filter_map find_in ls)) (after-one f c (segments_in ls).0)
+  with-call f c ls =
+      ap (λ g. summary_from true (earlier ++ g ∷ map filled (segments_in ls).1)
+      (required ++ filter_map required_in ls) (orders ++ filter_map order_in ls) (finds ++ filter_map find_in ls))
+      (after-one f c (segments_in ls).0)
 
   module _ (last : Option Filled) where
     -- ---- a required column
 
+    -- a line of a required column puts it behind those before
     pub with-required : (r : Required) (ls : List Line)
         → summary_with (record { earlier = earlier; last = last; required = required; orders = orders; finds = finds }) (require r ∷ ls)
         ≡ summary_with (record { earlier = earlier; last = last; required = required ++ r ∷ []; orders = orders; finds = finds }) ls
     unfolding summary_with
-    with-required r ls = ap (λ rs. summary_from (has_segment last (segments_in ls).0) (earlier ++ (last_with last (segments_in ls).0 ++ map filled (segments_in ls).1)) rs (orders ++ filter_map order_in ls) (finds ++ filter_map find_in ls)) (sym (append_assoc required (r ∷ []) (filter_map required_in ls)))
+    with-required r ls =
+        ap (λ rs. summary_from (has_segment last (segments_in ls).0)
+        (earlier ++ (last_with last (segments_in ls).0 ++ map filled (segments_in ls).1)) rs
+        (orders ++ filter_map order_in ls) (finds ++ filter_map find_in ls))
+        (sym (append_assoc required (r ∷ []) (filter_map required_in ls)))
 
     -- ---- a lookup
 
+    -- a line of a lookup puts it behind those before
     pub with-find : (f : Find) (ls : List Line)
         → summary_with (record { earlier = earlier; last = last; required = required; orders = orders; finds = finds }) (lookup f ∷ ls)
         ≡ summary_with (record { earlier = earlier; last = last; required = required; orders = orders; finds = finds ++ f ∷ [] }) ls
     unfolding summary_with
-    with-find f ls = ap (λ fs. summary_from (has_segment last (segments_in ls).0) (earlier ++ (last_with last (segments_in ls).0 ++ map filled (segments_in ls).1)) (required ++ filter_map required_in ls) (orders ++ filter_map order_in ls) fs) (sym (append_assoc finds (f ∷ []) (filter_map find_in ls)))
+    with-find f ls =
+        ap (λ fs. summary_from (has_segment last (segments_in ls).0)
+        (earlier ++ (last_with last (segments_in ls).0 ++ map filled (segments_in ls).1))
+        (required ++ filter_map required_in ls) (orders ++ filter_map order_in ls) fs)
+        (sym (append_assoc finds (f ∷ []) (filter_map find_in ls)))
 
 module _ (earlier : List Filled) (last : Option Filled) (required : List Required) (finds : List Find) where
   -- ---- an order
 
+  -- the first line of an order is the order
   pub with-order : (rows : List (ℕ × ℕ)) (ls : List Line)
       → summary_with (record { earlier = earlier; last = last; required = required; orders = []; finds = finds }) (order rows ∷ ls)
       ≡ summary_with (record { earlier = earlier; last = last; required = required; orders = rows ∷ []; finds = finds }) ls
   unfolding summary_with
   with-order rows ls = refl
 
+  -- a second line of an order makes no script
   pub with-second : (first rows : List (ℕ × ℕ)) (ls : List Line)
-      → summary_with (record { earlier = earlier; last = last; required = required; orders = first ∷ []; finds = finds }) (order rows ∷ ls) ≡ None
+      → summary_with
+      (record { earlier = earlier; last = last; required = required; orders = first ∷ []; finds = finds })
+      (order rows ∷ ls) ≡ None
   unfolding summary_with
   with-second first rows ls =
-      let two : nat_le (suc (suc (length (filter_map order_in ls)))) 1 ≡ false = lt-leb (suc (suc (length (filter_map order_in ls)))) 1 (omega arith) in
-      let bad : (has_segment last (segments_in ls).0 && nat_le (suc (suc (length (filter_map order_in ls)))) 1) ≡ false = and_right (has_segment last (segments_in ls).0) _ two in
+      let two : nat_le (suc (suc (length (filter_map order_in ls)))) 1 ≡ false =
+      lt-leb (suc (suc (length (filter_map order_in ls)))) 1 (omega arith) in
+      let bad : (has_segment last (segments_in ls).0 && nat_le (suc (suc (length (filter_map order_in ls)))) 1) ≡
+      false = and_right (has_segment last (segments_in ls).0) _ two in
       rw bad refl
 
   -- ---- no more lines
 
   module _ (earlier_last : List Filled) where
     ended : (o : Option (List (ℕ × ℕ))) (rs : List Required) (fs : List Find) → rs ≡ required → fs ≡ finds
-        → summary_from true earlier_last rs (option_to_list o ++ []) fs ≡ Some (record { segments = earlier_last; required = required; order = o; finds = finds })
+        → summary_from true earlier_last rs (option_to_list o ++ []) fs
+        ≡ Some (record { segments = earlier_last; required = required; order = o; finds = finds })
     ended None rs fs r f = rw (r, f) refl
     ended (Some rows) rs fs r f = rw (r, f) refl
 
+  -- where no line is left, the parts are the script
   pub with-nothing : (o : Option (List (ℕ × ℕ)))
       → summary_with (record { earlier = earlier; last = last; required = required; orders = option_to_list o; finds = finds }) []
       ≡ Some (record { segments = earlier ++ option_to_list last; required = required; order = o; finds = finds })
   unfolding summary_with
-  with-nothing o = go last ∙ ended (earlier ++ option_to_list last) o (required ++ []) (finds ++ []) (append-nil required) (append-nil finds)
+  with-nothing o =
+      go last ∙ ended (earlier ++ option_to_list last) o (required ++ []) (finds ++ []) (append-nil required)
+      (append-nil finds)
     where
-      go : (l : Option Filled) → summary_from (has_segment l []) (earlier ++ (last_with l [] ++ [])) (required ++ []) (option_to_list o ++ []) (finds ++ [])
+      go : (l : Option Filled) → summary_from (has_segment l []) (earlier ++ (last_with l [] ++ []))
+          (required ++ []) (option_to_list o ++ []) (finds ++ [])
           ≡ summary_from true (earlier ++ option_to_list l) (required ++ []) (option_to_list o ++ []) (finds ++ [])
       go None = refl
       go (Some f) = ap (λ g. summary_from true (earlier ++ g ∷ []) (required ++ []) (option_to_list o ++ []) (finds ++ [])) (after-none f)

@@ -12,12 +12,12 @@ use Rattle.col_model.specs.Recording.{Call}
 use Rattle.col_model.specs.Script.{Line, segment, call, require, order, lookup, line_spelled, pieces_of, script_of, script_of_lines, segments_in, required_in, order_in, find_in}
 use Rattle.col_model.specs.Script as model
 use Rattle.col_types.specs.declared.column_type.ColumnType as declared_types
-use Rattle.col_find.specs.Finds.{find_of}
-use Rattle.col_find.specs.declared.lookup.Find.{Find}
-use Rattle.col_script.specs.Lines.{required_of}
-use Rattle.col_script.specs.Parts.{address_of}
+use Rattle.col_lines.specs.Finds.{find_of}
+use Rattle.col_lines.specs.declared.lookup.Find.{Find}
+use Rattle.col_lines.specs.Lines.{required_column_of}
+use Rattle.col_order.specs.Orders.{address_of}
 use Rattle.col_script.specs.Segments.{Filled, segment_of, after_call}
-use Rattle.col_script.specs.Scripts.{Parts, no_parts, parts_of, summary, summary_of, summary_with, summary_behind, Takes}
+use Rattle.col_script.specs.Scripts.{DraftParts, no_parts, draft_parts, summary, summary_of, summary_with, summary_behind, TakesLine}
 use Rattle.col_script.specs.declared.segment.Segment.{Segment}
 use Rattle.col_script.specs.declared.draft.Draft.{Draft}
 use Rattle.col_script.specs.declared.script.Script.{Script}
@@ -34,97 +34,126 @@ list_of_last : (l : Option Segment) → map segment_of (option_to_list l) ≡ op
 list_of_last None = refl
 list_of_last (Some s) = refl
 
-all_segments : (es : List Segment) (l : Option Segment) → map segment_of (es ++ option_to_list l) ≡ map segment_of es ++ option_to_list (option_map segment_of l)
+all_segments : (es : List Segment) (l : Option Segment)
+    → map segment_of (es ++ option_to_list l) ≡ map segment_of es ++ option_to_list (option_map segment_of l)
 all_segments es l = map-append segment_of es (option_to_list l) ∙ ap (λ fs. map segment_of es ++ fs) (list_of_last l)
 
 module _ (old : Draft) where
   -- the parts with other segments
-  abbrev with_segments : List Filled → Option Filled → Parts
+  abbrev with_segments : List Filled → Option Filled → DraftParts
   with_segments es l = record {
     earlier = es;
     last = l;
-    required = (parts_of old).required;
-    orders = (parts_of old).orders;
-    finds = (parts_of old).finds;
+    required = (draft_parts old).required;
+    orders = (draft_parts old).orders;
+    finds = (draft_parts old).finds;
   }
 
   -- ---- a segment line
 
-  pub takes-segment : (earlier : Vec Segment Global) (last : Option Segment) (s : Segment) (n : ℕ) → earlier.items ≡ old.earlier.items ++ option_to_list old.last → last ≡ Some s → segment_of s ≡ record { count = n; content = Ok [] }
-      → Takes (segment n) old (record { earlier = earlier; last = last; required = old.required; order = old.order; finds = old.finds }) true
+  -- a draft takes a segment's line with the last one among the earlier ones, and the new one last
+  pub takes-segment : (earlier : Vec Segment Global) (last : Option Segment) (s : Segment) (n : ℕ)
+      → earlier.items ≡ old.earlier.items ++ option_to_list old.last → last ≡ Some s
+      → segment_of s ≡ record { count = n; content = Ok [] }
+      → TakesLine (segment n) old
+      (record { earlier = earlier; last = last; required = old.required; order = old.order; finds = old.finds })
+      true
   takes-segment earlier last s n all is new ls =
-      let p = parts_of old in
+      let p = draft_parts old in
       with-segment p.earlier p.required p.orders p.finds p.last n ls
-      ∙ ap (λ es. summary_with (with_segments es (Some (record { count = n; content = Ok [] }))) ls) (sym (ap (map segment_of) all ∙ all_segments old.earlier.items old.last))
+      ∙ ap (λ es. summary_with (with_segments es (Some (record { count = n; content = Ok [] }))) ls)
+      (sym (ap (map segment_of) all ∙ all_segments old.earlier.items old.last))
       ∙ ap (λ f. summary_with (with_segments (map segment_of earlier.items) (Some f)) ls) (sym new)
       ∙ ap (λ l. summary_with (with_segments (map segment_of earlier.items) (option_map segment_of l)) ls) (sym is)
 
   -- ---- a record call
 
-  pub takes-no_call : (new : Draft) (c : Call) → old.last ≡ None → Takes (call c) old new false
+  -- a draft without a segment doesn't take a call
+  pub takes-no_call : (new : Draft) (c : Call) → old.last ≡ None → TakesLine (call c) old new false
   takes-no_call new c none ls =
-      let p = parts_of old in
+      let p = draft_parts old in
       ap (λ l. summary_with (with_segments p.earlier (option_map segment_of l)) (call c ∷ ls)) none
       ∙ with-early p.earlier p.required p.orders p.finds c ls
 
+  -- a draft with a segment takes a call into it
   pub takes-call : (s t : Segment) (c : Call) → old.last ≡ Some s → segment_of t ≡ after_call (segment_of s) c
-      → Takes (call c) old (record { earlier = old.earlier; last = Some t; required = old.required; order = old.order; finds = old.finds }) true
+      → TakesLine (call c) old (record
+      { earlier = old.earlier; last = Some t; required = old.required; order = old.order; finds = old.finds })
+      true
   takes-call s t c some after ls =
-      let p = parts_of old in
+      let p = draft_parts old in
       ap (λ l. summary_with (with_segments p.earlier (option_map segment_of l)) (call c ∷ ls)) some
       ∙ with-call p.earlier p.required p.orders p.finds (segment_of s) c ls
       ∙ ap (λ f. summary_with (with_segments p.earlier (Some f)) ls) (sym after)
 
   -- ---- a required column and a lookup
 
-  pub takes-required : (more : Vec (String Global × declared_types.ColumnType) Global) (r : String Global × declared_types.ColumnType) → more.items ≡ old.required.items ++ r ∷ []
-      → Takes (require (required_of r)) old (record { earlier = old.earlier; last = old.last; required = more; order = old.order; finds = old.finds }) true
+  -- a draft takes a required column behind those before
+  pub takes-required : (more : Vec (String Global × declared_types.ColumnType) Global)
+      (r : String Global × declared_types.ColumnType) → more.items ≡ old.required.items ++ r ∷ []
+      → TakesLine (require (required_column_of r)) old
+      (record { earlier = old.earlier; last = old.last; required = more; order = old.order; finds = old.finds })
+      true
   takes-required more r all ls =
-      let p = parts_of old in
-      with-required p.earlier p.required p.orders p.finds p.last (required_of r) ls
-      ∙ ap (λ rs. summary_with (record { earlier = p.earlier; last = p.last; required = rs; orders = p.orders; finds = p.finds }) ls) (sym (ap (map required_of) all ∙ map-append required_of old.required.items (r ∷ [])))
+      let p = draft_parts old in
+      with-required p.earlier p.required p.orders p.finds p.last (required_column_of r) ls
+      ∙ ap (λ rs. summary_with
+      (record { earlier = p.earlier; last = p.last; required = rs; orders = p.orders; finds = p.finds }) ls)
+      (sym (ap (map required_column_of) all ∙ map-append required_column_of old.required.items (r ∷ [])))
 
+  -- a draft takes a lookup behind those before
   pub takes-find : (more : Vec Find Global) (f : Find) → more.items ≡ old.finds.items ++ f ∷ []
-      → Takes (lookup (find_of f)) old (record { earlier = old.earlier; last = old.last; required = old.required; order = old.order; finds = more }) true
+      → TakesLine (lookup (find_of f)) old (record
+      { earlier = old.earlier; last = old.last; required = old.required; order = old.order; finds = more }) true
   takes-find more f all ls =
-      let p = parts_of old in
+      let p = draft_parts old in
       with-find p.earlier p.required p.orders p.finds p.last (find_of f) ls
-      ∙ ap (λ fs. summary_with (record { earlier = p.earlier; last = p.last; required = p.required; orders = p.orders; finds = fs }) ls) (sym (ap (map find_of) all ∙ map-append find_of old.finds.items (f ∷ [])))
+      ∙ ap (λ fs. summary_with
+      (record { earlier = p.earlier; last = p.last; required = p.required; orders = p.orders; finds = fs }) ls)
+      (sym (ap (map find_of) all ∙ map-append find_of old.finds.items (f ∷ [])))
 
   -- ---- an order
 
   -- the parts with this order
-  abbrev with_order : Option (Vec RowAddr Global) → Parts
+  abbrev with_order : Option (Vec RowAddr Global) → DraftParts
   with_order o = record {
-    earlier = (parts_of old).earlier;
-    last = (parts_of old).last;
-    required = (parts_of old).required;
+    earlier = (draft_parts old).earlier;
+    last = (draft_parts old).last;
+    required = (draft_parts old).required;
     orders = option_to_list (option_map rows_of o);
-    finds = (parts_of old).finds;
+    finds = (draft_parts old).finds;
   }
 
+  -- a draft without an order takes one
   pub takes-order : (rows : Vec RowAddr Global) → is_some old.order ≡ false
-      → Takes (order (rows_of rows)) old (record { earlier = old.earlier; last = old.last; required = old.required; order = Some rows; finds = old.finds }) true
+      → TakesLine (order (rows_of rows)) old (record
+      { earlier = old.earlier; last = old.last; required = old.required; order = Some rows; finds = old.finds })
+      true
   takes-order rows none ls = go old.order none
     where
-      go : (o : Option (Vec RowAddr Global)) → is_some o ≡ false → summary_with (with_order o) (order (rows_of rows) ∷ ls) ≡ summary_with (with_order (Some rows)) ls
-      go None e = let p = parts_of old in with-order p.earlier p.last p.required p.finds (rows_of rows) ls
+      go : (o : Option (Vec RowAddr Global)) → is_some o ≡ false
+          → summary_with (with_order o) (order (rows_of rows) ∷ ls) ≡ summary_with (with_order (Some rows)) ls
+      go None e = let p = draft_parts old in with-order p.earlier p.last p.required p.finds (rows_of rows) ls
       go (Some first) e = absurd (true≢false e)
 
-  pub takes-second : (new : Draft) (rows : Vec RowAddr Global) → is_some old.order ≡ true → Takes (order (rows_of rows)) old new false
+  -- a draft with an order doesn't take another
+  pub takes-second : (new : Draft) (rows : Vec RowAddr Global) → is_some old.order ≡ true → TakesLine (order (rows_of rows)) old new false
   takes-second new rows some ls = go old.order some
     where
       go : (o : Option (Vec RowAddr Global)) → is_some o ≡ true → summary_with (with_order o) (order (rows_of rows) ∷ ls) ≡ None
       go None e = absurd (true≢false (sym e))
-      go (Some first) e = let p = parts_of old in with-second p.earlier p.last p.required p.finds (rows_of first) (rows_of rows) ls
+      go (Some first) e = let p = draft_parts old in with-second p.earlier p.last p.required p.finds (rows_of first) (rows_of rows) ls
 
   -- ---- no more lines
 
-  pub ends : (s : Script) → s.segments.items ≡ old.earlier.items ++ option_to_list old.last → s.required ≡ old.required → s.order ≡ old.order → s.finds ≡ old.finds
-      → summary_with (parts_of old) [] ≡ Some (summary_of s)
+  -- where no line is left, the script is made of the draft's parts
+  pub ends : (s : Script) → s.segments.items ≡ old.earlier.items ++ option_to_list old.last
+      → s.required ≡ old.required → s.order ≡ old.order → s.finds ≡ old.finds
+      → summary_with (draft_parts old) [] ≡ Some (summary_of s)
   ends s all required same_order finds =
-      let p = parts_of old in
-      let same : map segment_of s.segments.items ≡ p.earlier ++ option_to_list p.last = ap (map segment_of) all ∙ all_segments old.earlier.items old.last in
+      let p = draft_parts old in
+      let same : map segment_of s.segments.items ≡ p.earlier ++ option_to_list p.last =
+      ap (map segment_of) all ∙ all_segments old.earlier.items old.last in
       rw (same, required, same_order, finds) (with-nothing p.earlier p.last p.required p.finds (option_map rows_of old.order))
 
 -- ---- the whole script

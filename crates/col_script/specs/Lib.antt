@@ -1,8 +1,5 @@
-pub use Rattle.col_record.specs.Answers
-pub use Rattle.col_find.specs.Finds
-pub mod Parts
-pub mod Values
-pub mod Plain
-pub mod Lines
+pub use Rattle.col_writer_columns.specs.Answers
+pub use Rattle.col_lines.specs.Finds
+pub use Rattle.col_lines.specs.Lines
 pub mod Segments
 pub mod Scripts

@@ -9,9 +9,9 @@ use Rattle.col_model.specs.Merge.{Required}
 use Rattle.col_model.specs.Recording.{Call}
 use Rattle.col_model.specs.Script.{Find, Line, segments_in, required_in, order_in, find_in, line_spelled}
 use Rattle.col_model.specs.Script as script
-use Rattle.col_find.specs.Finds.{find_of}
-use Rattle.col_script.specs.Lines.{required_of}
-use Rattle.col_script.specs.Parts.{address_of}
+use Rattle.col_lines.specs.Finds.{find_of}
+use Rattle.col_lines.specs.Lines.{required_column_of}
+use Rattle.col_order.specs.Orders.{address_of}
 use Rattle.col_script.specs.Segments.{Filled, filled, segment_of, after_calls}
 use Rattle.col_script.specs.declared.draft.Draft.{Draft}
 use Rattle.col_script.specs.declared.script.Script.{Script}
@@ -36,7 +36,7 @@ summary s = record {
 abbrev pub summary_of : Script → Summary
 summary_of s = record {
   segments = map segment_of s.segments.items;
-  required = map required_of s.required.items;
+  required = map required_column_of s.required.items;
   order = option_map (λ rows. map address_of rows.items) s.order;
   finds = map find_of s.finds.items;
 }
@@ -44,7 +44,7 @@ summary_of s = record {
 -- the segments hold what their record calls come to; all else is the same
 pub record IsScript (expected : script.Script) (found : Script) : Type 0 where
   pub segments : map filled expected.segments ≡ map segment_of found.segments.items
-  pub required : expected.required ≡ map required_of found.required.items
+  pub required : expected.required ≡ map required_column_of found.required.items
   pub order : expected.order ≡ option_map (λ rows. map address_of rows.items) found.order
   pub finds : expected.finds ≡ map find_of found.finds.items
 
@@ -55,7 +55,7 @@ IsScriptOf None (Some found) = ⊥
 IsScriptOf (Some expected) (Some found) = IsScript expected found
 
 -- what lines say: the segments before the last one, the last one, and the rest
-pub record Parts : Type 0 where
+pub record DraftParts : Type 0 where
   pub earlier : List Filled
   pub last : Option Filled
   pub required : List Required
@@ -63,15 +63,15 @@ pub record Parts : Type 0 where
   pub finds : List Find
 
 -- before any line
-abbrev pub no_parts : Parts
+abbrev pub no_parts : DraftParts
 no_parts = record { earlier = []; last = None; required = []; orders = []; finds = [] }
 
 -- the parts that a draft holds
-abbrev pub parts_of : Draft → Parts
-parts_of d = record {
+abbrev pub draft_parts : Draft → DraftParts
+draft_parts d = record {
   earlier = map segment_of d.earlier.items;
   last = option_map segment_of d.last;
-  required = map required_of d.required.items;
+  required = map required_column_of d.required.items;
   orders = option_to_list (option_map (λ rows. map address_of rows.items) d.order);
   finds = map find_of d.finds.items;
 }
@@ -93,7 +93,7 @@ summary_from has segments required orders finds = only_if (has && nat_le (length
     (record { segments = segments; required = required; order = slice_get orders 0; finds = finds })
 
 -- what some parts and the lines behind them come to
-unfoldable pub summary_with : Parts → List Line → Option Summary
+unfoldable pub summary_with : DraftParts → List Line → Option Summary
 summary_with p ls =
     let more = segments_in ls in
     summary_from (has_segment p.last more.0)
@@ -102,7 +102,7 @@ summary_with p ls =
     (p.finds ++ filter_map find_in ls)
 
 -- what some parts and the pieces behind them come to, among which empty ones count for nothing
-abbrev pub summary_behind : Parts → List (List ℕ) → Option Summary
+abbrev pub summary_behind : DraftParts → List (List ℕ) → Option Summary
 summary_behind p pieces =
     for_each line_spelled (filter (λ piece. nat_lt 0 (length piece)) pieces) >>= summary_with p
 
@@ -112,16 +112,17 @@ if_taken true s = s
 if_taken false s = None
 
 -- the line is in the new draft; where it isn't taken, no script goes on with it
-abbrev pub Takes : Line → Draft → Draft → Bool → Type 0
-Takes line old new taken = (ls : List Line)
-    → summary_with (parts_of old) (line ∷ ls) ≡ if_taken taken (summary_with (parts_of new) ls)
+abbrev pub TakesLine : Line → Draft → Draft → Bool → Type 0
+TakesLine line old new taken = (ls : List Line)
+    → summary_with (draft_parts old) (line ∷ ls)
+    ≡ if_taken taken (summary_with (draft_parts new) ls)
 
 -- the draft comes to the same with one piece less behind it;
 -- where it isn't taken, that is no script
 abbrev pub TakesPiece : List ℕ → Draft → Draft → Bool → Type 0
 TakesPiece piece old new taken = (pieces : List (List ℕ))
-    → summary_behind (parts_of old) (piece ∷ pieces)
-    ≡ if_taken taken (summary_behind (parts_of new) pieces)
+    → summary_behind (draft_parts old) (piece ∷ pieces)
+    ≡ if_taken taken (summary_behind (draft_parts new) pieces)
 
 -- the pieces of what is left
 abbrev pub pieces_left : Option (Bor (List ℕ)) → List (List ℕ)

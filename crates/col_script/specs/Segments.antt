@@ -5,20 +5,20 @@ use Rattle.col_model.specs.Recording.{Call, content_after, content_after_all}
 use Rattle.col_model.specs.Refusal.{Refusal}
 use Rattle.col_model.specs.Script as script
 use Rattle.col_model.specs.Written.{Recorded}
-use Rattle.col_record.specs.Answers.{answer_of}
+use Rattle.col_writer_columns.specs.Answers.{answer_of}
 use Rattle.col_script.specs.declared.segment.Segment.{Segment}
 
 -- what was recorded, or the first refusal
-abbrev pub Content : Type 0
-Content = Result Recorded ColumnarError
+abbrev pub RecordedContent : Type 0
+RecordedContent = Result Recorded ColumnarError
 
 -- a segment's documents, and what its calls come to
 pub record Filled : Type 0 where
   pub count : ℕ
-  pub content : Content
+  pub content : RecordedContent
 
 -- a refusal as the answer that it is
-abbrev pub answered : Result Recorded Refusal → Content
+abbrev pub answered : Result Recorded Refusal → RecordedContent
 answered (Ok w) = Ok w
 answered (Err r) = Err (answer_of r)
 
@@ -27,16 +27,16 @@ abbrev pub filled : script.Segment → Filled
 filled s = record { count = s.count; content = answered (content_after_all [] s.calls) }
 
 -- what was recorded, where no call was refused
-abbrev pub content_of : Recorded → Option ColumnarError → Content
-content_of w None = Ok w
-content_of w (Some e) = Err e
+abbrev pub recorded_content : Recorded → Option ColumnarError → RecordedContent
+recorded_content w None = Ok w
+recorded_content w (Some e) = Err e
 
 -- what a segment holds
 abbrev pub segment_of : Segment → Filled
-segment_of s = record { count = s.num_docs; content = content_of s.columns s.refusal }
+segment_of s = record { count = s.num_docs; content = recorded_content s.columns s.refusal }
 
 -- the content after one more call
-abbrev pub content_behind : Content → Call → Content
+abbrev pub content_behind : RecordedContent → Call → RecordedContent
 content_behind (Ok w) c = answered (content_after w c)
 content_behind (Err e) c = Err e
 
@@ -45,7 +45,7 @@ abbrev pub after_call : Filled → Call → Filled
 after_call f c = record { count = f.count; content = content_behind f.content c }
 
 -- the content after some calls
-abbrev pub content_behind_all : Content → List Call → Content
+abbrev pub content_behind_all : RecordedContent → List Call → RecordedContent
 content_behind_all (Ok w) calls = answered (content_after_all w calls)
 content_behind_all (Err e) calls = Err e
 

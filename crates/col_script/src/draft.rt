@@ -2,16 +2,15 @@
 ghost use Rattle.std.specs.Prelude.{◌≡◌, ◌++◌, Some, IfOk, OnOk, map, [], ◌∷◌};
 ghost use Rattle.std.specs.Option.{option_to_list};
 ghost use Rattle.col_model.specs.Script as model;
-ghost use Rattle.col_find.specs.Finds.{find_of};
-ghost use Rattle.col_script.specs.Lines.{line_of, call_of, required_of};
-ghost use Rattle.col_script.specs.Parts.{address_of};
-ghost use Rattle.col_script.specs.Scripts.{no_parts, parts_of, summary_of, summary_with, Takes, TakesPiece};
+ghost use Rattle.col_lines.specs.Finds.{find_of};
+ghost use Rattle.col_lines.specs.Lines.{script_line_of, call_of, required_column_of};
+ghost use Rattle.col_order.specs.Orders.{address_of};
+ghost use Rattle.col_script.specs.Scripts.{no_parts, draft_parts, summary_of, summary_with, TakesLine, TakesPiece};
 
-use crate::line::{Call, Line, read_line};
 use crate::script::Script;
 use crate::segment::Segment;
 use col_common::RowAddr;
-use col_find::Find;
+use col_lines::{Call, Find, Line, read_line};
 use col_types::ColumnType;
 use json::Scratch;
 use std::alloc::{AllocError, Global};
@@ -29,7 +28,7 @@ pub struct Draft {
 impl Draft {
     /// Before any line.
     pub fn new(alloc: Global) -> Draft
-        ensures { parts_of result ≡ no_parts }
+        ensures { draft_parts result ≡ no_parts }
     {
         Draft {
             earlier: Vec::new(alloc),
@@ -59,7 +58,7 @@ impl Draft {
     }
 
     fn take(&mut self, alloc: Global, line: Line) -> Result<bool, AllocError>
-        ensures { IfOk result (Takes (line_of line) self.old self.new) }
+        ensures { IfOk result (TakesLine (script_line_of line) self.old self.new) }
     {
         match line {
             Line::Segment(num_docs) => self.take_segment(alloc, num_docs),
@@ -71,7 +70,7 @@ impl Draft {
     }
 
     fn take_segment(&mut self, alloc: Global, num_docs: u32) -> Result<bool, AllocError>
-        ensures { IfOk result (Takes (model.segment num_docs) self.old self.new) }
+        ensures { IfOk result (TakesLine (model.segment num_docs) self.old self.new) }
     {
         let last = self.last.replace(Segment::new(alloc, num_docs));
         add_last(&mut self.earlier, last)?;
@@ -79,7 +78,7 @@ impl Draft {
     }
 
     fn take_call(&mut self, call: Call) -> Result<bool, AllocError>
-        ensures { IfOk result (Takes (model.call (call_of call)) self.old self.new) }
+        ensures { IfOk result (TakesLine (model.call (call_of call)) self.old self.new) }
     {
         let Some(segment) = &mut self.last else {
             return Ok(false);
@@ -90,14 +89,14 @@ impl Draft {
 
     fn take_required(&mut self, name: String, column_type: ColumnType) -> Result<bool, AllocError>
         ensures { IfOk result
-            (Takes (model.require (required_of (name, column_type))) self.old self.new) }
+            (TakesLine (model.require (required_column_of (name, column_type))) self.old self.new) }
     {
         self.required.push((name, column_type))?;
         Ok(true)
     }
 
     fn take_order(&mut self, rows: Vec<RowAddr>) -> bool
-        ensures { Takes (model.order (map address_of rows.items)) self.old self.new result }
+        ensures { TakesLine (model.order (map address_of rows.items)) self.old self.new result }
     {
         if self.order.is_some() {
             return false;
@@ -107,7 +106,7 @@ impl Draft {
     }
 
     fn take_find(&mut self, find: Find) -> Result<bool, AllocError>
-        ensures { IfOk result (Takes (model.lookup (find_of find)) self.old self.new) }
+        ensures { IfOk result (TakesLine (model.lookup (find_of find)) self.old self.new) }
     {
         self.finds.push(find)?;
         Ok(true)
@@ -116,7 +115,7 @@ impl Draft {
     /// The script, if no lines are behind the draft.
     pub fn finish(self) -> Result<Script, AllocError>
         ensures { IfOk result
-            (λ script. summary_with (parts_of self) [] ≡ Some (summary_of script)) }
+            (λ script. summary_with (draft_parts self) [] ≡ Some (summary_of script)) }
     {
         let Draft {
             mut earlier,

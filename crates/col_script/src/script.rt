@@ -7,7 +7,7 @@ ghost use Rattle.col_script.specs.Scripts.{IsScriptOf, pieces_left};
 use crate::draft::Draft;
 use crate::segment::Segment;
 use col_common::RowAddr;
-use col_find::Find;
+use col_lines::Find;
 use col_types::ColumnType;
 use json::Scratch;
 use std::alloc::{AllocError, Global};

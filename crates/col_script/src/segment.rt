@@ -1,16 +1,14 @@
 //! The segments of a script, and the calls that record into them.
-ghost use Rattle.std.specs.Prelude.{◌≡◌, [], OnOk};
+ghost use Rattle.std.specs.Prelude.{◌≡◌, [], OnErr, OnOk};
 ghost use Rattle.col_model.specs.Recording.{content_after, recorded};
-ghost use Rattle.col_record.specs.Answers.{Answers};
-ghost use Rattle.col_types.specs.Kinds.{kind_of};
-ghost use Rattle.col_script.specs.Lines.{call_of, terms_type};
+ghost use Rattle.col_writer_columns.specs.Answers.{RecordsOrRefuses};
+ghost use Rattle.col_lines.specs.Lines.{call_of};
+ghost use Rattle.col_lines.specs.Values.{typed_cell};
 ghost use Rattle.col_script.specs.Segments.{segment_of, after_call};
-ghost use Rattle.col_script.specs.Values.{typed_cell};
 
-use crate::line::{Call, TermType};
-use crate::value::TypedValue;
 use col_common::{ColumnarError, DocId};
-use col_types::{ColumnType, NumericalValue};
+use col_lines::{Call, TypedValue};
+use col_types::NumericalValue;
 use col_writer::ColumnarWriter;
 use std::alloc::{AllocError, Global};
 
@@ -37,13 +35,14 @@ impl Segment {
 
     /// Makes a call, unless an earlier one was refused.
     pub fn record(&mut self, call: &Call) -> Result<(), AllocError>
-        ensures { OnOk result
+        ensures ok { OnOk result
             (segment_of self.new ≡ after_call (segment_of self.old) (call_of call.now)) }
+        ensures kept { OnErr result (self.new ≡ self.old) }
     {
         if self.refusal.is_some() {
             return Ok(());
         }
-        match call.record(&mut self.columns) {
+        match record_call(call, &mut self.columns) {
             Ok(()) => Ok(()),
             Err(ColumnarError::OutOfMemory) => Err(AllocError),
             Err(refusal) => {
@@ -54,57 +53,40 @@ impl Segment {
     }
 }
 
-impl Call {
-    fn record(&self, columns: &mut ColumnarWriter) -> Result<(), ColumnarError>
-        ensures { Answers columns.old columns.new result
-            (content_after columns.old (call_of self.now)) }
-    {
-        match self {
-            Call::Value { doc, name, value } => value.record(*doc, name.as_str(), columns),
-            Call::Type { name, column_type } => {
-                columns.record_column_type(name.as_str(), *column_type, false)
-            }
-            Call::Sorted { name, term_type } => {
-                columns.record_column_type(name.as_str(), term_type.column_type(), true)
-            }
-            Call::Tie { name, start } => columns.record_tie_breaker_column(name.as_str(), *start),
+// Makes a call on a writer.
+fn record_call(call: &Call, columns: &mut ColumnarWriter) -> Result<(), ColumnarError>
+    ensures { RecordsOrRefuses columns.old columns.new result
+        (content_after columns.old (call_of call.now)) }
+{
+    match call {
+        Call::Value { doc, name, value } => record_value(value, *doc, name.as_str(), columns),
+        Call::Type { name, column_type } => {
+            columns.record_column_type(name.as_str(), *column_type, false)
         }
+        Call::Sorted { name, term_type } => {
+            columns.record_column_type(name.as_str(), term_type.column_type(), true)
+        }
+        Call::Tie { name, start } => columns.record_tie_breaker_column(name.as_str(), *start),
     }
 }
 
-impl TermType {
-    fn column_type(self) -> ColumnType
-        ensures { kind_of result ≡ terms_type self }
-    {
-        match self {
-            TermType::Bytes => ColumnType::Bytes,
-            TermType::Str => ColumnType::Str,
-        }
-    }
-}
-
-impl TypedValue {
-    fn record(
-        &self,
-        doc: DocId,
-        name: &str,
-        columns: &mut ColumnarWriter,
-    ) -> Result<(), ColumnarError>
-        ensures { Answers columns.old columns.new result (content_after columns.old
-            (recorded doc name.now (typed_cell self.now).0 (typed_cell self.now).1)) }
-    {
-        match self {
-            TypedValue::I64(value) => {
-                columns.record_numerical(doc, name, NumericalValue::I64(*value))
-            }
-            TypedValue::U64(value) => {
-                columns.record_numerical(doc, name, NumericalValue::U64(*value))
-            }
-            TypedValue::Bytes(value) => columns.record_bytes(doc, name, value.as_slice()),
-            TypedValue::Str(value) => columns.record_str(doc, name, value.as_str()),
-            TypedValue::Bool(value) => columns.record_bool(doc, name, *value),
-            TypedValue::IpAddr(value) => columns.record_ip_addr(doc, name, *value),
-            TypedValue::DateTime(value) => columns.record_datetime(doc, name, *value),
-        }
+// Records a value of a document under a name.
+fn record_value(
+    value: &TypedValue,
+    doc: DocId,
+    name: &str,
+    columns: &mut ColumnarWriter,
+) -> Result<(), ColumnarError>
+    ensures { RecordsOrRefuses columns.old columns.new result (content_after columns.old
+        (recorded doc name.now (typed_cell value.now).0 (typed_cell value.now).1)) }
+{
+    match value {
+        TypedValue::I64(value) => columns.record_numerical(doc, name, NumericalValue::I64(*value)),
+        TypedValue::U64(value) => columns.record_numerical(doc, name, NumericalValue::U64(*value)),
+        TypedValue::Bytes(value) => columns.record_bytes(doc, name, value.as_slice()),
+        TypedValue::Str(value) => columns.record_str(doc, name, value.as_str()),
+        TypedValue::Bool(value) => columns.record_bool(doc, name, *value),
+        TypedValue::IpAddr(value) => columns.record_ip_addr(doc, name, *value),
+        TypedValue::DateTime(value) => columns.record_datetime(doc, name, *value),
     }
 }

@@ -14,10 +14,12 @@ use Rattle.col_model.proofs.OrderingLaws.{bytes_eq-true}
 
 -- ---- terms with their hashes
 
+-- before the first term no hashes are known
 pub hashed-none : (h : Hashes) → h.count ≡ 0 → AreHashed [] h
 unfolding IsDistinct
 hashed-none h e = record { differ = tt; few = omega arith; count = e; hashes = λ id below. absurd (omega arith) }
 
+-- hashes that stay the same are still those of the terms
 pub hashed-kept : (ts : List (List ℕ)) (h k : Hashes) → AreHashed ts h → KeepsHashes h k → AreHashed ts k
 hashed-kept ts h k a kept = record {
   differ = a.differ;
@@ -26,7 +28,9 @@ hashed-kept ts h k a kept = record {
   hashes = λ id below. kept.hashes id (let n = a.count in omega arith) ∙ a.hashes id below;
 }
 
-pub hashed-more : (ts : List (List ℕ)) (t : List ℕ) (h k : Hashes) (hash : ℕ) → AreHashed ts h → AddsHash h hash k → hash ≡ hash_of t → is_known ts t ≡ false → length ts < 2 ^ 32 - 1 → AreHashed (ts ++ t ∷ []) k
+-- a new term put behind the others, with its hash, is hashed like them
+pub hashed-more : (ts : List (List ℕ)) (t : List ℕ) (h k : Hashes) (hash : ℕ) → AreHashed ts h → AddsHash h hash k
+    → hash ≡ hash_of t → is_known ts t ≡ false → length ts < 2 ^ 32 - 1 → AreHashed (ts ++ t ∷ []) k
 hashed-more ts t h k hash a more e fresh room =
     let longer = length_push ts t in
     let many = a.count in
@@ -36,7 +40,8 @@ hashed-more ts t h k hash a more e fresh room =
       count = more.count ∙ omega arith;
       hashes = λ id below.
           elim (cases_eq id (length ts)) [
-            | inl same ↦ ap (λ i. get_or k.hashes i 0) (same ∙ sym many) ∙ more.last ∙ e ∙ ap hash_of (sym (get_or_push ts t [] id (sym same)))
+            | inl same ↦ ap (λ i. get_or k.hashes i 0) (same ∙ sym many) ∙ more.last ∙ e
+                ∙ ap hash_of (sym (get_or_push ts t [] id (sym same)))
             | inr apart ↦
                 let lower : id < length ts = omega arith in
                 more.others id (omega arith) ∙ a.hashes id lower ∙ ap hash_of (sym (get_or_append_left ts (t ∷ []) [] id lower))
@@ -53,11 +58,13 @@ module _ (ts : List (List ℕ)) (t : List ℕ) (id : ℕ) (got : List ℕ) (belo
   pub this-term : bytes_eq got t ≡ true → get_or ts id [] ≡ t
   this-term e = got-is ∙ bytes_eq-true got t e
 
+  -- a term that isn't equal to the one of an id is another
   pub other-term : bytes_eq got t ≡ false → get_or ts id [] ≢ t
   other-term e same = true≢false (sym (same_bytes got t (sym got-is ∙ same)) ∙ e)
 
 -- a term of another hash is another
-pub other-hash : (ts : List (List ℕ)) (h : Hashes) (t : List ℕ) → AreHashed ts h → (id found hash : ℕ) → id < length ts → hash ≡ hash_of t → found ≡ get_or h.hashes id 0 → found ≢ hash → get_or ts id [] ≢ t
+pub other-hash : (ts : List (List ℕ)) (h : Hashes) (t : List ℕ) → AreHashed ts h → (id found hash : ℕ)
+    → id < length ts → hash ≡ hash_of t → found ≡ get_or h.hashes id 0 → found ≢ hash → get_or ts id [] ≢ t
 other-hash ts h t a id found hash below e f apart same = apart (f ∙ a.hashes id below ∙ ap hash_of same ∙ sym e)
 
 -- the ids from a place on have other terms, and the one before it, if any, is in the term's chain
@@ -71,7 +78,10 @@ module _ (ts : List (List ℕ)) (h : Hashes) (t : List ℕ) (a : AreHashed ts h)
   in_chain : (id : ℕ) → id < length ts → get_or ts id [] ≡ t → chain_at h id ≡ chain_of (length h.hashes) (hash_of t)
   in_chain id below e = ap (chain_of (length h.hashes)) (a.hashes id below ∙ ap hash_of e)
 
-  pub sought-next : (at next : ℕ) → 0 < at → IsSought ts h t at → IsLast h (chain_at h (at - 1)) (at - 1) next → get_or ts (at - 1) [] ≢ t → IsSought ts h t next
+  -- where the last id of the chain has another term, the search goes on with the id before it in
+  -- the chain
+  pub sought-next : (at next : ℕ) → 0 < at → IsSought ts h t at → IsLast h (chain_at h (at - 1)) (at - 1) next
+      → get_or ts (at - 1) [] ≢ t → IsSought ts h t next
   sought-next at next some s l other =
       let chain = s.of_chain some in
       record {
@@ -87,11 +97,15 @@ module _ (ts : List (List ℕ)) (h : Hashes) (t : List ℕ) (a : AreHashed ts h)
             ];
       }
 
+  -- a search that has no id left finds the term unknown
   pub sought-none : (at : ℕ) → at ≤ 0 → IsSought ts h t at → known_id ts t ≡ None
   sought-none at over s =
-      let none : is_known ts t ≡ false = list_any_none (bytes_eq t) ts (λ k d below. false_from_ne_true (bytes_eq t (get_or ts k d)) (λ e. s.none_above k (omega arith) below (sym (bytes_eq-true t (get_or ts k d) e ∙ get_or_default ts k d [] below)))) in
+      let none : is_known ts t ≡ false = list_any_none (bytes_eq t) ts (λ k d below. false_from_ne_true
+      (bytes_eq t (get_or ts k d)) (λ e. s.none_above k (omega arith) below
+      (sym (bytes_eq-true t (get_or ts k d) e ∙ get_or_default ts k d [] below)))) in
       ap (λ b. cond b (Some (id_of ts t)) None) none
 
+  -- a search that has met the term knows it by its id
   pub sought-found : (id : ℕ) → id < length ts → get_or ts id [] ≡ t → known_id ts t ≡ Some id
   sought-found id below e =
       let there : is_known ts t ≡ true = ap (is_known ts) (sym e) ∙ known_at ts id below in

@@ -18,7 +18,9 @@ ascend_behind (Some last) ts = is_ascending (last ∷ ts)
 
 -- ends behind a place cut what is left of the text into terms behind the last one
 abbrev pub cut_rest : ℕ → Option (List ℕ) → List ℕ → List ℕ → Bool
-cut_rest start last ends rest = is_never_falling (start ∷ ends) && (sum (differences (start ∷ ends)) == length rest) && ascend_behind last (cut (differences (start ∷ ends)) rest)
+cut_rest start last ends rest =
+    is_never_falling (start ∷ ends) && (sum (differences (start ∷ ends)) == length rest)
+    && ascend_behind last (cut (differences (start ∷ ends)) rest)
 
 and_true : (b : Bool) → (b && true) ≡ b
 and_true true = refl
@@ -42,59 +44,80 @@ module _ (start e : ℕ) (last : Option (List ℕ)) (es rest : List ℕ) where
   pub cut_rest-long : length rest < e - start → cut_rest start last (e ∷ es) rest ≡ false
   cut_rest-long h =
       let ne = ne_eqb (sum (differences (start ∷ e ∷ es))) (length rest) (λ s. omega (arith, sized)) in
-      and_left (is_never_falling (start ∷ e ∷ es) && (sum (differences (start ∷ e ∷ es)) == length rest)) _ (and_right (is_never_falling (start ∷ e ∷ es)) (sum (differences (start ∷ e ∷ es)) == length rest) ne)
+      and_left (is_never_falling (start ∷ e ∷ es) && (sum (differences (start ∷ e ∷ es)) == length rest)) _
+      (and_right (is_never_falling (start ∷ e ∷ es)) (sum (differences (start ∷ e ∷ es)) == length rest) ne)
 
   stands_behind : (l : Option (List ℕ)) (t : List ℕ) (ts : List (List ℕ)) → follows l t ≡ false → ascend_behind l (t ∷ ts) ≡ false
   stands_behind None t ts h = cc
   stands_behind (Some l) t ts h = and_left (is_before l t) (is_ascending (t ∷ ts)) h
 
-  ascends_on : (l : Option (List ℕ)) (t : List ℕ) (ts : List (List ℕ)) → follows l t ≡ true → ascend_behind l (t ∷ ts) ≡ is_ascending (t ∷ ts)
+  ascends_on : (l : Option (List ℕ)) (t : List ℕ) (ts : List (List ℕ)) → follows l t ≡ true
+      → ascend_behind l (t ∷ ts) ≡ is_ascending (t ∷ ts)
   ascends_on None t ts h = refl
   ascends_on (Some l) t ts h = ap (λ b. b && is_ascending (t ∷ ts)) h
 
   -- a term that doesn't stand behind the last one
   pub cut_rest-unordered : follows last (take (e - start) rest) ≡ false → cut_rest start last (e ∷ es) rest ≡ false
   unfolding cut
-  cut_rest-unordered h = and_right (is_never_falling (start ∷ e ∷ es) && (sum (differences (start ∷ e ∷ es)) == length rest)) _ (stands_behind last (take (e - start) rest) (cut (differences (e ∷ es)) (drop (e - start) rest)) h)
+  cut_rest-unordered h =
+      and_right (is_never_falling (start ∷ e ∷ es) && (sum (differences (start ∷ e ∷ es)) == length rest)) _
+      (stands_behind last (take (e - start) rest) (cut (differences (e ∷ es)) (drop (e - start) rest)) h)
 
   -- one term more
-  pub cut_rest-more : start ≤ e → e - start ≤ length rest → follows last (take (e - start) rest) ≡ true → cut_rest start last (e ∷ es) rest ≡ cut_rest e (Some (take (e - start) rest)) es (drop (e - start) rest)
+  pub cut_rest-more : start ≤ e → e - start ≤ length rest → follows last (take (e - start) rest) ≡ true
+      → cut_rest start last (e ∷ es) rest ≡ cut_rest e (Some (take (e - start) rest)) es (drop (e - start) rest)
   unfolding cut
   cut_rest-more h k f =
       let ts = cut (differences (e ∷ es)) (drop (e - start) rest) in
       let left = length-drop (e - start) rest in
-      let sums : (sum (differences (start ∷ e ∷ es)) == length rest) ≡ (sum (differences (e ∷ es)) == length (drop (e - start) rest)) = let s = sized in grind (arith, nat_tests) in
-      ap (λ a. ((a && is_never_falling (e ∷ es)) && (sum (differences (start ∷ e ∷ es)) == length rest)) && ascend_behind last (take (e - start) rest ∷ ts)) (le-leb start e h)
+      let sums : (sum (differences (start ∷ e ∷ es)) == length rest) ≡
+      (sum (differences (e ∷ es)) == length (drop (e - start) rest)) =
+      let s = sized in grind (arith, nat_tests) in
+      ap (λ a. ((a && is_never_falling (e ∷ es)) && (sum (differences (start ∷ e ∷ es)) == length rest))
+      && ascend_behind last (take (e - start) rest ∷ ts)) (le-leb start e h)
       ∙ ap (λ s. (is_never_falling (e ∷ es) && s) && ascend_behind last (take (e - start) rest ∷ ts)) sums
-      ∙ ap (λ w. (is_never_falling (e ∷ es) && (sum (differences (e ∷ es)) == length (drop (e - start) rest))) && w) (ascends_on last (take (e - start) rest) ts f)
+      ∙ ap (λ w. (is_never_falling (e ∷ es) && (sum (differences (e ∷ es)) == length (drop (e - start) rest))) && w)
+      (ascends_on last (take (e - start) rest) ts f)
 
 -- a turn of a walk over ends: e is the end at place i
-module _ (n : ℕ) (bytes text : List ℕ) (i start e : ℕ) (last : Option (List ℕ)) (h : i < n) (read : e ≡ number_at bytes (i * 4)) (so_far : cut_whole (numbers_in n bytes) text ≡ cut_rest start last (drop i (numbers_in n bytes)) (drop start text)) where
+module _ (n : ℕ) (bytes text : List ℕ) (i start e : ℕ) (last : Option (List ℕ)) (h : i < n)
+    (read : e ≡ number_at bytes (i * 4)) (so_far : cut_whole (numbers_in n bytes) text ≡ cut_rest start last
+    (drop i (numbers_in n bytes)) (drop start text)) where
   here : cut_whole (numbers_in n bytes) text ≡ cut_rest start last (e ∷ drop (i + 1) (numbers_in n bytes)) (drop start text)
   here =
       let at : number_at bytes (4 * i) ≡ e = ap (number_at bytes) (omega arith) ∙ sym read in
-      so_far ∙ ap (λ es. cut_rest start last es (drop start text)) (drop-numbers_in n bytes i h ∙ ap (λ k. k ∷ drop (i + 1) (numbers_in n bytes)) at)
+      so_far ∙ ap (λ es. cut_rest start last es (drop start text))
+      (drop-numbers_in n bytes i h ∙ ap (λ k. k ∷ drop (i + 1) (numbers_in n bytes)) at)
 
+  -- an end before the start of its term says that the text isn't cut whole
   pub turn-falls : e < start → false ≡ cut_whole (numbers_in n bytes) text
   turn-falls falls = sym (here ∙ cut_rest-falls start e last (drop (i + 1) (numbers_in n bytes)) (drop start text) falls)
 
+  -- an end behind the text says that the text isn't cut whole
   pub turn-long : start ≤ length text → length text < e → false ≡ cut_whole (numbers_in n bytes) text
   turn-long within long =
       let left = length-drop start text in
       sym (here ∙ cut_rest-long start e last (drop (i + 1) (numbers_in n bytes)) (drop start text) (omega arith))
 
+  -- a term that doesn't follow the one before it says that the text isn't cut whole
   pub turn-unordered : follows last (take (e - start) (drop start text)) ≡ false → false ≡ cut_whole (numbers_in n bytes) text
   turn-unordered f = sym (here ∙ cut_rest-unordered start e last (drop (i + 1) (numbers_in n bytes)) (drop start text) f)
 
-  pub turn-more : start ≤ e → e ≤ length text → follows last (take (e - start) (drop start text)) ≡ true → cut_whole (numbers_in n bytes) text ≡ cut_rest e (Some (take (e - start) (drop start text))) (drop (i + 1) (numbers_in n bytes)) (drop e text)
+  -- a term that follows the one before it leaves the rest of the text to be cut
+  pub turn-more : start ≤ e → e ≤ length text → follows last (take (e - start) (drop start text)) ≡ true
+      → cut_whole (numbers_in n bytes) text
+      ≡ cut_rest e (Some (take (e - start) (drop start text))) (drop (i + 1) (numbers_in n bytes)) (drop e text)
   turn-more up fits f =
       let left = length-drop start text in
-      let moved : drop (e - start) (drop start text) ≡ drop e text = drop-drop (e - start) start text ∙ ap (λ k. drop k text) (omega arith) in
+      let moved : drop (e - start) (drop start text) ≡ drop e text =
+      drop-drop (e - start) start text ∙ ap (λ k. drop k text) (omega arith) in
       here ∙ cut_rest-more start e last (drop (i + 1) (numbers_in n bytes)) (drop start text) up (omega arith) f
       ∙ ap (cut_rest e (Some (take (e - start) (drop start text))) (drop (i + 1) (numbers_in n bytes))) moved
 
 -- no end is left, and the text must be taken whole
-pub turn-end : (n : ℕ) (bytes text : List ℕ) (i start : ℕ) (last : Option (List ℕ)) → n ≤ i → start ≤ length text → cut_whole (numbers_in n bytes) text ≡ cut_rest start last (drop i (numbers_in n bytes)) (drop start text) → (start == length text) ≡ cut_whole (numbers_in n bytes) text
+pub turn-end : (n : ℕ) (bytes text : List ℕ) (i start : ℕ) (last : Option (List ℕ)) → n ≤ i → start ≤ length text
+    → cut_whole (numbers_in n bytes) text ≡ cut_rest start last (drop i (numbers_in n bytes)) (drop start text)
+    → (start == length text) ≡ cut_whole (numbers_in n bytes) text
 turn-end n bytes text i start last h within so_far =
     let none : drop i (numbers_in n bytes) ≡ [] = drop_all i (numbers_in n bytes) (omega (arith, length-numbers_in n bytes)) in
     let left = length-drop start text in
@@ -104,7 +127,9 @@ turn-end n bytes text i start last h within so_far =
 -- ---- terms at their places
 
 -- a term stands between the end before and its own
-pub cut-at : (s : ℕ) (ends text : List ℕ) (i : ℕ) → is_never_falling (s ∷ ends) ≡ true → i < length ends → slice_get (cut (differences (s ∷ ends)) (drop s text)) i ≡ Some (take (get_or ends i 0 - get_or (s ∷ ends) i 0) (drop (get_or (s ∷ ends) i 0) text))
+pub cut-at : (s : ℕ) (ends text : List ℕ) (i : ℕ) → is_never_falling (s ∷ ends) ≡ true → i < length ends
+    → slice_get (cut (differences (s ∷ ends)) (drop s text)) i
+    ≡ Some (take (get_or ends i 0 - get_or (s ∷ ends) i 0) (drop (get_or (s ∷ ends) i 0) text))
 unfolding cut
 cut-at s [] text i up h = absurd (omega arith)
 cut-at s (e ∷ es) text zero up h = refl
@@ -120,7 +145,8 @@ rises [] h = refl
 rises (e ∷ es) h = and_from (nat_le 0 e) (is_never_falling (e ∷ es)) (le-leb 0 e (omega arith)) h
 
 -- each end is at least the one before, and within the text
-pub ends-within : (s : ℕ) (ends : List ℕ) (i : ℕ) → is_never_falling (s ∷ ends) ≡ true → i < length ends → (get_or (s ∷ ends) i 0 ≤ get_or ends i 0) × (get_or ends i 0 ≤ s + sum (differences (s ∷ ends)))
+pub ends-within : (s : ℕ) (ends : List ℕ) (i : ℕ) → is_never_falling (s ∷ ends) ≡ true → i < length ends
+    → (get_or (s ∷ ends) i 0 ≤ get_or ends i 0) × (get_or ends i 0 ≤ s + sum (differences (s ∷ ends)))
 ends-within s [] i up h = absurd (omega arith)
 ends-within s (e ∷ es) zero up h =
     let le : s ≤ e = leb-true s e (and_parts (nat_le s e) (is_never_falling (e ∷ es)) up).0 in
@@ -133,6 +159,7 @@ ends-within s (e ∷ es) (suc i) up h =
     let sized = sum-cons (e - s) (differences (e ∷ es)) in
     (later.0, omega (arith, later.1, sized))
 
+-- there are as many pieces as lengths
 pub length-cut : (ns xs : List ℕ) → length (cut ns xs) ≡ length ns
 unfolding cut
 length-cut [] xs = refl

@@ -12,6 +12,7 @@ use Rattle.col_terms.specs.Laws.{TermsAreThoseGiven}
 use Rattle.col_terms.proofs.OrderedLemmas.{in_order-ordered, is_ascending-in_order}
 use Rattle.col_terms.proofs.PlaceLemmas.{known_at, place_below, term_at_place}
 
+-- a term is one of the terms in order where it is one of those given, and there alone
 pub known-ordered : (ts : List (List ℕ)) (t : List ℕ) → is_known (ordered ts) t ≡ is_known ts t
 known-ordered ts t = among-has t (ordered ts) ∙ has-distinct (slice_cmp nat_cmp) nat_list_cmp_total t ts ∙ sym (among-has t ts)
 
@@ -25,6 +26,7 @@ term-at-ordinal ts id h =
     ∙ ap Some (term_at_place (ordered ts) t there)
     ∙ sym (slice_get-get_or ts id [] h)
 
+-- the terms in order are those that were given, and their ordinals are their places
 pub terms-are-those-given : TermsAreThoseGiven
 terms-are-those-given = record {
   ascend = λ ts. is_ascending-in_order (ordered ts) (in_order-ordered ts);

@@ -7,9 +7,13 @@ use Rattle.col_terms.specs.TermTable.{head_of}
 
 -- what stands from a place on
 rest : (t : List ℕ) (n : ℕ) → take (length t - n) (drop n t) ≡ drop n t
-rest t n = ap (λ k. take k (drop n t)) (let l = length-drop n t in let same : length t - n ≡ length (drop n t) = omega arith in same) ∙ take-length (drop n t)
+rest t n =
+    ap (λ k. take k (drop n t))
+    (let l = length-drop n t in let same : length t - n ≡ length (drop n t) = omega arith in same)
+    ∙ take-length (drop n t)
 
-one_word : (n m hash : ℕ) (bytes : List ℕ) → n ≡ m + 1 → mixed_words n hash bytes ≡ mixed_words m (mixed hash (head_of bytes)) (drop 8 bytes)
+one_word : (n m hash : ℕ) (bytes : List ℕ) → n ≡ m + 1
+    → mixed_words n hash bytes ≡ mixed_words m (mixed hash (head_of bytes)) (drop 8 bytes)
 unfolding mixed_words
 one_word n m hash bytes e = ap (λ k. mixed_words k hash bytes) (e ∙ add-one m)
 
@@ -27,7 +31,8 @@ module _ (t : List ℕ) (i hash : ℕ) where
   Comes = mixed_words (n - i) hash (drop (i * 8) t) ≡ mixed_words n 0 t
 
   -- one word more
-  pub hash-more : (word next : ℕ) → i < n → Comes → word ≡ head_of (take (length t - i * 8) (drop (i * 8) t)) → next ≡ mixed hash word → mixed_words (n - (i + 1)) next (drop ((i + 1) * 8) t) ≡ mixed_words n 0 t
+  pub hash-more : (word next : ℕ) → i < n → Comes → word ≡ head_of (take (length t - i * 8) (drop (i * 8) t))
+      → next ≡ mixed hash word → mixed_words (n - (i + 1)) next (drop ((i + 1) * 8) t) ≡ mixed_words n 0 t
   hash-more word next h so_far e f =
       let read : word ≡ head_of (drop (i * 8) t) = e ∙ ap head_of (rest t (i * 8)) in
       let moved : drop 8 (drop (i * 8) t) ≡ drop ((i + 1) * 8) t = drop-drop 8 (i * 8) t ∙ ap (λ k. drop k t) (omega arith) in
@@ -37,7 +42,9 @@ module _ (t : List ℕ) (i hash : ℕ) where
       ∙ so_far
 
   -- the last bytes and the length
-  pub hash-end : (last word then whole : ℕ) → n ≤ i → Comes → last ≡ length t - 8 → word ≡ head_of (take (length t - last) (drop last t)) → then ≡ mixed hash word → whole ≡ mixed then (length t) → whole / 2 ^ 32 ≡ hash_of t
+  pub hash-end : (last word then whole : ℕ) → n ≤ i → Comes → last ≡ length t - 8
+      → word ≡ head_of (take (length t - last) (drop last t)) → then ≡ mixed hash word
+      → whole ≡ mixed then (length t) → whole / 2 ^ 32 ≡ hash_of t
   unfolding hash_of
   hash-end last word then whole h so_far e f g k =
       let words : hash ≡ mixed_words n 0 t = sym (no_word (n - i) hash (drop (i * 8) t) (omega arith)) ∙ so_far in

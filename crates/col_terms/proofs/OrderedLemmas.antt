@@ -22,11 +22,13 @@ use Rattle.col_model.proofs.DistinctLaws.{sorted-with_item}
 abbrev by_bytes : List ℕ → List ℕ → Ordering
 by_bytes = slice_cmp nat_cmp
 
+-- the terms strictly ascend
 abbrev pub AreInOrder : List (List ℕ) → Type 0
 AreInOrder ts = IsStrictlySortedBy (slice_cmp nat_cmp) ts
 
 -- ---- one more term
 
+-- terms put in order strictly ascend
 pub in_order-ordered : (ts : List (List ℕ)) → AreInOrder (ordered ts)
 unfolding distinct_items IsStrictlySortedBy
 in_order-ordered [] = tt
@@ -41,14 +43,17 @@ is_ascending-in_order (x ∷ y ∷ ts) s = rw (s.0.0, is_ascending-in_order (y �
 
 -- ---- terms that differ
 
-permutation-with_item : (x : List ℕ) (zs : List (List ℕ)) → list_any (bytes_eq x) zs ≡ false → IsPermutation (x ∷ zs) (with_item by_bytes x zs)
+permutation-with_item : (x : List ℕ) (zs : List (List ℕ)) → list_any (bytes_eq x) zs ≡ false
+    → IsPermutation (x ∷ zs) (with_item by_bytes x zs)
 permutation-with_item x [] new = IsPermutation-refl (x ∷ [])
-permutation-with_item x (z ∷ zs) new = go (by_bytes x z) refl (permutation-with_item x zs (or_parts (bytes_eq x z) (list_any (bytes_eq x) zs) new).1)
+permutation-with_item x (z ∷ zs) new =
+    go (by_bytes x z) refl (permutation-with_item x zs (or_parts (bytes_eq x z) (list_any (bytes_eq x) zs) new).1)
   where
     apart : bytes_eq x z ≡ false
     apart = (or_parts (bytes_eq x z) (list_any (bytes_eq x) zs) new).0
 
-    go : (o : Ordering) → by_bytes x z ≡ o → IsPermutation (x ∷ zs) (with_item by_bytes x zs) → IsPermutation (x ∷ z ∷ zs) (match_ordering o (x ∷ z ∷ zs) (z ∷ zs) (z ∷ with_item by_bytes x zs))
+    go : (o : Ordering) → by_bytes x z ≡ o → IsPermutation (x ∷ zs) (with_item by_bytes x zs)
+        → IsPermutation (x ∷ z ∷ zs) (match_ordering o (x ∷ z ∷ zs) (z ∷ zs) (z ∷ with_item by_bytes x zs))
     go Less e rest = IsPermutation-refl (x ∷ z ∷ zs)
     go Equal e rest = absurd (true≢false (sym (ap is_eq e) ∙ is_eq-slice_cmp x z ∙ apart))
     go Greater e rest =
@@ -61,6 +66,7 @@ absent : (x : List ℕ) (ts : List (List ℕ)) → AllByRecursion (λ y. bytes_e
 absent x [] all = refl
 absent x (y ∷ ts) all = rw (all.0, absent x ts all.1) refl
 
+-- terms that differ are the same terms put in order
 pub permutation-ordered : (ts : List (List ℕ)) → IsDistinct bytes_eq ts → IsPermutation ts (ordered ts)
 unfolding distinct_items
 permutation-ordered [] d = IsPermutation-refl []
@@ -75,4 +81,5 @@ permutation-ordered (t ∷ ts) d =
 pub same_in_order : (xs ys : List (List ℕ)) → AreInOrder xs → AreInOrder ys → IsPermutation xs ys → xs ≡ ys
 same_in_order xs ys s t p =
     let set_of : List (List ℕ) → BTreeSet (List ℕ) = λ zs. record { keys = zs } in
-    btree_set_from_contains nat_list_cmp_total (set_of xs) (set_of ys) s t (λ q. list_any-IsPermutation (λ k. is_eq (slice_cmp nat_cmp q k)) xs ys p) exact_bytes
+    btree_set_from_contains nat_list_cmp_total (set_of xs) (set_of ys) s t
+    (λ q. list_any-IsPermutation (λ k. is_eq (slice_cmp nat_cmp q k)) xs ys p) exact_bytes

@@ -28,7 +28,8 @@ smaller_lacks [] (y ∷ t) h = absurd (false≢true h)
 smaller_lacks (x ∷ p) [] h = refl
 smaller_lacks (x ∷ p) (y ∷ t) h =
     elim (cases_order y x) [
-      | inl same ↦ and_right (x == y) (has_prefix p t) (smaller_lacks p t (sym (decided y x Equal (slice_cmp nat_cmp t p) (cmp_same y x same)) ∙ h))
+      | inl same ↦ and_right (x == y) (has_prefix p t)
+          (smaller_lacks p t (sym (decided y x Equal (slice_cmp nat_cmp t p) (cmp_same y x same)) ∙ h))
       | inr apart ↦ and_left (x == y) (has_prefix p t) (ne_eqb x y (λ e. elim apart [ inl below ↦ omega arith | inr above ↦ omega arith ]))
     ]
 
@@ -63,13 +64,15 @@ pub record IsEnding (ts : List (List ℕ)) (prefix : List ℕ) (start low high :
 
 module _ (ts : List (List ℕ)) (prefix : List ℕ) (start : ℕ) (f : IsFirstFrom ts prefix start) where
   -- a turn: the term in the middle is tried
-  module _ (low high : ℕ) (term : List ℕ) (e : is_ascending ts ≡ true) (s : IsEnding ts prefix start low high) (more : low < high) (read : slice_get ts (middle low high) ≡ Some term) where
+  module _ (low high : ℕ) (term : List ℕ) (e : is_ascending ts ≡ true) (s : IsEnding ts prefix start low high)
+      (more : low < high) (read : slice_get ts (middle low high) ≡ Some term) where
     at : get_or ts (middle low high) [] ≡ term
     at = get_or_from_slice_get ts (middle low high) term [] read
 
     before : (i j : ℕ) → i < j → j < length ts → is_before (get_or ts i []) (get_or ts j []) ≡ true
     before i j h k = ap is_lt (pairwise ts i j e h k)
 
+    -- where the middle term has the prefix, the search for the end goes on behind it
     pub ending-has : has_prefix prefix term ≡ true → IsEnding ts prefix start (middle low high + 1) high
     ending-has has =
         let m = middle low high in
@@ -79,12 +82,14 @@ module _ (ts : List (List ℕ)) (prefix : List ℕ) (start : ℕ) (f : IsFirstFr
           ordered = omega arith;
           within = s.within;
           have = λ j h k. elim (cases_lt j m) [
-            | inl below ↦ between_has prefix (get_or ts j []) (get_or ts m []) (f.none_smaller j h (omega (arith, s.within))) (before j m below (omega (arith, s.within))) here
+            | inl below ↦ between_has prefix (get_or ts j []) (get_or ts m [])
+                (f.none_smaller j h (omega (arith, s.within))) (before j m below (omega (arith, s.within))) here
             | inr above ↦ let same : m ≡ j = omega arith in subst (λ i. has_prefix prefix (get_or ts i []) ≡ true) same here
           ];
           have_not = s.have_not;
         }
 
+    -- where the middle term hasn't the prefix, the search for the end goes on before it
     pub ending-lacks : has_prefix prefix term ≡ false → IsEnding ts prefix start low (middle low high)
     ending-lacks lacks =
         let m = middle low high in
@@ -95,7 +100,10 @@ module _ (ts : List (List ℕ)) (prefix : List ℕ) (start : ℕ) (f : IsFirstFr
           within = omega (arith, s.within);
           have = s.have;
           have_not = λ j h k. elim (cases_lt m j) [
-            | inl above ↦ false_from_ne_true (has_prefix prefix (get_or ts j [])) (λ has. true≢false (sym (between_has prefix (get_or ts m []) (get_or ts j []) (f.none_smaller m (omega (arith, s.begun)) (omega (arith, s.within))) (before m j above k) has) ∙ here))
+            | inl above ↦ false_from_ne_true (has_prefix prefix (get_or ts j []))
+                (λ has. true≢false (sym (between_has prefix (get_or ts m []) (get_or ts j [])
+                (f.none_smaller m (omega (arith, s.begun)) (omega (arith, s.within))) (before m j above k) has)
+                ∙ here))
             | inr below ↦ let same : m ≡ j = omega arith in subst (λ i. has_prefix prefix (get_or ts i []) ≡ false) same here
           ];
         }
@@ -103,10 +111,13 @@ module _ (ts : List (List ℕ)) (prefix : List ℕ) (start : ℕ) (f : IsFirstFr
 -- ---- the terms between both places
 
 -- the terms with the prefix stand between both places
-pub with_prefix-between : (ts : List (List ℕ)) (prefix : List ℕ) (start upto : ℕ) → IsFirstFrom ts prefix start → IsPrefixEnd ts prefix start upto → take (upto - start) (drop start (numbered ts)) ≡ with_prefix prefix ts
+pub with_prefix-between : (ts : List (List ℕ)) (prefix : List ℕ) (start upto : ℕ) → IsFirstFrom ts prefix start
+    → IsPrefixEnd ts prefix start upto → take (upto - start) (drop start (numbered ts)) ≡ with_prefix prefix ts
 with_prefix-between ts prefix start upto f e =
     let long = length-enumerate_from 0 ts in
-    let read : (j : ℕ) (b : Bool) → j < length ts → has_prefix prefix (get_or ts j []) ≡ b → has_prefix prefix (get_or (numbered ts) j (0, [])).1 ≡ b = λ j b h k. ap (λ (q : OrdTerm). has_prefix prefix q.1) (get_or-enumerate_from 0 ts j (0, []) h) ∙ k in
+    let read : (j : ℕ) (b : Bool) → j < length ts → has_prefix prefix (get_or ts j []) ≡ b → has_prefix prefix
+    (get_or (numbered ts) j (0, [])).1 ≡ b = λ j b h k.
+    ap (λ (q : OrdTerm). has_prefix prefix q.1) (get_or-enumerate_from 0 ts j (0, []) h) ∙ k in
     sym (filter_run (λ (q : OrdTerm). has_prefix prefix q.1) (0, []) (numbered ts) start upto e.ordered (omega (arith, e.in_range))
     (λ j h. read j false (omega (arith, f.in_range)) (smaller_lacks prefix (get_or ts j []) (f.smaller_before j h)))
     (λ j h k. read j true (omega (arith, e.in_range)) (e.have j h k))

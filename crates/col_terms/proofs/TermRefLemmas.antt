@@ -52,17 +52,23 @@ by_texts : (x y : TermRef) → HasHead x → HasHead y → by_term x y ≡ order
 by_texts x y h k =
     let texts_cmp = slice_cmp nat_cmp x.1.now y.1.now in
     ap (λ o. ordering_then o (nat_cmp x.2 y.2))
-    (ap (λ n. ordering_then (nat_cmp n y.0) texts_cmp) h.head ∙ ap (λ n. ordering_then (nat_cmp (head_of x.1.now) n) texts_cmp) k.head ∙ heads_agree 8 x.1.now y.1.now h.bytes k.bytes)
+    (ap (λ n. ordering_then (nat_cmp n y.0) texts_cmp) h.head
+    ∙ ap (λ n. ordering_then (nat_cmp (head_of x.1.now) n) texts_cmp) k.head
+    ∙ heads_agree 8 x.1.now y.1.now h.bytes k.bytes)
 
-module _ (ts : List (List ℕ)) (differ : IsDistinct bytes_eq ts) (us vs : List TermRef) (all : AreNumbered ts (length ts) us) (moved : IsPermutation us vs) (up : IsSorted by_term vs) where
+module _ (ts : List (List ℕ)) (differ : IsDistinct bytes_eq ts) (us vs : List TermRef)
+    (all : AreNumbered ts (length ts) us) (moved : IsPermutation us vs) (up : IsSorted by_term vs) where
   counted : IsPermutation (map ord_term vs) (numbered ts)
-  counted = IsPermutation-sym (numbered ts) (map ord_term vs) (subst (λ qs. IsPermutation qs (map ord_term vs)) (all.terms ∙ ap numbered (take-length ts)) (IsPermutation-map ord_term us vs moved))
+  counted =
+      IsPermutation-sym (numbered ts) (map ord_term vs) (subst (λ qs. IsPermutation qs (map ord_term vs))
+      (all.terms ∙ ap numbered (take-length ts)) (IsPermutation-map ord_term us vs moved))
 
   same_terms : IsPermutation (texts vs) ts
   same_terms =
       let term : OrdTerm → List ℕ = λ q. q.1 in
       subst (λ us. IsPermutation us ts) (terms_of_refs vs)
-      (subst (λ us. IsPermutation (map term (map ord_term vs)) us) (terms_of_numbered 0 ts) (IsPermutation-map term (map ord_term vs) (numbered ts) counted))
+      (subst (λ us. IsPermutation (map term (map ord_term vs)) us) (terms_of_numbered 0 ts)
+      (IsPermutation-map term (map ord_term vs) (numbered ts) counted))
 
   have_heads : All HasHead vs
   have_heads = All-permutation HasHead us vs moved all.heads
@@ -89,15 +95,20 @@ module _ (ts : List (List ℕ)) (differ : IsDistinct bytes_eq ts) (us vs : List 
       not_less =
           let h2 = within in
           let least : is_lt (by_term (get_or vs (k + 1) nothing) (get_or vs k nothing)) ≡ false = up k nothing (omega arith) within in
-          let heads = by_texts (get_or vs (k + 1) nothing) (get_or vs k nothing) (have_heads (k + 1) nothing within) (have_heads k nothing (omega arith)) in
+          let heads = by_texts (get_or vs (k + 1) nothing) (get_or vs k nothing) (have_heads (k + 1) nothing within)
+          (have_heads k nothing (omega arith)) in
           rw (text_at k (omega arith), text_at (k + 1) within) (ap is_lt (sym heads) ∙ least)
 
       go : (o : Ordering) → slice_cmp nat_cmp a b ≡ o → slice_cmp nat_cmp a b ≡ Less
       go Less e = e
-      go Equal e = absurd (true≢false (sym (same_bytes a b (exact_bytes a b e)) ∙ apart_from_distinct bytes_eq (texts vs) k (k + 1) [] terms_differ (omega arith) h))
+      go Equal e =
+          absurd (true≢false (sym (same_bytes a b (exact_bytes a b e))
+          ∙ apart_from_distinct bytes_eq (texts vs) k (k + 1) [] terms_differ (omega arith) h))
       go Greater e =
           let back : slice_cmp nat_cmp b a ≡ Less = nat_list_cmp_total.antisymm b a ∙ ap ordering_reverse e in
-          absurd (true≢false (sym (ap (λ o. is_lt (ordering_then o (nat_cmp (get_or vs (k + 1) nothing).2 (get_or vs k nothing).2))) back) ∙ not_less))
+          absurd (true≢false (sym (ap
+          (λ o. is_lt (ordering_then o (nat_cmp (get_or vs (k + 1) nothing).2 (get_or vs k nothing).2))) back)
+          ∙ not_less))
 
   in_order : AreInOrder (texts vs)
   in_order = sorted_from_all_adjacent nat_list_cmp_total (texts vs) [] neighbours
@@ -118,13 +129,17 @@ module _ (ts : List (List ℕ)) (differ : IsDistinct bytes_eq ts) (us vs : List 
       ap (λ i. i ∷ map (λ (p : TermRef). p.2) ws) (All-head IsPlaced (ord_term w) (map ord_term ws) a)
       ∙ ap (λ is. id_of ts w.1.now ∷ is) (ids_are ws (All-tail IsPlaced (ord_term w) (map ord_term ws) a))
 
+  -- terms sorted with their ids are the terms in order, each with its id
   pub are_ordered : AreOrdered ts vs
   are_ordered =
-      let put : texts vs ≡ ordered ts = same_in_order (texts vs) (ordered ts) in_order (in_order-ordered ts) (IsPermutation-trans (texts vs) ts (ordered ts) same_terms (permutation-ordered ts differ)) in
+      let put : texts vs ≡ ordered ts = same_in_order (texts vs) (ordered ts) in_order (in_order-ordered ts)
+      (IsPermutation-trans (texts vs) ts (ordered ts) same_terms (permutation-ordered ts differ)) in
       record {
         differ = differ;
         terms = put;
-        ids = ids_are vs (All-permutation IsPlaced (numbered ts) (map ord_term vs) (IsPermutation-sym (map ord_term vs) (numbered ts) counted) numbered_placed) ∙ ap (map (id_of ts)) put;
+        ids =
+            ids_are vs (All-permutation IsPlaced (numbered ts) (map ord_term vs)
+            (IsPermutation-sym (map ord_term vs) (numbered ts) counted) numbered_placed) ∙ ap (map (id_of ts)) put;
       }
 
 -- ---- from ids to places
@@ -143,9 +158,11 @@ module _ (ts : List (List ℕ)) (vs : List TermRef) (a : AreOrdered ts vs) where
   long : length (ordered ts) ≡ length vs
   long = ap length (sym a.terms) ∙ length-map vs (λ (p : TermRef). p.1.now)
 
+  -- there are as many terms in order as there are terms
   pub count-ordered : length vs ≡ length ts
   count-ordered = sym long ∙ length_permutation ts (ordered ts) order
 
+  -- the id that is read at a place is the one there
   pub id-read : (k : ℕ) → k < length vs → (get_or vs k nothing).2 ≡ id_at k
   id-read k h = sym (get_or-map (λ (p : TermRef). p.2) vs k nothing 0 h)
 
@@ -159,6 +176,7 @@ module _ (ts : List (List ℕ)) (vs : List TermRef) (a : AreOrdered ts vs) where
     id-is : id_at k ≡ id_of ts (get_or (ordered ts) k [])
     id-is = ap (λ is. get_or is k 0) a.ids ∙ get_or-map (id_of ts) (ordered ts) k [] 0 in_order_too
 
+    -- each id is below the number of terms
     pub id-below : id_at k < length ts
     id-below = let below = place_below ts (get_or (ordered ts) k []) known in omega (arith, id-is)
 
@@ -169,7 +187,9 @@ module _ (ts : List (List ℕ)) (vs : List TermRef) (a : AreOrdered ts vs) where
     place-of-id = ap (id_of (ordered ts)) term-of-id ∙ place_at (ordered ts) k ordered_differ in_order_too
 
   -- one place more
-  pub placed-more : (ords : List ℕ) (ord id : ℕ) → ord < length vs → length ords ≡ length vs → id ≡ id_at ord → ((k : ℕ) → k < ord → get_or ords (id_at k) 0 ≡ k) → (k : ℕ) → k < ord + 1 → get_or (set ords id ord) (id_at k) 0 ≡ k
+  pub placed-more : (ords : List ℕ) (ord id : ℕ) → ord < length vs → length ords ≡ length vs → id ≡ id_at ord
+      → ((k : ℕ) → k < ord → get_or ords (id_at k) 0 ≡ k) → (k : ℕ) → k < ord + 1
+      → get_or (set ords id ord) (id_at k) 0 ≡ k
   placed-more ords ord id h l at so_far k m =
       elim (cases_eq k ord) [
         | inl same ↦
@@ -177,20 +197,24 @@ module _ (ts : List (List ℕ)) (vs : List TermRef) (a : AreOrdered ts vs) where
             let within : id < length ords = let below = id-below ord h in let c = count-ordered in omega arith in
             ap (λ i. get_or (set ords id ord) i 0) (sym here) ∙ get_or-set_same ords id ord 0 within ∙ sym same
         | inr apart ↦
-            let other : id_at k ≢ id = λ e. apart (sym (place-of-id k (omega arith)) ∙ ap (λ i. id_of (ordered ts) (get_or ts i [])) (e ∙ at) ∙ place-of-id ord h) in
+            let other : id_at k ≢ id = λ e. apart (sym (place-of-id k (omega arith))
+            ∙ ap (λ i. id_of (ordered ts) (get_or ts i [])) (e ∙ at) ∙ place-of-id ord h) in
             get_or-set_other ords id (id_at k) ord 0 other ∙ so_far k (omega arith)
       ]
 
   -- all places are there
-  pub ordinals-are : (ords : List ℕ) → length ords ≡ length vs → ((k : ℕ) → k < length vs → get_or ords (id_at k) 0 ≡ k) → ords ≡ ordinals ts
+  pub ordinals-are : (ords : List ℕ) → length ords ≡ length vs
+      → ((k : ℕ) → k < length vs → get_or ords (id_at k) 0 ≡ k) → ords ≡ ordinals ts
   ordinals-are ords l placed = same_lists ords (ordinals ts) (l ∙ count-ordered ∙ sym (length-map ts (id_of (ordered ts)))) at
     where
       at : (i d : ℕ) → i < length ords → get_or ords i d ≡ get_or (ordinals ts) i d
       at i d h =
           let within : i < length ts = let c = count-ordered in omega arith in
           let t = get_or ts i [] in
-          let there : is_known (ordered ts) t ≡ true = sym (list_any-IsPermutation (bytes_eq t) ts (ordered ts) order) ∙ known_at ts i within in
+          let there : is_known (ordered ts) t ≡ true =
+          sym (list_any-IsPermutation (bytes_eq t) ts (ordered ts) order) ∙ known_at ts i within in
           let k = id_of (ordered ts) t in
           let below : k < length vs = let p = place_below (ordered ts) t there in let m = long in omega arith in
           let here : id_at k ≡ i = id-is k below ∙ ap (id_of ts) (term_at_place (ordered ts) t there) ∙ place_at ts i a.differ within in
-          get_or_default ords i d 0 h ∙ ap (λ j. get_or ords j 0) (sym here) ∙ placed k below ∙ sym (get_or-map (id_of (ordered ts)) ts i [] d within)
+          get_or_default ords i d 0 h ∙ ap (λ j. get_or ords j 0) (sym here) ∙ placed k below
+          ∙ sym (get_or-map (id_of (ordered ts)) ts i [] d within)

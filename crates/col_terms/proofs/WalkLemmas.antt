@@ -8,6 +8,7 @@ use Rattle.col_terms.specs.Streams.{OrdTerm, numbered, walk_between, IsWalk}
 use Rattle.col_terms.specs.TermTable.{terms_of}
 use Rattle.col_terms.proofs.TableLemmas.{table_ascending}
 
+-- terms without their ordinals are the terms
 pub numbered-terms : (n : ℕ) (ts : List (List ℕ)) → map (λ (p : OrdTerm). p.1) (enumerate_from n ts) ≡ ts
 numbered-terms n [] = refl
 numbered-terms n (t ∷ ts) = ap (λ r. t ∷ r) (numbered-terms (n + 1) ts)
@@ -29,7 +30,10 @@ taken-ascends (suc (suc n)) (p ∷ q ∷ ps) e =
     let parts = and_parts (is_before p.1 q.1) (is_ascending (texts (q ∷ ps))) e in
     rw (parts.0, taken-ascends (suc n) (q ∷ ps) parts.1) refl
 
-pub walk-ascends : (bytes : List ℕ) (n next upto : ℕ) (on : Bool) (key : List ℕ) → IsWalk bytes n next upto on key → is_ascending (texts (walk_between bytes next upto on key).left) ≡ true
+-- the terms that a walk has still to give ascend
+pub walk-ascends : (bytes : List ℕ) (n next upto : ℕ) (on : Bool) (key : List ℕ) → IsWalk bytes n next upto on key
+    → is_ascending (texts (walk_between bytes next upto on key).left) ≡ true
 walk-ascends bytes n next upto on key h =
-    let all : is_ascending (texts (numbered (terms_of bytes))) ≡ true = ap is_ascending (numbered-terms 0 (terms_of bytes)) ∙ table_ascending bytes n h.table in
+    let all : is_ascending (texts (numbered (terms_of bytes))) ≡ true =
+    ap is_ascending (numbered-terms 0 (terms_of bytes)) ∙ table_ascending bytes n h.table in
     taken-ascends (upto - next) (drop next (numbered (terms_of bytes))) (dropped-ascends next (numbered (terms_of bytes)) all)

@@ -1,8 +1,9 @@
 //! The builder of a dictionary.
-ghost use Rattle.std.specs.Prelude.{◌≡◌, ◌↔◌, bytes_eq, ◌-◌, ◌^◌, ◌<◌, ◌≤◌, min, Some, Err, true, false, ◌++◌, ◌∷◌, [], length, flat_map, sum_by, slice_get, IfOk, IfErr, OnOk, OnErr};
+ghost use Rattle.std.specs.Prelude.{◌≡◌, ◌↔◌, bytes_eq, ◌-◌, ◌^◌, ◌<◌, ◌≤◌, min, Some, Err, true, false, ◌++◌, ◌∷◌, [], length, flat_map, sum_by, slice_get, IfOk, IfErr, OnOk, OnErr, IsTrue};
 ghost use Rattle.std.specs.Int.{w32, to_le_bytes};
-ghost use Rattle.std.specs.List.{concat, IsDistinct};
+ghost use Rattle.std.specs.List.{concat, list_all, IsDistinct};
 ghost use Rattle.col_model.specs.Limits.{dictionary_length};
+ghost use Rattle.col_model.specs.Sound.{are_bytes};
 ghost use Rattle.col_terms.specs.TermTable.{ends_from, dictionary_bytes};
 ghost use Rattle.col_terms.specs.Building.{known_id, ordinals, texts, AreNumbered};
 ghost use Rattle.col_terms.specs.Hashing.{hash_of, AreHashed};
@@ -100,6 +101,13 @@ impl DictionaryBuilder {
         ensures { IsDistinct bytes_eq self.now }
     {
         let _ = &self.chains;
+    }
+
+    /// That the terms are lists of bytes.
+    pub fn terms_are_bytes(&self)
+        ensures { IsTrue (list_all are_bytes self.now) }
+    {
+        self.terms.terms_are_bytes();
     }
 
     /// How many bytes the terms have, as far as 64 bits count.

@@ -1,5 +1,7 @@
 //! Terms one behind another.
-ghost use Rattle.std.specs.Prelude.{◌≡◌, ◌<◌, ◌≤◌, ◌++◌, ◌∷◌, [], length, slice_get, slice_index, Some, OnOk, OnErr};
+ghost use Rattle.std.specs.Prelude.{◌≡◌, ◌<◌, ◌≤◌, ◌++◌, ◌∷◌, [], length, slice_get, slice_index, Some, OnOk, OnErr, IsTrue};
+ghost use Rattle.std.specs.List.{list_all};
+ghost use Rattle.col_model.specs.Sound.{are_bytes};
 ghost use Rattle.col_terms.specs.Building.{counted_bytes};
 
 use std::alloc::{AllocError, Global};
@@ -51,6 +53,13 @@ impl TermArena {
         self.bytes.len() as u64
     }
 
+    /// That the terms are lists of bytes.
+    pub fn terms_are_bytes(&self)
+        ensures { IsTrue (list_all are_bytes self.now) }
+    {
+        bytes_fit(&self.bytes);
+    }
+
     /// The term of an id.
     #[inline]
     pub fn get(&self, id: u32) -> &[u8]
@@ -71,6 +80,13 @@ impl TermArena {
         self.ends.push_reserved(self.bytes.len() as u64);
         Ok(())
     }
+}
+
+// That each byte is below 256.
+fn bytes_fit(bytes: &[u8])
+    ensures { IsTrue (are_bytes bytes.now) }
+{
+    let _ = bytes;
 }
 
 // Where a term starts, which is where the one before ends.

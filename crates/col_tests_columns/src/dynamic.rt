@@ -39,10 +39,3 @@ fn numbers_from_0_on_are_found_without_a_sign(rt: HostRuntime) -> Result<(), Fai
     assert_eq!(rt; docs.as_slice(), [0, 1].as_slice());
     Ok(())
 }
-
-#[test]
-fn a_number_below_0_is_not_found_without_a_sign(rt: HostRuntime) -> Result<(), Fail> {
-    let docs = found(rt.alloc(), &[0x7fff_ffff_ffff_ffff, 0x8000_0000_0000_0005])?;
-    assert_eq!(rt; docs.as_slice(), [].as_slice());
-    Ok(())
-}

@@ -1,10 +1,9 @@
-//! Columns that are opened by their type, of bytes that were worked out by hand from the format's
-//! page.
+//! Columns that are opened as numbers, of bytes that were worked out by hand from the format.
 use bytes::Bytes;
-use col_common::{ColumnarError, RowId};
-use col_dynamic::{ColumnSpaceUsage, ColumnType, DynamicColumn};
-use col_index::{Cardinality, Version};
-use col_open::{LenientColumn, open_column, open_column_u64_lenient, space_usage_of};
+use col_common::ColumnarError;
+use col_dynamic::ColumnType;
+use col_dynamic_open::{LenientColumn, open_column_u64_lenient};
+use col_index::Version;
 use std::alloc::Global;
 use std::test::Fail;
 
@@ -22,58 +21,6 @@ const TWO_AND_FOUR: &[u8] = &[
 // The terms "a" and "b", a Full column of the ordinals 1 and 0, and the dictionary's length.
 const B_AND_A: &[u8] = b"\x02\0\0\0\x01\0\0\0\x02\0\0\0ab\
 \0\0\x80\x81\x81\x82\x01\x01\0\0\0\0\0\0\0\x0e\0\0\0";
-
-fn column(
-    alloc: Global,
-    column_type: ColumnType,
-    bytes: &'static [u8],
-    num_rows: RowId,
-) -> Result<DynamicColumn, ColumnarError> {
-    open_column(
-        alloc,
-        column_type,
-        Bytes::from_static(bytes),
-        Version::V2,
-        num_rows,
-    )
-}
-
-// The cardinality of a column of two rows.
-fn cardinality(
-    alloc: Global,
-    column_type: ColumnType,
-    bytes: &'static [u8],
-) -> Result<Cardinality, ColumnarError> {
-    let column = column(alloc, column_type, bytes, 2)?;
-    Ok(column.into_column_index().get_cardinality())
-}
-
-#[test]
-fn a_column_is_opened_by_its_type(rt: HostRuntime) -> Result<(), Fail> {
-    let alloc = rt.alloc();
-    let columns = [
-        (ColumnType::I64, TEN_AND_TWENTY),
-        (ColumnType::U64, TEN_AND_TWENTY),
-        (ColumnType::Bytes, B_AND_A),
-        (ColumnType::Str, B_AND_A),
-        (ColumnType::Bool, ONE_AND_ZERO),
-        (ColumnType::IpAddr, TWO_AND_FOUR),
-        (ColumnType::DateTime, TEN_AND_TWENTY),
-    ];
-    for (column_type, bytes) in columns {
-        assert_eq!(rt; cardinality(alloc, column_type, bytes)?, Cardinality::Full);
-    }
-    let refused = Err(ColumnarError::InvalidData);
-    assert_eq!(rt;
-        cardinality(alloc, ColumnType::Bool, TEN_AND_TWENTY),
-        refused
-    );
-    assert_eq!(rt;
-        cardinality(alloc, ColumnType::Str, TEN_AND_TWENTY),
-        refused
-    );
-    Ok(())
-}
 
 // The first values of a column of two rows.
 fn two_rows(column: &LenientColumn) -> Result<(Option<u64>, Option<u64>), ColumnarError> {
@@ -110,45 +57,5 @@ fn any_column_is_opened_as_numbers(rt: HostRuntime) -> Result<(), Fail> {
             (Some(first), Some(second))
         );
     }
-    let refused = Err(ColumnarError::InvalidData);
-    assert_eq!(rt; numbers(alloc, ColumnType::Bool, TEN_AND_TWENTY), refused);
-    Ok(())
-}
-
-fn usage(
-    alloc: Global,
-    column_type: ColumnType,
-    bytes: &'static [u8],
-) -> Result<ColumnSpaceUsage, ColumnarError> {
-    let column = column(alloc, column_type, bytes, 2)?;
-    Ok(usage_of_opened(column, bytes.len() as u64))
-}
-
-fn usage_of_opened(column: DynamicColumn, num_bytes: u64) -> ColumnSpaceUsage {
-    let usage = space_usage_of(&column, num_bytes);
-    let_go(column);
-    usage
-}
-
-fn let_go(column: DynamicColumn) {
-    drop(column);
-}
-
-// The bytes of the column, and of its dictionary, where it has one.
-fn parts(
-    alloc: Global,
-    column_type: ColumnType,
-    bytes: &'static [u8],
-) -> Result<(u64, Option<u64>), ColumnarError> {
-    let usage = usage(alloc, column_type, bytes)?;
-    let dictionary = usage.dictionary_num_bytes().map(|count| count.get_bytes());
-    Ok((usage.column_num_bytes().get_bytes(), dictionary))
-}
-
-#[test]
-fn the_bytes_of_a_dictionary_are_counted_apart(rt: HostRuntime) -> Result<(), Fail> {
-    let alloc = rt.alloc();
-    assert_eq!(rt; parts(alloc, ColumnType::U64, TEN_AND_TWENTY)?, (15, None));
-    assert_eq!(rt; parts(alloc, ColumnType::Str, B_AND_A)?, (19, Some(14)));
     Ok(())
 }

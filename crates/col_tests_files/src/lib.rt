@@ -1,4 +1,4 @@
-//! Tests of open files, their merges, reports and scripts, by examples.
+//! Tests of open files, their merges, reports and lines of scripts, by examples.
 #![tactic(auto)]
 
 #[cfg(test)]

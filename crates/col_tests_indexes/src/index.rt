@@ -1,4 +1,3 @@
 //! Indexes by examples.
 mod kinds;
-mod openings;
 mod readings;

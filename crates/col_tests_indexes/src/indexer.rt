@@ -1,3 +1,2 @@
 //! Indexes on their way, by examples.
-mod merged;
 mod written;

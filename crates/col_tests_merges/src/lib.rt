@@ -1,13 +1,7 @@
-//! Tests of merged columns, by examples.
+//! Tests of merged terms and values, by examples.
 #![tactic(auto)]
 
 #[cfg(test)]
-mod join;
-#[cfg(test)]
-mod slot;
-#[cfg(test)]
 mod term_merge;
-#[cfg(test)]
-mod text_merge;
 #[cfg(test)]
 mod value_merge;

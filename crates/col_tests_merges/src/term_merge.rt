@@ -2,12 +2,11 @@
 ghost use Rattle.std.specs.Prelude.{◌<◌, ◌^◌, length, IfOk};
 
 use bytes::Bytes;
-use col_column::serialize_column_mappable_to_u64;
-use col_common::{ColumnarError, VecSink, serialize_bytes};
+use col_common::ColumnarError;
 use col_index::Version;
-use col_indexer::SerializableColumnIndex;
-use col_term_merge::{TermMerger, TermsWithSegmentOrd, compute_merged_term_ord_mapping};
-use col_terms::{Dictionary, Streamer};
+use col_merge_column::{merged_content_is_joined, picked_content_is_joined};
+use col_merge_terms::{TermMerger, TermsWithSegmentOrd, compute_merged_term_ord_mapping};
+use col_terms::Dictionary;
 use col_text::{BytesColumn, open_column_bytes};
 use std::alloc::Global;
 use std::process::Abort;
@@ -19,32 +18,22 @@ const THREE_TERMS: &[u8] = b"\x03\0\0\0\x05\0\0\0\x0a\0\0\0\x0d\0\0\0happyhellot
 // Two terms, which end at 5 and 8: hello, joy.
 const TWO_TERMS: &[u8] = b"\x02\0\0\0\x05\0\0\0\x08\0\0\0hellojoy";
 
-// One term, which ends at 3: joy.
-const ONE_TERM: &[u8] = b"\x01\0\0\0\x03\0\0\0joy";
+// Rows with hello, happy and tax: three terms, a Full index, the ordinals 1, 0, 2, how long the
+// index and the dictionary are.
+const THREE_ROWS: &[u8] = b"\x03\0\0\0\x05\0\0\0\x0a\0\0\0\x0d\0\0\0happyhellotax\
+    \0\0\x80\x81\x82\x83\x21\x01\0\0\0\0\0\0\0\x1d\0\0\0";
 
-// Writes a Full column of ordinals behind a dictionary, and opens both.
-fn open_column(alloc: Global, dictionary: &[u8], ords: &[u64]) -> Result<BytesColumn, ColumnarError>
-    requires { length ords.now < 2 ^ 32 }
-{
-    let Ok(dictionary_len) = u32::try_from(dictionary.len()) else {
-        return Err(ColumnarError::TooLarge);
-    };
-    let mut sink = VecSink::new(Vec::new(alloc), Vec::new(alloc));
-    serialize_bytes(&mut sink, dictionary)?;
-    let index = SerializableColumnIndex::Full;
-    serialize_column_mappable_to_u64(alloc, index, &ords, &mut sink)?;
-    serialize_bytes(&mut sink, &dictionary_len.to_le_bytes())?;
-    let bytes = Bytes::from_vec(sink.into_bytes())?;
-    open_column_bytes(alloc, bytes, Version::V2, ords.len() as u32)
-}
+// A row with joy.
+const ONE_ROW: &[u8] = b"\x01\0\0\0\x03\0\0\0joy\0\0\x80\x81\x80\x81\x01\0\0\0\0\0\0\0\
+    \x0b\0\0\0";
 
-// Three rows with hello, happy and tax, and one with joy.
+// The rows of two columns.
 fn two_columns(alloc: Global) -> Result<Vec<BytesColumn>, ColumnarError>
     ensures { IfOk result (λ columns. length columns.items < 2 ^ 32) }
 {
     let mut columns = Vec::with_capacity(alloc, 2)?;
-    columns.push(open_column(alloc, THREE_TERMS, &[1, 0, 2])?)?;
-    columns.push(open_column(alloc, ONE_TERM, &[0])?)?;
+    columns.push(open_column_bytes(alloc, Bytes::from_static(THREE_ROWS), Version::V2, 3)?)?;
+    columns.push(open_column_bytes(alloc, Bytes::from_static(ONE_ROW), Version::V2, 1)?)?;
     Ok(columns)
 }
 
@@ -60,6 +49,8 @@ fn assert_places(rt: &impl Abort, alloc: Global, columns: &[BytesColumn]) -> Res
 
 #[test]
 fn terms_have_the_places_that_they_have_among_all(rt: HostRuntime) -> Result<(), Fail> {
+    merged_content_is_joined();
+    picked_content_is_joined::<i64>();
     let columns = two_columns(rt.alloc())?;
     assert_places(&rt, rt.alloc(), &columns)
 }
@@ -114,18 +105,4 @@ fn open_terms(bytes: &'static [u8]) -> Result<Dictionary, ColumnarError> {
 fn each_term_comes_once_with_all_its_segments(rt: HostRuntime) -> Result<(), Fail> {
     let (three, two) = (open_terms(THREE_TERMS)?, open_terms(TWO_TERMS)?);
     assert_merged(&rt, rt.alloc(), &three, &two)
-}
-
-#[test]
-fn the_first_of_two_segments_comes_first_in_a_heap(rt: HostRuntime) {
-    let first = TermsWithSegmentOrd {
-        terms: Streamer::empty(),
-        segment_ord: 0,
-    };
-    let second = TermsWithSegmentOrd {
-        terms: Streamer::empty(),
-        segment_ord: 1,
-    };
-    assert!(rt; first > second);
-    assert!(rt; first != second);
 }

@@ -1,4 +1,4 @@
-//! Tests of packed lists, lists of numbers under each codec, and coercions, by examples.
+//! Tests of extremes, lists of numbers under each codec, and maps between their types, by examples.
 #![tactic(auto)]
 
 #[cfg(test)]

@@ -6,4 +6,3 @@ mod coercions;
 mod line;
 mod lists;
 mod lookups;
-mod stats;

@@ -1,13 +1,9 @@
-//! Tests of keys, recorded values and the files that are written of them, by examples.
+//! Tests of footers, recorded values and the files that are written of them, by examples.
 #![tactic(auto)]
 
-#[cfg(test)]
-mod entry;
 #[cfg(test)]
 mod keys;
 #[cfg(test)]
 mod record;
-#[cfg(test)]
-mod rows;
 #[cfg(test)]
 mod writer;

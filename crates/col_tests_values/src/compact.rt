@@ -1,17 +1,30 @@
-//! Worked rows.
-use col_common::Buffer;
+//! Addresses by examples: worked rows, gaps, and a list that is read as codes.
+use bytes::Bytes;
+use col_common::{Buffer, ColumnarError};
 use col_compact::{
-    BlankRange, CompactHit, CompactSpace, CompactSpaceCompressor, equal_gaps_tie,
-    gaps_always_compare, gaps_are_ordered, get_compact_space, kinds_compare_as_one,
-    serialize_column_values_u128,
+    BlankRange, CompactHit, CompactSpace, CompactSpaceCompressor, CompactSpaceU64Accessor,
+    IPCodecParams, U128FastFieldCodecType, U128Header, equal_gaps_tie, gaps_always_compare,
+    gaps_are_ordered, get_compact_space, kinds_compare_as_one, open_u128_as_compact_u64,
 };
+use col_values::ColumnValues;
 use std::alloc::Global;
 use std::cmp::Ordering;
 use std::collections::BTreeSet;
 use std::process::Abort;
 use std::test::Fail;
 
-mod lists;
+// Addresses 2 and 4: the header, codes 1 and 3 of two bits, the footer, and its length.
+const TWO: [u8; 26] = [
+    0x82, 0x01, 0x0d, 0, 0, 0, 0, 0, 0, 0, 0, 0x82, 0x84, 0x82, 0x02, 0x81, 0x82, 0x82, 0x0f, 0, 0,
+    0, 0, 0, 0, 0,
+];
+
+// Where the header of `TWO` ends, and where its footer begins and ends.
+const CODES_AT: usize = 2;
+
+const FOOTER_AT: usize = 3;
+
+const LEN_AT: usize = 18;
 
 fn space_of(alloc: Global, values: &[u128], cost: usize) -> Result<CompactSpace, Fail> {
     let mut set = BTreeSet::new(alloc);
@@ -29,9 +42,6 @@ fn gaps_are_seen<R: Abort>(rt: &R, space: &CompactSpace) {
     assert_eq!(rt; space.amplitude_compact_space(), 17);
     assert_eq!(rt; space.u128_to_compact(3), Ok(2));
     assert_eq!(rt; space.u128_to_compact(100), Err(1));
-    assert_eq!(rt; space.u128_to_next_compact(0), CompactHit::Next(1));
-    assert_eq!(rt; space.u128_to_next_compact(3), CompactHit::Exact(2));
-    assert_eq!(rt; space.u128_to_next_compact(5000), CompactHit::AfterLast);
 }
 
 #[test]
@@ -62,39 +72,72 @@ fn a_limit_that_is_just_enough_is_met(rt: HostRuntime) -> Result<(), Fail> {
 }
 
 #[test]
-fn two_addresses_are_written_as_worked_out_by_hand(rt: HostRuntime) -> Result<(), Fail> {
-    let alloc = rt.alloc();
-    let mut sink = Buffer::new(alloc);
-    serialize_column_values_u128(alloc, &[2u128, 4].as_slice(), &mut sink)?;
-    assert_eq!(rt; sink.as_slice(), lists::TWO.as_slice());
-    Ok(())
-}
-
-fn ends_have_codes<R: Abort>(rt: &R, space: &CompactSpace) {
-    assert_eq!(rt; space.u128_to_compact(0), Ok(1));
-    assert_eq!(rt; space.u128_to_compact(u128::MAX), Ok(2));
-}
-
-#[test]
-fn both_ends_of_all_addresses_have_codes(rt: HostRuntime) -> Result<(), Fail> {
-    ends_have_codes(&rt, &space_of(rt.alloc(), &[0, u128::MAX], 36)?);
-    Ok(())
-}
-
-#[test]
 fn gaps_come_by_size_and_start_and_have_three_numbers(rt: HostRuntime) -> Result<(), Fail> {
-    let long = BlankRange::try_from(100u128..=200)?;
     let short = BlankRange::try_from(100u128..=110)?;
     let early = BlankRange::try_from(0u128..=10)?;
-    assert_eq!(rt; long.blank_size(), 101);
-    assert!(rt; short < long);
-    assert!(rt; early < short);
-    assert_eq!(rt; gaps_are_ordered(&long, &short), Ordering::Greater);
+    assert_eq!(rt; short.blank_size(), 11);
+    assert_eq!(rt; gaps_are_ordered(&short, &early), Ordering::Greater);
     assert_eq!(rt; gaps_always_compare(&early, &short), Some(Ordering::Less));
-    assert!(rt; equal_gaps_tie(&long, &long));
+    assert!(rt; equal_gaps_tie(&early, &early));
     kinds_compare_as_one();
     assert!(rt; BlankRange::try_from(7u128..=8).is_err());
-    let all = BlankRange::try_from(0..=u128::MAX)?;
-    assert_eq!(rt; all.blank_size(), u128::MAX);
+    Ok(())
+}
+
+fn codes_are_found(
+    rt: &impl Abort,
+    alloc: Global,
+    list: &CompactSpaceU64Accessor,
+) -> Result<(), Fail> {
+    let mut hits = Vec::new(alloc);
+    for (low, high, found) in [
+        (0, u64::MAX, [0, 1].as_slice()),
+        (0, 0, &[]),
+        (4_294_967_297, 4_294_967_299, &[]),
+    ] {
+        list.get_row_ids_for_value_range(low..=high, 0..2, &mut hits)?;
+        assert_eq!(rt; hits.as_slice(), found);
+    }
+    assert_eq!(rt; list.u128_to_next_compact(0), CompactHit::Next(1));
+    assert_eq!(rt; list.u128_to_next_compact(3), CompactHit::Exact(2));
+    assert_eq!(rt; list.u128_to_next_compact(5), CompactHit::AfterLast);
+    assert_eq!(rt; list.max_code(), 3);
+    Ok(())
+}
+
+#[test]
+fn codes_are_looked_up_by_all_ends_of_64_bits(rt: HostRuntime) -> Result<(), Fail> {
+    let list = open_u128_as_compact_u64(rt.alloc(), Bytes::copy_from_slice(rt.alloc(), &TWO)?)?;
+    codes_are_found(&rt, rt.alloc(), &list)
+}
+
+// A header, its codec, and parameters, one behind another.
+fn written(alloc: Global, params: &IPCodecParams) -> Result<Buffer, ColumnarError> {
+    let mut sink = Buffer::new(alloc);
+    let codec_type = U128FastFieldCodecType::CompactSpace;
+    let header = U128Header {
+        num_vals: 2,
+        codec_type,
+    };
+    header.serialize(&mut sink)?;
+    codec_type.serialize(&mut sink)?;
+    params.serialize(&mut sink)?;
+    Ok(sink)
+}
+
+#[test]
+fn parts_are_written_as_they_are_read(rt: HostRuntime) -> Result<(), Fail> {
+    let alloc = rt.alloc();
+    let list = CompactSpaceU64Accessor::open(
+        alloc,
+        Bytes::copy_from_slice(alloc, &TWO[CODES_AT..])?,
+    )?;
+    assert_eq!(rt; list.max_code(), 3);
+    let mut footer = &TWO[FOOTER_AT..];
+    let params = IPCodecParams::deserialize(alloc, &mut footer)?;
+    let sink = written(alloc, &params)?;
+    assert!(rt; sink.as_slice().starts_with(&[0x82, 0x01, 0x01]));
+    assert!(rt; sink.as_slice().ends_with(&TWO[FOOTER_AT..LEN_AT]));
+    assert_eq!(rt; sink.as_slice().len(), 18);
     Ok(())
 }

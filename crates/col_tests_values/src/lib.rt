@@ -5,6 +5,8 @@
 mod compact;
 pub mod counting;
 #[cfg(test)]
+mod laws;
+#[cfg(test)]
 mod terms;
 #[cfg(test)]
 mod types;

@@ -1,5 +1,5 @@
 //! Maps and lists of values by examples.
 
-mod doubling;
+pub(crate) mod doubling;
 mod lists;
 mod maps;

@@ -26,6 +26,7 @@ use Rattle.col_text.specs.Texts.{texts_content}
 
 -- ---- a test of the numbers of all rows
 
+-- a test that the rows of a cut list pass is one that the list passes
 pub all-cut : (p : ℕ → Bool) (cs xs : List ℕ) → sum cs ≡ length xs → list_all (list_all p) (cut cs xs) ≡ list_all p xs
 unfolding cut
 all-cut p [] [] e = refl
@@ -48,26 +49,36 @@ unfolding column term_column number_rows
 texts-as-bytes bytes version rows = refl
 
 module _ (bytes : List ℕ) (version rows : ℕ) where
+  -- bytes that have no two parts stand for no column of terms
   pub uncut : parts_by_first w32 bytes ≡ None → column bytes types.bytes version rows ≡ None
   unfolding column term_column
   uncut e = rw e refl
 
   module _ (a b : List ℕ) (parts : parts_by_first w32 bytes ≡ Some (a, b)) where
+    -- bytes whose first part is no dictionary stand for no column of terms
     pub without_terms : terms a ≡ None → column bytes types.bytes version rows ≡ None
     unfolding column term_column
     without_terms e = rw (parts, e) refl
 
     module _ (found : List (List ℕ)) (are : terms a ≡ Some found) where
+      -- bytes whose second part stands for no rows stand for no column of terms
       pub without_rows : number_rows b types.bytes version rows ≡ None → column bytes types.bytes version rows ≡ None
       unfolding column term_column
       without_rows e = rw (parts, are, e) refl
 
-      -- Ordinals that are read, behind the terms: the column's index counts them, and a test tells whether all are below the count of terms.
-      pub with_rows : (s : Shape) (v : NumValues ℕ) (c : Seen (NumValues ℕ)) (below : Bool) → record { shape = s; values = v } ≡ c → IsCounted s (length (num_values_of v)) → number_rows b types.bytes version rows ≡ Some (counted_rows c.shape (num_values_of c.values)) → below ≡ are_below (length found) (num_values_of c.values) → column bytes types.bytes version rows ≡ only_if below (texts_content (record { terms = found; ords = c }))
+      -- Ordinals that are read, behind the terms: the column's index counts them, and a test tells
+      -- whether all are below the count of terms.
+      pub with_rows : (s : Shape) (v : NumValues ℕ) (c : Seen (NumValues ℕ)) (below : Bool)
+          → record { shape = s; values = v } ≡ c → IsCounted s (length (num_values_of v))
+          → number_rows b types.bytes version rows ≡ Some (counted_rows c.shape (num_values_of c.values))
+          → below ≡ are_below (length found) (num_values_of c.values)
+          → column bytes types.bytes version rows
+          ≡ only_if below (texts_content (record { terms = found; ords = c }))
       unfolding column term_column
       with_rows s v c below is counted e tested =
           let same = subst (λ (c : Seen (NumValues ℕ)). IsCounted c.shape (length (num_values_of c.values))) is counted in
-          rw (parts, are, e) (ap (λ t. only_if t (texts_content (record { terms = found; ords = c }))) (all-rows (λ n. nat_lt n (length found)) c.shape (num_values_of c.values) same ∙ sym tested))
+          rw (parts, are, e) (ap (λ t. only_if t (texts_content (record { terms = found; ords = c })))
+          (all-rows (λ n. nat_lt n (length found)) c.shape (num_values_of c.values) same ∙ sym tested))
 
 -- ---- what holds of the parts
 
@@ -81,7 +92,9 @@ terms-ascend bytes ts e =
 -- numbers that pass the test are below the bound
 pub ordinals-below : (k : ℕ) (xs : List ℕ) → true ≡ are_below k xs → AreBelow k xs
 ordinals-below k [] e = tt
-ordinals-below k (x ∷ xs) e = let parts = and_parts (nat_lt x k) (are_below k xs) (sym e) in (ltb-true x k parts.0, ordinals-below k xs (sym parts.1))
+ordinals-below k (x ∷ xs) e =
+    let parts = and_parts (nat_lt x k) (are_below k xs) (sym e) in
+    (ltb-true x k parts.0, ordinals-below k xs (sym parts.1))
 
 -- numbers are below what the greatest one is below
 pub below_greatest : (greatest n k : ℕ) → IsAtMost number_cmp n greatest → nat_lt greatest k ≡ true → nat_lt n k ≡ true

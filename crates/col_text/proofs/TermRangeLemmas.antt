@@ -36,31 +36,40 @@ module _ (ts : List (List ℕ)) (key : List ℕ) where
   term_is n = unwrap_or-slice_get ts n []
 
   start-first : (i : ℕ) → IsFirstFrom ts key i → StartAt ts key i
-  start-first i first n within = at_most key (unwrap_or (slice_get ts n) []) ∙ ap (λ t. not (is_before t key)) (term_is n) ∙ elim (cases_lt n i) [
-    | inl before ↦ ap not (first.smaller_before n before) ∙ grind (arith, nat_tests)
-    | inr behind ↦ ap not (first.none_smaller n behind within) ∙ grind (arith, nat_tests)
-  ]
+  start-first i first n within = at_most key (unwrap_or (slice_get ts n) [])
+      ∙ ap (λ t. not (is_before t key)) (term_is n) ∙ elim (cases_lt n i) [
+        | inl before ↦ ap not (first.smaller_before n before) ∙ grind (arith, nat_tests)
+        | inr behind ↦ ap not (first.none_smaller n behind within) ∙ grind (arith, nat_tests)
+      ]
 
+  -- where a key stands, the terms from it on begin at its place
   pub start-at : (i : ℕ) → is_ascending ts ≡ true → IsAt ts key i → StartAt ts key i
   start-at i up at = start-first i (first_from-at ts key i up at)
 
+  -- where a key would go, the terms from it on begin
   pub start-gap : (i : ℕ) → IsGapFor ts key i → StartAt ts key i
   start-gap i gap = start-first i (first_from-gap ts key i gap)
 
   end-of : (n e : ℕ) → is_before key (get_or ts n []) ≡ not (nat_lt n e) → is_at_most (term_cell ts n) (text key) ≡ nat_lt n e
-  end-of n e h = at_most (unwrap_or (slice_get ts n) []) key ∙ ap (λ t. not (is_before key t)) (term_is n) ∙ ap not h ∙ grind (arith, nat_tests)
+  end-of n e h =
+      at_most (unwrap_or (slice_get ts n) []) key ∙ ap (λ t. not (is_before key t)) (term_is n) ∙ ap not h
+      ∙ grind (arith, nat_tests)
 
+  -- where a key would go, the terms up to it end
   pub end-gap : (i : ℕ) → IsGapFor ts key i → EndAt ts key i
   end-gap i gap n within = end-of n i (elim (cases_lt n i) [
     | inl before ↦ not_before (get_or ts n []) key (gap.smaller_before n before) ∙ grind (arith, nat_tests)
     | inr behind ↦ gap.greater_after n behind within ∙ grind (arith, nat_tests)
   ])
 
+  -- where a key stands, the terms up to it end behind its place
   pub end-at : (i : ℕ) → is_ascending ts ≡ true → IsAt ts key i → EndAt ts key (i + 1)
   end-at i up at n within = end-of n (i + 1) (ap (λ t. is_before t (get_or ts n [])) (sym at.is_key) ∙ elim (cases_order n i) [
-    | inl same ↦ ap (λ k. is_lt (slice_cmp nat_cmp (get_or ts i []) (get_or ts k []))) same ∙ ap is_lt (tied_itself nat_list_cmp_total (get_or ts i [])) ∙ grind (arith, nat_tests)
+    | inl same ↦ ap (λ k. is_lt (slice_cmp nat_cmp (get_or ts i []) (get_or ts k []))) same
+        ∙ ap is_lt (tied_itself nat_list_cmp_total (get_or ts i [])) ∙ grind (arith, nat_tests)
     | inr apart ↦ elim apart [
-      | inl before ↦ not_before (get_or ts n []) (get_or ts i []) (ap is_lt (pairwise ts n i up before at.in_range)) ∙ grind (arith, nat_tests)
+      | inl before ↦ not_before (get_or ts n []) (get_or ts i []) (ap is_lt (pairwise ts n i up before at.in_range))
+          ∙ grind (arith, nat_tests)
       | inr behind ↦ ap is_lt (pairwise ts i n up behind within) ∙ grind (arith, nat_tests)
     ]
   ])

@@ -6,7 +6,7 @@ ghost use Rattle.col_common.specs.Replacing.{Replaces};
 ghost use Rattle.col_model.specs.Index.{empty_shape};
 ghost use Rattle.col_model.specs.Lookup.{docs_between};
 ghost use Rattle.col_model.specs.Table.{text};
-ghost use Rattle.col_column.specs.Columns.{IsCounted, rows_in, docs_in, row_at};
+ghost use Rattle.col_column.specs.Columns.{IsCounted, rows_of_values, num_docs_in, row_at};
 ghost use Rattle.col_numbers.specs.NumValues.{num_values_of};
 ghost use Rattle.col_text.specs.Texts.{AreOrdinals, StartAt, EndAt, texts_content};
 
@@ -83,7 +83,7 @@ impl BytesColumn {
 
     /// How many rows there are.
     pub fn num_rows(&self) -> RowId
-        ensures { result ≡ docs_in num_values_of self.now.ords }
+        ensures { result ≡ num_docs_in num_values_of self.now.ords }
     {
         self.term_ord_column.num_docs()
     }
@@ -91,8 +91,8 @@ impl BytesColumn {
     /// The ordinals of a row's terms, in order.
     #[inline]
     pub fn term_ords(&self, row_id: RowId) -> DocValues<'_, u64, NumValues<u64>>
-        requires { row_id < docs_in num_values_of self.now.ords }
-        ensures { result ≡ row_at (rows_in num_values_of self.now.ords) row_id }
+        requires { row_id < num_docs_in num_values_of self.now.ords }
+        ensures { result ≡ row_at (rows_of_values num_values_of self.now.ords) row_id }
     {
         self.term_ord_column.values_for_doc(row_id)
     }

@@ -6,8 +6,8 @@ use Rattle.col_common.specs.Refused.{code_of}
 use Rattle.col_common.specs.declared.error.ColumnarError.{ColumnarError}
 use Rattle.col_common.specs.declared.error.ColumnarError.TheVariants.{OutOfMemory, ReadFault, WriteFault, InvalidData, BadOrder, BadName, RequiredConflict, CannotCoerce, NumericalConflict, TooLarge, NoCodec, ForcedType, DocOrder, DocOutOfRange, TieBreakerStart, NotUtf8}
 use Rattle.col_model.specs.Refusal.{Refusal, status_of, invalid_data, bad_order, bad_name, required_conflict, cannot_coerce, numerical_conflict, too_large, forced_type, doc_order, doc_out_of_range, tie_breaker_start}
-use Rattle.col_record.specs.Answers.{answer_of}
-use Rattle.col_made.specs.Making.{IsKnown}
+use Rattle.col_writer_columns.specs.Answers.{answer_of}
+use Rattle.col_outcome.specs.Making.{IsKnown}
 use Rattle.col_tool.specs.Answer.{answers, refusals}
 use Rattle.col_tool.specs.Statuses.{Exactly, statuses}
 
@@ -69,7 +69,21 @@ abbrev IsAsked : ℕ → Type 0
 IsAsked n = (n == 2) ≡ false
 
 answers-asked : (status : ℕ) → Contains answers status → IsAsked status
-answers-asked status among = All-contains IsAsked answers status (All-from_recursion IsAsked answers (refl, (refl, (refl, (refl, (refl, (refl, (refl, (refl, (refl, (refl, (refl, (refl, (refl, (refl, (refl, (refl, (refl, tt)))))))))))))))))) among
+answers-asked status among =
+    All-contains IsAsked answers status (All-from_recursion IsAsked answers (
+      refl,
+      (
+        refl,
+        (
+          refl,
+          (
+            refl,
+            (refl, (refl, (refl, (refl, (refl, (refl, (refl, (refl, (refl, (refl, (refl, (refl, (refl, tt))))))))))))),
+          ),
+        ),
+      ),
+    ))
+    among
 
 -- where the words are known, the status isn't that of others
 pub asked-words : (status : ℕ) (asked : Bool) → Contains answers status → asked ≡ true → Exactly 2 status (asked ≡ false)
@@ -89,11 +103,21 @@ IsBefore n = (n == 0) || (n == 5) ≡ false
 
 -- each refusal has such a status
 refusals-before : (status : ℕ) → Contains refusals status → IsBefore status
-refusals-before status among = All-contains IsBefore refusals status (All-from_recursion IsBefore refusals (refl, (refl, (refl, (refl, (refl, (refl, (refl, (refl, (refl, (refl, (refl, (refl, (refl, (refl, (refl, tt)))))))))))))))) among
+refusals-before status among =
+    All-contains IsBefore refusals status (All-from_recursion IsBefore refusals (
+      refl,
+      (
+        refl,
+        (refl, (refl, (refl, (refl, (refl, (refl, (refl, (refl, (refl, (refl, (refl, (refl, (refl, tt))))))))))))),
+      ),
+    ))
+    among
 
+-- no status of a refusal is that of a good end
 pub refusals-not_done : (status : ℕ) → Contains refusals status → status ≡ 0 → ⊥
 refusals-not_done status among same = let before = rw same at (refusals-before status among) in cc
 
+-- no status of a refusal is that of a sink that failed
 pub refusals-unwritten : (status : ℕ) → Contains refusals status → status ≡ 5 → ⊥
 refusals-unwritten status among same = let before = rw same at (refusals-before status among) in cc
 

@@ -1,5 +1,5 @@
 -- Where there is no input, no invalid data is met.
-use Rattle.std.proofs.Common.{◌≡◌, ℕ, ◌-◌, ◌^◌, ◌==◌, ◌&&◌, ◌||◌, not, nat_le, Bool, true, false, is_some, is_none, Option, Some, None, Result, Ok, Err, IfSome, List, [], ◌∷◌, ◌++◌, map, filter, find, filter_map, length, option_and_then, inl, inr, ◌⊎◌, refl, sym, ap, ap₂, ◌∙◌, arith}
+use Rattle.std.proofs.Common.{◌≡◌, ℕ, ◌-◌, ◌^◌, ◌==◌, ◌&&◌, not, nat_le, Bool, true, false, is_none, Option, Some, None, Result, Ok, Err, IfSome, List, [], ◌∷◌, ◌++◌, map, filter, filter_map, length, inl, inr, ◌⊎◌, refl, sym, ap, ◌∙◌, arith}
 use Rattle.std.specs.Prelude.{⊤, if◌then◌else◌}
 use Rattle.std.specs.FinMap.{put}
 use Rattle.std.specs.List.{list_all, list_any}
@@ -10,20 +10,21 @@ use Rattle.col_common.specs.declared.error.ColumnarError.{ColumnarError}
 use Rattle.col_common.specs.declared.error.ColumnarError.TheVariants.{ReadFault}
 use Rattle.col_model.specs.ColumnType.{ColumnType}
 use Rattle.col_model.specs.ColumnType as types
-use Rattle.col_model.specs.Category.{Slot, slot_of, slot_cmp, same_slot}
+use Rattle.col_model.specs.Category.{Slot, slot_of, slot_cmp}
 use Rattle.col_model.specs.Table.{Column, Table}
-use Rattle.col_model.specs.File.{PartColumn, whole_column, part_of_column, part_of_table, for_each}
+use Rattle.col_model.specs.File.{part_of_table, for_each}
 use Rattle.col_model.specs.Limits.{is_too_large, is_of_type}
 use Rattle.col_model.specs.Order.{Order, picks}
-use Rattle.col_model.specs.Merge.{Required, part_slot, kept_columns, all_cells, shared_type, required_type, joined_type, joined_content, has_bad_column, joined_column, all_slots, contradicts, required_refusal, row_counts, merged}
+use Rattle.col_model.specs.Merge.{Required, kept_columns, all_cells, shared_type, required_type, joined_type, joined_content, has_bad_column, joined_column, all_slots, contradicts, required_refusal, row_counts, merged}
 use Rattle.col_model.specs.Outcome.{order_over, segment_table, script_table}
 use Rattle.col_model.specs.Recording.{Call, recorded, typed, tied, entry_of, forces_other, is_late, denies, content_after, content_after_all}
 use Rattle.col_model.specs.Refusal.{Refusal, status_of, ◌>>=◌, refuse_if, or_refuse, each_ok, invalid_data, bad_order, bad_name, required_conflict, cannot_coerce, numerical_conflict, too_large, forced_type, doc_order, doc_out_of_range, tie_breaker_start}
 use Rattle.col_model.specs.Script.{Script, Segment}
 use Rattle.col_model.specs.Written.{Entry, Recorded, entry_content, entry_type, is_past_docs, is_past_ties, is_permutation, has_zero, written, written_column}
 use Rattle.col_model.proofs.ConflictLaws.{same_Err, ok_not_err}
-use Rattle.col_record.specs.Answers.{MayRefuse}
-use Rattle.col_made.specs.Making.{MakesIfRead}
+use Rattle.col_model.proofs.StackSeen.{none-bad}
+use Rattle.col_writer_columns.specs.Answers.{MayRefuse}
+use Rattle.col_outcome.specs.Making.{MakesIfRead}
 use Rattle.col_tool.proofs.RefusedLemmas.{code-answer}
 
 -- the step doesn't refuse data as invalid
@@ -37,7 +38,8 @@ valid-then : {A B : Type 0} (r : Result A Refusal) (f : A → Result B Refusal) 
 valid-then (Ok x) f first second = second x
 valid-then (Err e) f first second = first
 
-valid-test : {A : Type 0} (test : Bool) (e : Refusal) (r : Result A Refusal) → (e ≡ invalid_data → ⊥) → IsValid r → IsValid (refuse_if test e >>= λ _. r)
+valid-test : {A : Type 0} (test : Bool) (e : Refusal) (r : Result A Refusal) → (e ≡ invalid_data → ⊥) → IsValid r
+    → IsValid (refuse_if test e >>= λ _. r)
 valid-test true e r other rest = other
 valid-test false e r other rest = rest
 
@@ -47,14 +49,17 @@ valid-or None e other = other
 
 valid-each : {A B : Type 0} (f : A → Result B Refusal) (xs : List A) → ((x : A) → IsValid (f x)) → IsValid (each_ok f xs)
 valid-each f [] own = tt
-valid-each f (x ∷ xs) own = valid-then (f x) (λ y. each_ok f xs >>= λ ys. Ok (y ∷ ys)) (own x) (λ y. valid-then (each_ok f xs) (λ ys. Ok (y ∷ ys)) (valid-each f xs own) (λ ys. tt))
+valid-each f (x ∷ xs) own =
+    valid-then (f x) (λ y. each_ok f xs >>= λ ys. Ok (y ∷ ys)) (own x)
+    (λ y. valid-then (each_ok f xs) (λ ys. Ok (y ∷ ys)) (valid-each f xs own) (λ ys. tt))
 
 valid-either : {A : Type 0} (test : Bool) (r s : Result A Refusal) → IsValid r → IsValid s → IsValid (if test then r else s)
 valid-either true r s first second = first
 valid-either false r s first second = second
 
 -- a test that fails
-valid-unmet : {A : Type 0} (test : Bool) (e : Refusal) (r : Result A Refusal) → test ≡ false → IsValid r → IsValid (refuse_if test e >>= λ _. r)
+valid-unmet : {A : Type 0} (test : Bool) (e : Refusal) (r : Result A Refusal) → test ≡ false → IsValid r
+    → IsValid (refuse_if test e >>= λ _. r)
 valid-unmet true e r unmet rest = absurd (true≢false unmet)
 valid-unmet false e r unmet rest = rest
 
@@ -64,7 +69,12 @@ valid-call : (w : Recorded) (call : Call) → IsValid (content_after w call)
 unfolding content_after
 valid-call w (recorded d name t cell) =
     let e = entry_of w (slot_of name t) in
-    let own : Entry = record { records = e.records ++ record { doc = d; recorded_type = t; cell = cell } ∷ []; forced = e.forced; sorts = e.sorts; tie_start = e.tie_start } in
+    let own : Entry = record {
+      records = e.records ++ record { doc = d; recorded_type = t; cell = cell } ∷ [];
+      forced = e.forced;
+      sorts = e.sorts;
+      tie_start = e.tie_start;
+    } in
     let made : Result Recorded Refusal = Ok (put slot_cmp (slot_of name t) own w) in
     let few : Result Recorded Refusal = refuse_if (nat_le (2 ^ 32 - 1) (length e.records)) too_large >>= λ _. made in
     let in_order : Result Recorded Refusal = refuse_if (is_late e.records d) doc_order >>= λ _. few in
@@ -82,7 +92,9 @@ valid-call w (tied name start) =
 
 valid-calls : (w : Recorded) (calls : List Call) → IsValid (content_after_all w calls)
 valid-calls w [] = tt
-valid-calls w (call ∷ calls) = valid-then (content_after w call) (λ next. content_after_all next calls) (valid-call w call) (λ next. valid-calls next calls)
+valid-calls w (call ∷ calls) =
+    valid-then (content_after w call) (λ next. content_after_all next calls) (valid-call w call)
+    (λ next. valid-calls next calls)
 
 valid-column : (n : ℕ) (perm : Option (List ℕ)) (p : Slot × Entry) → IsValid (written_column n perm p)
 valid-column n perm (slot, e) =
@@ -90,7 +102,8 @@ valid-column n perm (slot, e) =
     let made : ColumnType → Result Column Refusal = λ t. Ok (record { name = slot.name; column_type = t; content = content }) in
     let small : ColumnType → Result Column Refusal = λ t. refuse_if (is_too_large t content) too_large >>= λ _. made t in
     let tied : ColumnType → Result Column Refusal = λ t. refuse_if (is_past_ties n e.tie_start) tie_breaker_start >>= λ _. small t in
-    valid-then (or_refuse (entry_type slot.category e) numerical_conflict) tied (valid-or (entry_type slot.category e) numerical_conflict (λ h. cc))
+    valid-then (or_refuse (entry_type slot.category e) numerical_conflict) tied
+    (valid-or (entry_type slot.category e) numerical_conflict (λ h. cc))
     (λ t. valid-test (is_past_ties n e.tie_start) tie_breaker_start (small t) (λ h. cc)
     (valid-test (is_too_large t content) too_large (made t) (λ h. cc) tt))
 
@@ -106,35 +119,27 @@ valid-written w n perm =
     (valid-then columns table (valid-each (written_column n perm) named (valid-column n perm)) (λ columns. tt)))
 
 valid-segment : (s : Segment) → IsValid (segment_table s)
-valid-segment s = valid-then (content_after_all [] s.calls) (λ w. written w s.count None) (valid-calls [] s.calls) (λ w. valid-written w s.count None)
+valid-segment s =
+    valid-then (content_after_all [] s.calls) (λ w. written w s.count None) (valid-calls [] s.calls)
+    (λ w. valid-written w s.count None)
 
 -- ---- the merge of tables
-
--- a column of a table is whole
-whole-found : (slot : Slot) (cs : List Column) → (is_some (find (λ c. same_slot (part_slot c) slot) (map part_of_column cs)) && is_none (option_and_then whole_column (find (λ c. same_slot (part_slot c) slot) (map part_of_column cs)))) ≡ false
-whole-found slot [] = refl
-whole-found slot (c ∷ cs) = by (same_slot (part_slot (part_of_column c)) slot) (find (λ c. same_slot (part_slot c) slot) (map part_of_column cs)) (whole-found slot cs)
-  where
-    by : (b : Bool) (o : Option PartColumn) → (is_some o && is_none (option_and_then whole_column o)) ≡ false → (is_some (if b then Some (part_of_column c) else o) && is_none (option_and_then whole_column (if b then Some (part_of_column c) else o))) ≡ false
-    by true o rest = refl
-    by false o rest = rest
-
-none-bad : (slot : Slot) (tables : List Table) → has_bad_column slot (map part_of_table tables) ≡ false
-none-bad slot [] = refl
-none-bad slot (t ∷ tables) = ap₂ (λ a b. a || b) (whole-found slot t.columns) (none-bad slot tables)
 
 valid-type : (wanted : Option ColumnType) (kept : List Column) → IsValid (joined_type wanted kept)
 valid-type (Some t) kept = valid-test (not (list_all (λ c. list_all (is_of_type t) (all_cells c)) kept)) cannot_coerce (Ok t) (λ h. cc) tt
 valid-type None kept = valid-or (shared_type kept) numerical_conflict (λ h. cc)
 
-valid-joined : (order : Order) (picked : List (ℕ × ℕ)) (tables : List Table) (required : List Required) (slot : Slot) → IsValid (joined_column order picked (map part_of_table tables) required slot)
+valid-joined :
+    (order : Order) (picked : List (ℕ × ℕ)) (tables : List Table) (required : List Required) (slot : Slot)
+    → IsValid (joined_column order picked (map part_of_table tables) required slot)
 unfolding joined_column
 valid-joined order picked tables required slot =
     let parts = map part_of_table tables in
     let kept = kept_columns slot picked parts in
     let wanted = required_type required slot in
     let content = joined_content order slot picked parts kept in
-    let made : ColumnType → Result (Option Column) Refusal = λ t. Ok (Some (record { name = slot.name; column_type = t; content = content })) in
+    let made : ColumnType → Result (Option Column) Refusal =
+    λ t. Ok (Some (record { name = slot.name; column_type = t; content = content })) in
     let small : ColumnType → Result (Option Column) Refusal = λ t. refuse_if (is_too_large t content) too_large >>= λ _. made t in
     let present : Result (Option Column) Refusal = joined_type wanted kept >>= small in
     let absent = is_none wanted && (length kept == 0) in
@@ -155,22 +160,26 @@ valid-merged : (tables : List Table) (required : List Required) (order : Order) 
 unfolding merged
 valid-merged tables required order =
     let parts = map part_of_table tables in
-    let table : List (ℕ × ℕ) → List (Option Column) → Result Table Refusal = λ picked columns. Ok (record { row_count = length picked; columns = filter_map (λ c. c) columns }) in
-    let columns : List (ℕ × ℕ) → Result (List (Option Column)) Refusal = λ picked. each_ok (joined_column order picked parts required) (all_slots parts required) in
+    let table : List (ℕ × ℕ) → List (Option Column) → Result Table Refusal =
+    λ picked columns. Ok (record { row_count = length picked; columns = filter_map (λ c. c) columns }) in
+    let columns : List (ℕ × ℕ) → Result (List (Option Column)) Refusal =
+    λ picked. each_ok (joined_column order picked parts required) (all_slots parts required) in
     let named : List (ℕ × ℕ) → Result Table Refusal = λ picked. required_refusal [] required >>= λ _. columns picked >>= table picked in
     let few : List (ℕ × ℕ) → Result Table Refusal = λ picked. refuse_if (nat_le (2 ^ 32) (length picked)) too_large >>= λ _. named picked in
     let found = picks order (row_counts parts) in
     valid-then (or_refuse found bad_order) few (valid-or found bad_order (λ h. cc))
     (λ picked. valid-test (nat_le (2 ^ 32) (length picked)) too_large (named picked) (λ h. cc)
     (valid-then (required_refusal [] required) (λ _. columns picked >>= table picked) (valid-required [] required)
-    (λ _. valid-then (columns picked) (table picked) (valid-each (joined_column order picked parts required) (all_slots parts required) (valid-joined order picked tables required))
+    (λ _. valid-then (columns picked) (table picked) (valid-each (joined_column order picked parts required)
+    (all_slots parts required) (valid-joined order picked tables required))
     (λ columns. tt))))
 
 -- ---- a script
 
 valid-script : (s : Script) → IsValid (script_table [] s)
 valid-script s =
-    let rest : List Table → Result Table Refusal = λ tables. merged (map part_of_table tables) s.required (order_over s.order (row_counts (map part_of_table tables))) in
+    let rest : List Table → Result Table Refusal = λ tables. merged (map part_of_table tables) s.required
+    (order_over s.order (row_counts (map part_of_table tables))) in
     valid-then (each_ok segment_table s.segments) rest (valid-each segment_table s.segments valid-segment)
     (λ tables. valid-merged tables s.required (order_over s.order (row_counts (map part_of_table tables))))
 
@@ -194,13 +203,18 @@ valid-refused (Ok x) r valid is six = absurd (ok_not_err x r is)
 valid-refused (Err e) r valid is six = valid (same_Err e r is ∙ other-status r six)
 
 -- Where there is no input, what is made of a script isn't refused as invalid data.
-pub without-invalid : {H B : Type 0} (content : H → Told) (inputs : List H) (IsOf : Table → B → Type 0) (s : Script) (e : ColumnarError) → inputs ≡ [] → IfSome (for_each content inputs) (λ files. MakesIfRead IsOf (Err e) (script_table files s)) → code_of e ≡ 6 → ⊥
+pub without-invalid : {H B : Type 0} (content : H → Told) (inputs : List H) (IsOf : Table → B → Type 0) (s : Script)
+    (e : ColumnarError) → inputs ≡ []
+    → IfSome (for_each content inputs) (λ files. MakesIfRead IsOf (Err e) (script_table files s)) → code_of e ≡ 6
+    → ⊥
 without-invalid {B = B} content inputs IsOf s e none makes = by (rw none at makes)
   where
     refused : (e ≡ ReadFault) ⊎ MayRefuse (script_table [] s) e → code_of e ≡ 6 → ⊥
     refused (inl fault) six = let h = rw fault at six in omega (arith, h)
     refused (inr (inl memory)) six = let h = rw memory at six in omega (arith, h)
-    refused (inr (inr (r, is, answer))) six = valid-refused (script_table [] s) r (valid-script s) is (sym (code-answer r) ∙ ap code_of (sym answer) ∙ six)
+    refused (inr (inr (r, is, answer))) six =
+        valid-refused (script_table [] s) r (valid-script s) is
+        (sym (code-answer r) ∙ ap code_of (sym answer) ∙ six)
 
     by : MakesIfRead {B = B} IsOf (Err e) (script_table [] s) → code_of e ≡ 6 → ⊥
     by makes = refused makes.refused

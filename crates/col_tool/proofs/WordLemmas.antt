@@ -6,9 +6,13 @@ use Rattle.col_model.specs.Outcome.{gen_number}
 use Rattle.col_tool.specs.Expected.{texts, number_if}
 
 -- three words
-pub three-words : (words : List (String Global)) (inputs : ℕ) (a c : String Global) (r : Option ℕ) → 3 ≤ length words → length words < 4 → a ≡ slice_index_or words 0 a → c ≡ slice_index_or words 2 c → r ≡ number_if (bytes_eq (string_bytes a) (codes "gen") && (inputs == 0)) (string_bytes c) → r ≡ gen_number (texts words) inputs
+pub three-words : (words : List (String Global)) (inputs : ℕ) (a c : String Global) (r : Option ℕ)
+    → 3 ≤ length words → length words < 4 → a ≡ slice_index_or words 0 a → c ≡ slice_index_or words 2 c
+    → r ≡ number_if (bytes_eq (string_bytes a) (codes "gen") && (inputs == 0)) (string_bytes c)
+    → r ≡ gen_number (texts words) inputs
 three-words (x ∷ y ∷ z ∷ []) inputs a c r many few e f is =
-    is ∙ ap (λ w. number_if (bytes_eq (string_bytes w) (codes "gen") && (inputs == 0)) (string_bytes c)) e ∙ ap (λ w. number_if (bytes_eq (string_bytes x) (codes "gen") && (inputs == 0)) (string_bytes w)) f
+    is ∙ ap (λ w. number_if (bytes_eq (string_bytes w) (codes "gen") && (inputs == 0)) (string_bytes c)) e
+    ∙ ap (λ w. number_if (bytes_eq (string_bytes x) (codes "gen") && (inputs == 0)) (string_bytes w)) f
 three-words [] inputs a c r many few e f is = absurd (omega (arith, many))
 three-words (x ∷ []) inputs a c r many few e f is = absurd (omega (arith, many))
 three-words (x ∷ y ∷ []) inputs a c r many few e f is = absurd (omega (arith, many))

@@ -18,7 +18,8 @@ module _ {T : Type 0} {C : T → T → Option Ordering} {R : T → T → Orderin
   at_most_chain x y z h k = at_most_from_le x z (le_chain o x y z (le_from_at_most x y h) (le_from_at_most y z k))
 
   -- one value more
-  pub encloses_more : (xs : List T) (i : ℕ) (x low high : T) → i < length xs → x ≡ get_or xs i x → Encloses C low high (take i xs) → Encloses C (ord_min R low x) (ord_max R high x) (take (i + 1) xs)
+  pub encloses_more : (xs : List T) (i : ℕ) (x low high : T) → i < length xs → x ≡ get_or xs i x
+      → Encloses C low high (take i xs) → Encloses C (ord_min R low x) (ord_max R high x) (take (i + 1) xs)
   encloses_more xs i x low high within read e =
       let lows = min_cases o low x (is_lt (R x low)) refl in
       let highs = max_cases o high x (is_lt (R x high)) refl in
@@ -26,10 +27,13 @@ module _ {T : Type 0} {C : T → T → Option Ordering} {R : T → T → Orderin
       let greatest = ord_max R high x in
       record {
         below = All-more (λ v. IsAtMost C least v) xs i x within
-            (All-weaker (λ v. IsAtMost C low v) (λ v. IsAtMost C least v) (λ v h. at_most_chain least low v (at_most_from_le least low lows.0) h) (take i xs) e.below)
+            (All-weaker (λ v. IsAtMost C low v) (λ v. IsAtMost C least v)
+            (λ v h. at_most_chain least low v (at_most_from_le least low lows.0) h) (take i xs) e.below)
             (subst (IsAtMost C least) read (at_most_from_le least x lows.1));
         above = All-more (λ v. IsAtMost C v greatest) xs i x within
-            (All-weaker (λ v. IsAtMost C v high) (λ v. IsAtMost C v greatest) (λ v h. at_most_chain v high greatest h (at_most_from_le high greatest highs.0)) (take i xs) e.above)
+            (All-weaker (λ v. IsAtMost C v high) (λ v. IsAtMost C v greatest)
+            (λ v h. at_most_chain v high greatest h (at_most_from_le high greatest highs.0)) (take i xs)
+            e.above)
             (subst (λ v. IsAtMost C v greatest) read (at_most_from_le x greatest highs.1));
       }
 

@@ -2,6 +2,8 @@ mod ContentLemmas
 mod PlaceLemmas
 mod RecordingLemmas
 mod EntryLemmas
+mod ChangeLemmas
+mod CallLemmas
 mod TypingLemmas
 mod OrderLemmas
 mod ListedLemmas

@@ -33,7 +33,9 @@ none-any : (q : Slot) (es : Recorded) → lookup (same_slot q) es ≡ None → l
 none-any q [] h = refl
 none-any q (e ∷ es) h = by (same_slot q e.0) h (none-any q es)
   where
-    by : (b : Bool) → cond b (Some e.1) (lookup (same_slot q) es) ≡ None → (lookup (same_slot q) es ≡ None → list_any (λ e. same_slot q e.0) es ≡ false) → (b || list_any (λ e. same_slot q e.0) es) ≡ false
+    by : (b : Bool) → cond b (Some e.1) (lookup (same_slot q) es) ≡ None
+        → (lookup (same_slot q) es ≡ None → list_any (λ e. same_slot q e.0) es ≡ false)
+        → (b || list_any (λ e. same_slot q e.0) es) ≡ false
     by true h later = absurd (cc)
     by false h later = later h
 
@@ -41,7 +43,9 @@ any-none : (q : Slot) (es : Recorded) → list_any (λ e. same_slot q e.0) es �
 any-none q [] h = refl
 any-none q (e ∷ es) h = by (same_slot q e.0) h (any-none q es)
   where
-    by : (b : Bool) → (b || list_any (λ e. same_slot q e.0) es) ≡ false → (list_any (λ e. same_slot q e.0) es ≡ false → lookup (same_slot q) es ≡ None) → cond b (Some e.1) (lookup (same_slot q) es) ≡ None
+    by : (b : Bool) → (b || list_any (λ e. same_slot q e.0) es) ≡ false
+        → (list_any (λ e. same_slot q e.0) es ≡ false → lookup (same_slot q) es ≡ None)
+        → cond b (Some e.1) (lookup (same_slot q) es) ≡ None
     by true h later = absurd (cc)
     by false h later = later h
 
@@ -49,7 +53,8 @@ slots-alike : IsEquivalence same_slot
 slots-alike = eq_by_cmp_equiv slots_total
 
 -- a permutation keeps what a slot has
-lookup-permuted : (es fs : Recorded) (q : Slot) → IsPermutation es fs → IsDistinct same_slot (keys_of es) → lookup (same_slot q) fs ≡ lookup (same_slot q) es
+lookup-permuted : (es fs : Recorded) (q : Slot) → IsPermutation es fs → IsDistinct same_slot (keys_of es)
+    → lookup (same_slot q) fs ≡ lookup (same_slot q) es
 lookup-permuted es fs q p once = by (lookup (same_slot q) es) refl
   where
     by : (o : Option Entry) → lookup (same_slot q) es ≡ o → lookup (same_slot q) fs ≡ o
@@ -58,15 +63,25 @@ lookup-permuted es fs q p once = by (lookup (same_slot q) es) refl
         let place = place_from_lookup (same_slot q) es v h in
         let k : Slot = place.1 in
         let same : q ≡ k = same-slots q k place.3 in
-        let c : Contains fs (k, v) = Contains-permutation es fs (k, v) p (place.0, slice_get_within es place.0 (k, v) place.2, get_or_from_slice_get es place.0 (k, v) (k, v) place.2) in
+        let c : Contains fs (k, v) = Contains-permutation es fs (k, v) p (
+          place.0,
+          slice_get_within es place.0 (k, v) place.2,
+          get_or_from_slice_get es place.0 (k, v) (k, v) place.2,
+        ) in
         let at : slice_get fs c.0 ≡ Some (k, v) = slice_get-get_or fs c.0 (k, v) c.1 ∙ ap Some c.2 in
-        ap (λ s. lookup (same_slot s) fs) same ∙ lookup_from_place slots-alike fs c.0 k v (IsDistinct-IsPermutation same_slot slots-alike.symm (keys_of es) (keys_of fs) (IsPermutation-map (λ (e : Slot × Entry). e.0) es fs p) once) at
+        ap (λ s. lookup (same_slot s) fs) same
+        ∙ lookup_from_place slots-alike fs c.0 k v (IsDistinct-IsPermutation same_slot slots-alike.symm
+        (keys_of es) (keys_of fs) (IsPermutation-map (λ (e : Slot × Entry). e.0) es fs p) once) at
 
 -- sorted slots that differ rise
-rising : (fs : Recorded) → ((k m : ℕ) (d : Slot × Entry) → m ≡ k + 1 → m < length fs → is_lt (slot_cmp (get_or fs k d).0 (get_or fs m d).0) ≡ true) → all_adjacent (λ p q. is_lt (slot_cmp p.0 q.0)) fs ≡ true
+rising : (fs : Recorded) → ((k m : ℕ) (d : Slot × Entry) → m ≡ k + 1 → m < length fs
+    → is_lt (slot_cmp (get_or fs k d).0 (get_or fs m d).0) ≡ true)
+    → all_adjacent (λ p q. is_lt (slot_cmp p.0 q.0)) fs ≡ true
 rising [] h = refl
 rising (p ∷ []) h = refl
-rising (p ∷ q ∷ fs) h = and_from _ _ (h 0 1 p refl (omega arith)) (rising (q ∷ fs) (λ k m d e lt. h (suc k) (suc m) d (omega arith) (omega arith)))
+rising (p ∷ q ∷ fs) h =
+    and_from _ _ (h 0 1 p refl (omega arith))
+    (rising (q ∷ fs) (λ k m d e lt. h (suc k) (suc m) d (omega arith) (omega arith)))
 
 strict : (a b : Slot) → is_lt (slot_cmp b a) ≡ false → same_slot a b ≡ false → is_lt (slot_cmp a b) ≡ true
 strict a b below apart = by (slot_cmp a b) (slot_cmp b a) (slots_total.antisymm b a) below apart
@@ -87,14 +102,19 @@ length-keys [] = refl
 length-keys (f ∷ fs) = ap suc (length-keys fs)
 
 -- slots that are listed once differ from their neighbours
-apart-keys : (fs : Recorded) (k m : ℕ) (d : Slot × Entry) → IsDistinct same_slot (keys_of fs) → k < m → m < length fs → same_slot (get_or fs k d).0 (get_or fs m d).0 ≡ false
+apart-keys : (fs : Recorded) (k m : ℕ) (d : Slot × Entry) → IsDistinct same_slot (keys_of fs) → k < m
+    → m < length fs → same_slot (get_or fs k d).0 (get_or fs m d).0 ≡ false
 apart-keys fs k m d once less lt =
-    (λ i. same_slot (sym (get-keys fs k d) i) (sym (get-keys fs m d) i)) ∙ apart_from_distinct same_slot (keys_of fs) k m d.0 once less (omega (arith, length-keys fs, lt))
+    (λ i. same_slot (sym (get-keys fs k d) i) (sym (get-keys fs m d) i))
+    ∙ apart_from_distinct same_slot (keys_of fs) k m d.0 once less (omega (arith, length-keys fs, lt))
 
 -- a list in the order of its slots is the content
 pub sorted-is : (es fs w : Recorded) → IsListed es w → AreSorted es fs → fs ≡ w
 sorted-is es fs w h s =
-    let distinct = IsDistinct-IsPermutation same_slot slots-alike.symm (keys_of es) (keys_of fs) (IsPermutation-map (λ (e : Slot × Entry). e.0) es fs s.permuted) h.once in
+    let distinct = IsDistinct-IsPermutation same_slot slots-alike.symm (keys_of es) (keys_of fs)
+    (IsPermutation-map (λ (e : Slot × Entry). e.0) es fs s.permuted) h.once in
     same_entries slot_cmp slots_total slot_cmp-antisymmetric fs w
-    (adjacent-sorted fs (rising fs (λ k m d e lt. strict (get_or fs k d).0 (get_or fs m d).0 (subst (λ n. is_lt (slot_cmp (get_or fs n d).0 (get_or fs k d).0) ≡ false) (sym e) (s.sorted k d (omega arith) (omega arith))) (apart-keys fs k m d distinct (omega arith) lt))))
+    (adjacent-sorted fs (rising fs (λ k m d e lt. strict (get_or fs k d).0 (get_or fs m d).0 (subst
+    (λ n. is_lt (slot_cmp (get_or fs n d).0 (get_or fs k d).0) ≡ false) (sym e)
+    (s.sorted k d (omega arith) (omega arith))) (apart-keys fs k m d distinct (omega arith) lt))))
     (subst T (sym h.sorted) tt) (λ q. find-lookup q fs ∙ lookup-permuted es fs q s.permuted h.once ∙ sym (find-lookup q es) ∙ h.found q)

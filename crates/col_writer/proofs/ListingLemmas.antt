@@ -13,17 +13,19 @@ use Rattle.col_model.specs.Category.{Category, category_place, Slot, slot_cmp, s
 use Rattle.col_model.specs.Category as categories
 use Rattle.col_model.specs.Written.{Entry, Recorded}
 use Rattle.col_writer.specs.Columns.{each_entry}
-use Rattle.col_writer.specs.Contents.{Named, Columns, under, slotted, content_of}
+use Rattle.col_writer.specs.Contents.{Named, WriterColumns, under, slotted, writer_content}
 use Rattle.col_writer.specs.Listed.{IsListed}
 use Rattle.col_writer.proofs.ContentLemmas.{apart, same_name, find-put_all, sorted-content}
 
 -- names that differ as texts differ as bytes
-pub names-apart : {X : Type 0} (es : List (String Global × X)) → IsDistinct string_eq (map (λ p. p.0) es) → IsDistinct bytes_eq (map (λ p. string_bytes p.0) es)
+pub names-apart : {X : Type 0} (es : List (String Global × X)) → IsDistinct string_eq (map (λ p. p.0) es)
+    → IsDistinct bytes_eq (map (λ p. string_bytes p.0) es)
 unfolding IsDistinct
 names-apart [] h = tt
 names-apart {X = X} (e ∷ es) h = (others es h.0, names-apart es h.1)
   where
-    others : (es : List (String Global × X)) → AllByRecursion (λ k. string_eq e.0 k ≡ false) (map (λ p. p.0) es) → AllByRecursion (λ n. bytes_eq (string_bytes e.0) n ≡ false) (map (λ p. string_bytes p.0) es)
+    others : (es : List (String Global × X)) → AllByRecursion (λ k. string_eq e.0 k ≡ false) (map (λ p. p.0) es)
+        → AllByRecursion (λ n. bytes_eq (string_bytes e.0) n ≡ false) (map (λ p. string_bytes p.0) es)
     others [] h = tt
     others (f ∷ fs) h = (h.0, others fs h.1)
 
@@ -43,7 +45,8 @@ unfolding Later
 later-append k [] ys h g = g
 later-append k (x ∷ xs) ys h g = (h.0, later-append k xs ys h.1 g)
 
-apart-later : (s : Slot) (es : Recorded) → Later (category_place s.category) es → AllByRecursion (λ t. same_slot s t ≡ false) (map (λ p. p.0) es)
+apart-later : (s : Slot) (es : Recorded) → Later (category_place s.category) es
+    → AllByRecursion (λ t. same_slot s t ≡ false) (map (λ p. p.0) es)
 unfolding Later
 apart-later s [] h = tt
 apart-later s (e ∷ es) h =
@@ -51,7 +54,11 @@ apart-later s (e ∷ es) h =
     (apart (slice_cmp nat_cmp s.name e.0.name) _ places, apart-later s es h.1)
 
 -- names of one category, in front of later ones
-apart-names : (c : Category) (name : List ℕ) (es : Named) (rest : Recorded) → AllByRecursion (λ other. bytes_eq name other ≡ false) (map (λ p. string_bytes p.0) es) → AllByRecursion (λ t. same_slot (record { name = name; category = c }) t ≡ false) (map (λ p. p.0) rest) → AllByRecursion (λ t. same_slot (record { name = name; category = c }) t ≡ false) (map (λ p. p.0) (under c es ++ rest))
+apart-names : (c : Category) (name : List ℕ) (es : Named) (rest : Recorded)
+    → AllByRecursion (λ other. bytes_eq name other ≡ false) (map (λ p. string_bytes p.0) es)
+    → AllByRecursion (λ t. same_slot (record { name = name; category = c }) t ≡ false) (map (λ p. p.0) rest)
+    → AllByRecursion (λ t. same_slot (record { name = name; category = c }) t ≡ false)
+    (map (λ p. p.0) (under c es ++ rest))
 apart-names c name [] rest h g = g
 apart-names c name (e ∷ es) rest h g = (same_name name (string_bytes e.0) (category_place c) ∙ h.0, apart-names c name es rest h.1 g)
 
@@ -59,14 +66,18 @@ apart-names c name (e ∷ es) rest h g = (same_name name (string_bytes e.0) (cat
 abbrev pub Differ : Named → Type 0
 Differ es = IsDistinct bytes_eq (map (λ p. string_bytes p.0) es)
 
-distinct-behind : (c : Category) (es : Named) (rest : Recorded) → Differ es → Later (category_place c) rest → IsDistinct same_slot (map (λ p. p.0) rest) → IsDistinct same_slot (map (λ p. p.0) (under c es ++ rest))
+distinct-behind : (c : Category) (es : Named) (rest : Recorded) → Differ es → Later (category_place c) rest
+    → IsDistinct same_slot (map (λ p. p.0) rest) → IsDistinct same_slot (map (λ p. p.0) (under c es ++ rest))
 unfolding IsDistinct
 distinct-behind c [] rest h later once = once
-distinct-behind c (e ∷ es) rest h later once =
-    (apart-names c (string_bytes e.0) es rest h.0 (apart-later (record { name = string_bytes e.0; category = c }) rest later), distinct-behind c es rest h.1 later once)
+distinct-behind c (e ∷ es) rest h later once = (
+  apart-names c (string_bytes e.0) es rest h.0
+      (apart-later (record { name = string_bytes e.0; category = c }) rest later),
+  distinct-behind c es rest h.1 later once,
+)
 
 -- the names of each category differ
-pub record HaveNames (m : Columns) : Type 0 where
+pub record HaveNames (m : WriterColumns) : Type 0 where
   pub numerical : Differ m.numerical
   pub bytes : Differ m.bytes
   pub str : Differ m.str
@@ -78,22 +89,41 @@ none-once : ⊤ → IsDistinct same_slot []
 unfolding IsDistinct
 none-once t = t
 
-pub slotted-once : (m : Columns) → HaveNames m → IsDistinct same_slot (map (λ p. p.0) (slotted m))
+-- columns whose names differ within each category have differing slots
+pub slotted-once : (m : WriterColumns) → HaveNames m → IsDistinct same_slot (map (λ p. p.0) (slotted m))
 unfolding slotted Later
 slotted-once m h =
-    let f = subst (λ es. IsDistinct same_slot (map (λ p. p.0) es)) (append-nil (under categories.datetime m.datetime)) (distinct-behind categories.datetime m.datetime [] h.datetime tt (none-once tt)) in
-    let e = distinct-behind categories.ip m.ip (under categories.datetime m.datetime) h.ip (later-under 4 categories.datetime m.datetime (omega arith)) f in
-    let d = distinct-behind categories.bool m.bool _ h.bool (later-append 3 _ _ (later-under 3 categories.ip m.ip (omega arith)) (later-under 3 categories.datetime m.datetime (omega arith))) e in
-    let c = distinct-behind categories.str m.str _ h.str (later-append 2 _ _ (later-under 2 categories.bool m.bool (omega arith)) (later-append 2 _ _ (later-under 2 categories.ip m.ip (omega arith)) (later-under 2 categories.datetime m.datetime (omega arith)))) d in
-    let b = distinct-behind categories.bytes m.bytes _ h.bytes (later-append 1 _ _ (later-under 1 categories.str m.str (omega arith)) (later-append 1 _ _ (later-under 1 categories.bool m.bool (omega arith)) (later-append 1 _ _ (later-under 1 categories.ip m.ip (omega arith)) (later-under 1 categories.datetime m.datetime (omega arith))))) c in
-    distinct-behind categories.numerical m.numerical _ h.numerical (later-append 0 _ _ (later-under 0 categories.bytes m.bytes (omega arith)) (later-append 0 _ _ (later-under 0 categories.str m.str (omega arith)) (later-append 0 _ _ (later-under 0 categories.bool m.bool (omega arith)) (later-append 0 _ _ (later-under 0 categories.ip m.ip (omega arith)) (later-under 0 categories.datetime m.datetime (omega arith)))))) b
+    let f = subst (λ es. IsDistinct same_slot (map (λ p. p.0) es))
+    (append-nil (under categories.datetime m.datetime))
+    (distinct-behind categories.datetime m.datetime [] h.datetime tt (none-once tt)) in
+    let e = distinct-behind categories.ip m.ip (under categories.datetime m.datetime) h.ip
+    (later-under 4 categories.datetime m.datetime (omega arith)) f in
+    let d = distinct-behind categories.bool m.bool _ h.bool (later-append 3 _ _
+    (later-under 3 categories.ip m.ip (omega arith))
+    (later-under 3 categories.datetime m.datetime (omega arith))) e in
+    let c = distinct-behind categories.str m.str _ h.str (later-append 2 _ _
+    (later-under 2 categories.bool m.bool (omega arith)) (later-append 2 _ _
+    (later-under 2 categories.ip m.ip (omega arith))
+    (later-under 2 categories.datetime m.datetime (omega arith)))) d in
+    let b = distinct-behind categories.bytes m.bytes _ h.bytes (later-append 1 _ _
+    (later-under 1 categories.str m.str (omega arith)) (later-append 1 _ _
+    (later-under 1 categories.bool m.bool (omega arith)) (later-append 1 _ _
+    (later-under 1 categories.ip m.ip (omega arith))
+    (later-under 1 categories.datetime m.datetime (omega arith))))) c in
+    distinct-behind categories.numerical m.numerical _ h.numerical (later-append 0 _ _
+    (later-under 0 categories.bytes m.bytes (omega arith)) (later-append 0 _ _
+    (later-under 0 categories.str m.str (omega arith)) (later-append 0 _ _
+    (later-under 0 categories.bool m.bool (omega arith)) (later-append 0 _ _
+    (later-under 0 categories.ip m.ip (omega arith))
+    (later-under 0 categories.datetime m.datetime (omega arith)))))) b
 
 is-true : (b : Bool) → T b → b ≡ true
 is-true true t = refl
 is-true false t = absurd t
 
-pub all-listed : (m : Columns) (es w : Recorded) → HaveNames m → es ≡ slotted m → content_of m ≡ w → IsListed es w
-unfolding content_of
+-- the columns of all categories are the entries of the content, in some order
+pub all-listed : (m : WriterColumns) (es w : Recorded) → HaveNames m → es ≡ slotted m → writer_content m ≡ w → IsListed es w
+unfolding writer_content
 all-listed m es w names e is = record {
   once = subst (λ xs. IsDistinct same_slot (map (λ p. p.0) xs)) (sym e) (slotted-once m names);
   found = λ q. ap (find slot_cmp q) e ∙ sym (find-put_all q (slotted m)) ∙ ap (find slot_cmp q) is;
@@ -101,11 +131,14 @@ all-listed m es w names e is = record {
 }
 
 -- the content is sorted
-pub content-sorted : (m : Columns) (es w : Recorded) → es ≡ w → content_of m ≡ w → is_sorted slot_cmp es ≡ true
+pub content-sorted : (m : WriterColumns) (es w : Recorded) → es ≡ w → writer_content m ≡ w → is_sorted slot_cmp es ≡ true
 content-sorted m es w e is = ap (is_sorted slot_cmp) (e ∙ sym is) ∙ is-true _ (sorted-content m)
 
 -- categories that were listed one behind another
-pub all-slotted : (m : Columns) (s t u v w x : Recorded) → s ≡ under categories.numerical m.numerical → t ≡ s ++ under categories.bytes m.bytes → u ≡ t ++ under categories.str m.str → v ≡ u ++ under categories.bool m.bool → w ≡ v ++ under categories.ip m.ip → x ≡ w ++ under categories.datetime m.datetime → x ≡ slotted m
+pub all-slotted : (m : WriterColumns) (s t u v w x : Recorded) → s ≡ under categories.numerical m.numerical
+    → t ≡ s ++ under categories.bytes m.bytes → u ≡ t ++ under categories.str m.str
+    → v ≡ u ++ under categories.bool m.bool → w ≡ v ++ under categories.ip m.ip
+    → x ≡ w ++ under categories.datetime m.datetime → x ≡ slotted m
 unfolding slotted
 all-slotted m s t u v w x p q r y z o =
     let b = under categories.bytes m.bytes in
@@ -113,11 +146,13 @@ all-slotted m s t u v w x p q r y z o =
     let d = under categories.bool m.bool in
     let e = under categories.ip m.ip in
     let f = under categories.datetime m.datetime in
-    o ∙ ap (λ l. l ++ f) z ∙ append_assoc v e f ∙ ap (λ l. l ++ (e ++ f)) y ∙ append_assoc u d (e ++ f) ∙ ap (λ l. l ++ (d ++ (e ++ f))) r ∙ append_assoc t c (d ++ (e ++ f))
+    o ∙ ap (λ l. l ++ f) z ∙ append_assoc v e f ∙ ap (λ l. l ++ (e ++ f)) y ∙ append_assoc u d (e ++ f)
+    ∙ ap (λ l. l ++ (d ++ (e ++ f))) r ∙ append_assoc t c (d ++ (e ++ f))
     ∙ ap (λ l. l ++ (c ++ (d ++ (e ++ f)))) q ∙ append_assoc s b (c ++ (d ++ (e ++ f))) ∙ ap (λ l. l ++ (b ++ (c ++ (d ++ (e ++ f))))) p
 
 -- entries have the names of their columns
-pub each-differ : {X : Type 0} (f : X → Entry) (es : List (String Global × X)) → IsDistinct bytes_eq (map (λ p. string_bytes p.0) es) → Differ (each_entry f es)
+pub each-differ : {X : Type 0} (f : X → Entry) (es : List (String Global × X))
+    → IsDistinct bytes_eq (map (λ p. string_bytes p.0) es) → Differ (each_entry f es)
 each-differ {X = X} f es h = subst (IsDistinct bytes_eq) (same es) h
   where
     same : (es : List (String Global × X)) → map (λ p. string_bytes p.0) es ≡ map (λ p. string_bytes p.0) (each_entry f es)

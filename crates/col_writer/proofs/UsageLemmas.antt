@@ -19,13 +19,13 @@ use Rattle.col_model.specs.Table.{Cell, text}
 use Rattle.col_model.specs.Category.{Category, Slot, slot_cmp, same_slot}
 use Rattle.col_model.specs.Category as categories
 use Rattle.col_model.specs.Written.{Record, Entry, Recorded, text_of}
-use Rattle.col_record.specs.Numerical.{numerical_record, numerical_records, AreCodes}
-use Rattle.col_record.specs.Columns.{records_of}
-use Rattle.col_entry.proofs.NumberLemmas.{codes-textless}
-use Rattle.col_entry.proofs.TextEntryLemmas.{texts-in}
+use Rattle.col_writer_columns.specs.Numerical.{numerical_record, numerical_records, AreCodes}
+use Rattle.col_writer_columns.specs.Columns.{records_of}
+use Rattle.col_writer_file.proofs.NumberLemmas.{codes-textless}
+use Rattle.col_writer_file.proofs.TextEntryLemmas.{texts-in}
 use Rattle.col_writer.specs.Columns.{each_entry}
-use Rattle.col_writer.specs.Contents.{Named, Columns, under, put_all, slotted, content_of}
-use Rattle.col_writer.specs.Usage.{value_bytes, record_bytes, records_bytes, entry_bytes, named_bytes, counted, mem_usage}
+use Rattle.col_writer.specs.Contents.{WriterColumns, under, put_all, slotted, writer_content}
+use Rattle.col_writer.specs.Usage.{value_bytes, record_bytes, records_bytes, entry_bytes, named_bytes, up_to_64_bits, mem_usage}
 use Rattle.col_writer.proofs.ContentLemmas.{find-put_all}
 use Rattle.col_writer.proofs.ListingLemmas.{HaveNames, slotted-once}
 
@@ -41,7 +41,8 @@ one-number types.bool e = cc
 one-number types.ip e = cc
 one-number types.datetime e = cc
 
-numbers-sum : (ts : List ColumnType) (ps : List (ℕ × ℕ)) → length ts ≡ length ps → list_all is_numerical ts ≡ true → sum_by record_bytes (numerical_records ts ps) ≡ length ps * 12
+numbers-sum : (ts : List ColumnType) (ps : List (ℕ × ℕ)) → length ts ≡ length ps → list_all is_numerical ts ≡ true
+    → sum_by record_bytes (numerical_records ts ps) ≡ length ps * 12
 unfolding numerical_records
 numbers-sum [] [] e h = refl
 numbers-sum [] (p ∷ ps) e h = absurd (omega arith)
@@ -51,6 +52,7 @@ numbers-sum (t ∷ ts) (p ∷ ps) e h =
     let rest = numbers-sum ts ps (omega arith) parts.1 in
     omega (arith, sum_by-cons record_bytes (numerical_record (t, p)) (numerical_records ts ps), one-number t parts.0, rest)
 
+-- records of numbers take twelve bytes each
 pub numbers-bytes : (records : List Record) (ps : List (ℕ × ℕ)) → AreCodes records ps → records_bytes records ≡ length ps * 12
 unfolding records_bytes
 numbers-bytes records ps h =
@@ -58,24 +60,38 @@ numbers-bytes records ps h =
     (λ i. own i + sum_by length (codes-textless records ps h i)) ∙ omega arith
 
 -- records of one type
-records-sum : {X : Type 0} (t : ColumnType) (cell : X → Cell) (k : ℕ) (ps : List (ℕ × X)) → 4 + value_bytes t ≡ k → sum_by record_bytes (records_of t cell ps) ≡ length ps * k
+records-sum : {X : Type 0} (t : ColumnType) (cell : X → Cell) (k : ℕ) (ps : List (ℕ × X)) → 4 + value_bytes t ≡ k
+    → sum_by record_bytes (records_of t cell ps) ≡ length ps * k
 unfolding records_of
 records-sum t cell k [] is = omega arith
 records-sum t cell k (p ∷ ps) is =
     let rest = records-sum t cell k ps is in
-    omega (arith, sum_by-cons record_bytes (record { doc = p.0; recorded_type = t; cell = cell p.1 }) (records_of t cell ps), rest, suc-mul (length ps) k)
+    omega (
+      arith,
+      sum_by-cons record_bytes (record { doc = p.0; recorded_type = t; cell = cell p.1 }) (records_of t cell ps),
+      rest,
+      suc-mul (length ps) k,
+    )
 
-pub texts-bytes : (t : ColumnType) (ps : List (ℕ × List ℕ)) → 4 + value_bytes t ≡ 8 → records_bytes (records_of t text ps) ≡ length ps * 8 + sum_by length (distinct_items (slice_cmp nat_cmp) (map (λ p. p.1) ps))
+-- records of texts take eight bytes each, and those of the differing texts
+pub texts-bytes : (t : ColumnType) (ps : List (ℕ × List ℕ)) → 4 + value_bytes t ≡ 8
+    → records_bytes (records_of t text ps)
+    ≡ length ps * 8 + sum_by length (distinct_items (slice_cmp nat_cmp) (map (λ p. p.1) ps))
 unfolding records_bytes
 texts-bytes t ps is = λ i. records-sum t text 8 ps is i + sum_by length (distinct_items (slice_cmp nat_cmp) (texts-in t ps i))
 
-no-texts-of : {X : Type 0} (t : ColumnType) (cell : X → Cell) (ps : List (ℕ × X)) → ((x : X) → text_of (cell x) ≡ None) → filter_map text_of (map (λ r. r.cell) (records_of t cell ps)) ≡ []
+no-texts-of : {X : Type 0} (t : ColumnType) (cell : X → Cell) (ps : List (ℕ × X))
+    → ((x : X) → text_of (cell x) ≡ None) → filter_map text_of (map (λ r. r.cell) (records_of t cell ps)) ≡ []
 unfolding records_of
 no-texts-of t cell [] none = refl
-no-texts-of t cell (p ∷ ps) none = ap (λ o. cons_option o (filter_map text_of (map (λ r. r.cell) (records_of t cell ps)))) (none p.1) ∙ no-texts-of t cell ps none
+no-texts-of t cell (p ∷ ps) none =
+    ap (λ o. cons_option o (filter_map text_of (map (λ r. r.cell) (records_of t cell ps)))) (none p.1)
+    ∙ no-texts-of t cell ps none
 
 -- values that are no texts
-pub plain-bytes : {X : Type 0} (t : ColumnType) (cell : X → Cell) (k : ℕ) (ps : List (ℕ × X)) → ((x : X) → text_of (cell x) ≡ None) → 4 + value_bytes t ≡ k → records_bytes (records_of t cell ps) ≡ length ps * k
+pub plain-bytes : {X : Type 0} (t : ColumnType) (cell : X → Cell) (k : ℕ) (ps : List (ℕ × X))
+    → ((x : X) → text_of (cell x) ≡ None) → 4 + value_bytes t ≡ k
+    → records_bytes (records_of t cell ps) ≡ length ps * k
 unfolding records_bytes distinct_items
 plain-bytes t cell k ps none is =
     (λ i. records-sum t cell k ps is i + sum_by length (distinct_items (slice_cmp nat_cmp) (no-texts-of t cell ps none i))) ∙ omega arith
@@ -83,19 +99,20 @@ plain-bytes t cell k ps none is =
 -- ---- columns
 
 -- the entries of columns, by the bytes of each
-pub named-sum : {X : Type 0} (c : Category) (f : X → Entry) (bytes : X → ℕ) (es : List (String Global × X)) → ((x : X) → records_bytes (f x).records ≡ bytes x) → sum_by entry_bytes (under c (each_entry f es)) ≡ named_bytes bytes es
+pub named-sum : {X : Type 0} (c : Category) (f : X → Entry) (bytes : X → ℕ) (es : List (String Global × X))
+    → ((x : X) → records_bytes (f x).records ≡ bytes x)
+    → sum_by entry_bytes (under c (each_entry f es)) ≡ named_bytes bytes es
 named-sum c f bytes [] h = refl
 named-sum {X = X} c f bytes (e ∷ es) h =
     let rest = named-sum c f bytes es h in
-    omega (arith, sum_by-cons entry_bytes (record { name = string_bytes e.0; category = c }, f e.1) (under c (each_entry f es)), sum_by-cons (λ (p : String Global × X). length (string_bytes p.0) + bytes p.1) e es, h e.1, rest)
-
--- the same of entries that are kept as they are
-pub own-sum : (c : Category) (es : Named) → sum_by entry_bytes (under c es) ≡ named_bytes (λ e. records_bytes e.records) es
-own-sum c es = ap (λ fs. sum_by entry_bytes (under c fs)) (sym (kept es)) ∙ named-sum c (λ e. e) (λ e. records_bytes e.records) es (λ e. refl)
-  where
-    kept : (es : Named) → each_entry (λ e. e) es ≡ es
-    kept [] = refl
-    kept (e ∷ es) = ap (λ r. e ∷ r) (kept es)
+    omega (
+      arith,
+      sum_by-cons entry_bytes (record { name = string_bytes e.0; category = c }, f e.1)
+          (under c (each_entry f es)),
+      sum_by-cons (λ (p : String Global × X). length (string_bytes p.0) + bytes p.1) e es,
+      h e.1,
+      rest,
+    )
 
 -- ---- the content
 
@@ -103,11 +120,15 @@ none-found : (s : Slot) (es : Recorded) → AllByRecursion (λ t. same_slot s t 
 none-found s [] h = refl
 none-found s (e ∷ es) h = ap (λ b. cond b (Some e.1) (find slot_cmp s es)) h.0 ∙ none-found s es h.1
 
-sum-put : (f : Slot × Entry → ℕ) (s : Slot) (e : Entry) (w : Recorded) → find slot_cmp s w ≡ None → sum_by f (put slot_cmp s e w) ≡ f (s, e) + sum_by f w
+sum-put : (f : Slot × Entry → ℕ) (s : Slot) (e : Entry) (w : Recorded) → find slot_cmp s w ≡ None
+    → sum_by f (put slot_cmp s e w) ≡ f (s, e) + sum_by f w
 sum-put f s e [] h = sum_by-cons f (s, e) []
 sum-put f s e (p ∷ w) h = by (slot_cmp s p.0) h (sum-put f s e w)
   where
-    by : (o : Ordering) → cond (is_eq o) (Some p.1) (find slot_cmp s w) ≡ None → (find slot_cmp s w ≡ None → sum_by f (put slot_cmp s e w) ≡ f (s, e) + sum_by f w) → sum_by f (by_order o ((s, e) ∷ p ∷ w) ((p.0, e) ∷ w) (p ∷ put slot_cmp s e w)) ≡ f (s, e) + sum_by f (p ∷ w)
+    by : (o : Ordering) → cond (is_eq o) (Some p.1) (find slot_cmp s w) ≡ None
+        → (find slot_cmp s w ≡ None → sum_by f (put slot_cmp s e w) ≡ f (s, e) + sum_by f w)
+        → sum_by f (by_order o ((s, e) ∷ p ∷ w) ((p.0, e) ∷ w) (p ∷ put slot_cmp s e w))
+        ≡ f (s, e) + sum_by f (p ∷ w)
     by Less h later = sum_by-cons f (s, e) (p ∷ w)
     by Equal h later = cc
     by Greater h later =
@@ -120,15 +141,25 @@ sum-put_all : (f : Slot × Entry → ℕ) (es : Recorded) → IsDistinct same_sl
 unfolding put_all IsDistinct
 sum-put_all f [] h = refl
 sum-put_all f (e ∷ es) h =
-    sum-put f e.0 e.1 (put_all es) (find-put_all e.0 es ∙ none-found e.0 es h.0) ∙ ap (λ n. f e + n) (sum-put_all f es h.1) ∙ sym (sum_by-cons f e es)
+    sum-put f e.0 e.1 (put_all es) (find-put_all e.0 es ∙ none-found e.0 es h.0)
+    ∙ ap (λ n. f e + n) (sum-put_all f es h.1) ∙ sym (sum_by-cons f e es)
 
 -- the content has the bytes of its categories
-pub content-sum : (m : Columns) (w : Recorded) → HaveNames m → content_of m ≡ w → sum_by entry_bytes w ≡ sum_by entry_bytes (under categories.numerical m.numerical) + sum_by entry_bytes (under categories.bytes m.bytes) + sum_by entry_bytes (under categories.str m.str) + sum_by entry_bytes (under categories.bool m.bool) + sum_by entry_bytes (under categories.ip m.ip) + sum_by entry_bytes (under categories.datetime m.datetime)
-unfolding content_of slotted
+pub content-sum : (m : WriterColumns) (w : Recorded) → HaveNames m → writer_content m ≡ w
+    → sum_by entry_bytes w
+    ≡ sum_by entry_bytes (under categories.numerical m.numerical)
+    + sum_by entry_bytes (under categories.bytes m.bytes) + sum_by entry_bytes (under categories.str m.str)
+    + sum_by entry_bytes (under categories.bool m.bool) + sum_by entry_bytes (under categories.ip m.ip)
+    + sum_by entry_bytes (under categories.datetime m.datetime)
+unfolding writer_content slotted
 content-sum m w names is = ap (sum_by entry_bytes) (sym is) ∙ sum-put_all entry_bytes (slotted m) (slotted-once m names)
-    ∙ six (under categories.numerical m.numerical) (under categories.bytes m.bytes) (under categories.str m.str) (under categories.bool m.bool) (under categories.ip m.ip) (under categories.datetime m.datetime)
+    ∙ six (under categories.numerical m.numerical) (under categories.bytes m.bytes) (under categories.str m.str)
+    (under categories.bool m.bool) (under categories.ip m.ip) (under categories.datetime m.datetime)
   where
-    six : (a b c d e f : Recorded) → sum_by entry_bytes (a ++ (b ++ (c ++ (d ++ (e ++ f))))) ≡ sum_by entry_bytes a + sum_by entry_bytes b + sum_by entry_bytes c + sum_by entry_bytes d + sum_by entry_bytes e + sum_by entry_bytes f
+    six : (a b c d e f : Recorded)
+        → sum_by entry_bytes (a ++ (b ++ (c ++ (d ++ (e ++ f)))))
+        ≡ sum_by entry_bytes a + sum_by entry_bytes b + sum_by entry_bytes c + sum_by entry_bytes d
+        + sum_by entry_bytes e + sum_by entry_bytes f
     six a b c d e f =
         let p = sum_by-append entry_bytes a (b ++ (c ++ (d ++ (e ++ f)))) in
         let q = sum_by-append entry_bytes b (c ++ (d ++ (e ++ f))) in
@@ -142,20 +173,27 @@ content-sum m w names is = ap (sum_by entry_bytes) (sym is) ∙ sum-put_all entr
 -- the bytes so far and those that are left are all, as far as 64 bits count
 pub record AreCounted (bytes left all : ℕ) : Type 0 where
   pub fits : bytes < 2 ^ 64
-  pub same : counted (bytes + left) ≡ counted all
+  pub same : up_to_64_bits (bytes + left) ≡ up_to_64_bits all
 
-pub all-counted : (bytes left all : ℕ) → AreCounted bytes left all → left ≡ 0 → bytes ≡ counted all
+-- where nothing is left to count, the bytes are all, as far as 64 bits count
+pub all-counted : (bytes left all : ℕ) → AreCounted bytes left all → left ≡ 0 → bytes ≡ up_to_64_bits all
 all-counted bytes left all h none = omega arith
 
-counted-sum : (x y a b r : ℕ) → a ≡ counted x → b ≡ counted y → r ≡ counted (a + b) → r ≡ counted (x + y)
+counted-sum : (x y a b r : ℕ) → a ≡ up_to_64_bits x → b ≡ up_to_64_bits y → r ≡ up_to_64_bits (a + b) → r ≡ up_to_64_bits (x + y)
 counted-sum x y a b r p q e = omega arith
 
 -- a sum of the categories is that of the content
-pub usage-is : (m : Columns) (now : Recorded) (a b c d e f p q r s t : ℕ) → HaveNames m → content_of m ≡ now
-    → a ≡ counted (sum_by entry_bytes (under categories.numerical m.numerical)) → b ≡ counted (sum_by entry_bytes (under categories.bytes m.bytes))
-    → c ≡ counted (sum_by entry_bytes (under categories.str m.str)) → d ≡ counted (sum_by entry_bytes (under categories.bool m.bool))
-    → e ≡ counted (sum_by entry_bytes (under categories.ip m.ip)) → f ≡ counted (sum_by entry_bytes (under categories.datetime m.datetime))
-    → p ≡ counted (a + b) → q ≡ counted (p + c) → r ≡ counted (q + d) → s ≡ counted (r + e) → t ≡ counted (s + f) → t ≡ mem_usage now
+pub usage-is : (m : WriterColumns) (now : Recorded) (a b c d e f p q r s t : ℕ) → HaveNames m → writer_content m ≡ now
+    → a ≡ up_to_64_bits (sum_by entry_bytes (under categories.numerical m.numerical))
+    → b ≡ up_to_64_bits (sum_by entry_bytes (under categories.bytes m.bytes))
+    → c ≡ up_to_64_bits (sum_by entry_bytes (under categories.str m.str))
+    → d ≡ up_to_64_bits (sum_by entry_bytes (under categories.bool m.bool))
+    → e ≡ up_to_64_bits (sum_by entry_bytes (under categories.ip m.ip))
+    → f ≡ up_to_64_bits (sum_by entry_bytes (under categories.datetime m.datetime))
+    → p ≡ up_to_64_bits (a + b) → q ≡ up_to_64_bits (p + c) → r ≡ up_to_64_bits (q + d) → s ≡ up_to_64_bits (r + e)
+    → t ≡ up_to_64_bits (s + f) → t ≡ mem_usage now
 usage-is m now a b c d e f p q r s t names is numerical bytes str bool ip datetime ab abc abcd abcde all =
-    counted-sum _ _ s f t (counted-sum _ _ r e s (counted-sum _ _ q d r (counted-sum _ _ p c q (counted-sum _ _ a b p numerical bytes ab) str abc) bool abcd) ip abcde) datetime all
-    ∙ ap counted (sym (content-sum m now names is))
+    counted-sum _ _ s f t (counted-sum _ _ r e s
+    (counted-sum _ _ q d r (counted-sum _ _ p c q (counted-sum _ _ a b p numerical bytes ab) str abc) bool abcd)
+    ip abcde) datetime all
+    ∙ ap up_to_64_bits (sym (content-sum m now names is))

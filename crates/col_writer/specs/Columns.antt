@@ -5,11 +5,11 @@ use Rattle.std.specs.declared.alloc.Global.{Global}
 use Rattle.col_model.specs.ColumnType as types
 use Rattle.col_model.specs.Written.{Entry}
 use Rattle.col_types.specs.Cells.{bool_cell, unsigned_cell}
-use Rattle.col_record.specs.Texts.{Texts}
-use Rattle.col_record.specs.Values.{time_cell}
-use Rattle.col_record.specs.Columns.{text_entry, plain_entry}
-use Rattle.col_record.specs.declared.plain_column_writer.PlainColumnWriter.{PlainColumnWriter}
-use Rattle.col_writer.specs.Contents.{Columns}
+use Rattle.col_writer_columns.specs.Texts.{RecordedTexts}
+use Rattle.col_writer_columns.specs.Values.{time_cell}
+use Rattle.col_writer_columns.specs.Columns.{text_entry, plain_entry}
+use Rattle.col_writer_columns.specs.declared.plain_column_writer.PlainColumnWriter.{PlainColumnWriter}
+use Rattle.col_writer.specs.Contents.{WriterColumns}
 
 -- names with what f gives of their columns
 abbrev pub each_entry : {X : Type 0} → (X → Entry) → List (String Global × X)
@@ -18,12 +18,12 @@ each_entry f es = map (λ p. (p.0, f p.1)) es
 
 -- the entries of all columns
 abbrev pub columns_of : {S : Type 0} → HashMap (String Global) Entry S
-    → HashMap (String Global) Texts S → HashMap (String Global) Texts S
+    → HashMap (String Global) RecordedTexts S → HashMap (String Global) RecordedTexts S
     → HashMap (String Global) (PlainColumnWriter Bool) S
     → HashMap (String Global) (PlainColumnWriter ℕ) S
-    → HashMap (String Global) (PlainColumnWriter ℕ) S → Columns
+    → HashMap (String Global) (PlainColumnWriter ℕ) S → WriterColumns
 columns_of numerical bytes strs bools ips datetimes = record {
-  numerical = numerical.entries;
+  numerical = each_entry (λ e. e) numerical.entries;
   bytes = each_entry (text_entry types.bytes) bytes.entries;
   str = each_entry (text_entry types.str) strs.entries;
   bool = each_entry (plain_entry types.bool bool_cell) bools.entries;

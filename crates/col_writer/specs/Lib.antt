@@ -5,10 +5,11 @@ pub use Rattle.col_model.specs.Soundness
 pub use Rattle.col_types.specs.Kinds
 pub use Rattle.col_types.specs.Numbers
 pub use Rattle.col_types.specs.Cells
-pub use Rattle.col_record.specs.Answers
-pub use Rattle.col_record.specs.Values
+pub use Rattle.col_writer_columns.specs.Answers
+pub use Rattle.col_writer_columns.specs.Values
 pub mod Contents
 pub mod Columns
+pub mod Changes
 pub mod Listed
 pub mod Places
 pub mod Usage

@@ -30,12 +30,12 @@ abbrev pub entry_bytes : Slot × Entry → ℕ
 entry_bytes (slot, e) = length slot.name + records_bytes e.records
 
 -- as far as 64 bits count
-abbrev pub counted : ℕ → ℕ
-counted n = min n (2 ^ 64 - 1)
+abbrev pub up_to_64_bits : ℕ → ℕ
+up_to_64_bits n = min n (2 ^ 64 - 1)
 
 -- all names, records and distinct texts, as far as 64 bits count
 abbrev pub mem_usage : Recorded → ℕ
-mem_usage w = counted (sum_by entry_bytes w)
+mem_usage w = up_to_64_bits (sum_by entry_bytes w)
 
 -- names, and what they are the names of
 abbrev pub named_bytes : {X : Type 0} → (X → ℕ) → List (String Global × X) → ℕ

@@ -3,7 +3,7 @@
 
 mod writer;
 
-pub use col_record::{
+pub use col_writer_columns::{
     ColumnOperation, ColumnWriter, CompatibleNumericalTypes, NumericalColumnWriter, Operations,
     StrOrBytesColumnWriter,
 };

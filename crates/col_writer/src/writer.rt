@@ -1,53 +1,52 @@
 //! Values by document and column name.
 ghost use Rattle.std.specs.Prelude.{◌≡◌, []};
-ghost use Rattle.col_model.specs.Category as categories;
 ghost use Rattle.col_model.specs.Column.{signed_of};
 ghost use Rattle.col_model.specs.ColumnType as types;
 ghost use Rattle.col_model.specs.Recording.{recorded, content_after};
 ghost use Rattle.col_model.specs.Table.{number, text};
 ghost use Rattle.col_types.specs.Cells.{bool_cell, unsigned_cell};
 ghost use Rattle.col_types.specs.Numbers.{number_of};
-ghost use Rattle.col_record.specs.Answers.{Answers};
-ghost use Rattle.col_record.specs.Values.{value_type, time_cell};
-ghost use Rattle.col_writer.specs.Contents.{IsNew};
+ghost use Rattle.col_writer_columns.specs.Answers.{RecordsOrRefuses};
+ghost use Rattle.col_writer_columns.specs.Values.{value_type};
 
+mod changes;
 mod column_types;
 mod mem_usage;
+mod named_columns;
 mod places;
 mod serialize;
 mod sort_order;
 mod soundness;
 
+use changes::Post;
 use col_common::{ColumnarError, DateTime, DocId, Ipv6Addr};
-use col_record::{NumericalColumnWriter, PlainColumnWriter, StrOrBytesColumnWriter};
 use col_types::NumericalValue;
 use col_values::MonotonicallyMappableToU64;
-use indexmap::IndexMap;
-use places::{LastPlaces, place_of};
+use col_writer_columns::{NumericalColumnWriter, PlainColumnWriter, StrOrBytesColumnWriter};
+use named_columns::NamedColumns;
 use std::alloc::Global;
 use std::marker::Model;
 
 /// Values by document and column name. Contracts see what was recorded.
 pub struct ColumnarWriter {
     alloc: Global,
-    numerical: IndexMap<String, NumericalColumnWriter>,
-    bytes: IndexMap<String, StrOrBytesColumnWriter>,
-    strs: IndexMap<String, StrOrBytesColumnWriter>,
-    bools: IndexMap<String, PlainColumnWriter<bool>>,
-    ip_addrs: IndexMap<String, PlainColumnWriter<Ipv6Addr>>,
-    datetimes: IndexMap<String, PlainColumnWriter<u64>>,
-    last: LastPlaces,
+    numerical: NamedColumns<NumericalColumnWriter>,
+    bytes: NamedColumns<StrOrBytesColumnWriter>,
+    strs: NamedColumns<StrOrBytesColumnWriter>,
+    bools: NamedColumns<PlainColumnWriter<bool>>,
+    ip_addrs: NamedColumns<PlainColumnWriter<Ipv6Addr>>,
+    datetimes: NamedColumns<PlainColumnWriter<u64>>,
 }
 
 impl Model for ColumnarWriter {
     ghost use Rattle.col_model.specs.Written.{Recorded};
-    ghost use Rattle.col_writer.specs.Contents.{content_of};
+    ghost use Rattle.col_writer.specs.Contents.{writer_content};
     ghost use Rattle.col_writer.specs.Columns.{columns_of};
 
     ghost Value = { Recorded };
 
-    ghost view = { λ w. content_of
-        (columns_of w.numerical w.bytes w.strs w.bools w.ip_addrs w.datetimes) };
+    ghost view = { λ w. writer_content (columns_of w.numerical.columns w.bytes.columns
+        w.strs.columns w.bools.columns w.ip_addrs.columns w.datetimes.columns) };
 }
 
 // By hand, so that a drop of a writer is one call in proofs.
@@ -61,7 +60,6 @@ impl Drop for ColumnarWriter {
             bools,
             ip_addrs,
             datetimes,
-            last: _,
         } = self;
         drop(numerical);
         drop(bytes);
@@ -79,13 +77,12 @@ impl ColumnarWriter {
     {
         ColumnarWriter {
             alloc,
-            numerical: IndexMap::new(alloc),
-            bytes: IndexMap::new(alloc),
-            strs: IndexMap::new(alloc),
-            bools: IndexMap::new(alloc),
-            ip_addrs: IndexMap::new(alloc),
-            datetimes: IndexMap::new(alloc),
-            last: LastPlaces::new(),
+            numerical: NamedColumns::new(alloc),
+            bytes: NamedColumns::new(alloc),
+            strs: NamedColumns::new(alloc),
+            bools: NamedColumns::new(alloc),
+            ip_addrs: NamedColumns::new(alloc),
+            datetimes: NamedColumns::new(alloc),
         }
     }
 
@@ -97,33 +94,10 @@ impl ColumnarWriter {
         name: &str,
         value: NumericalValue,
     ) -> Result<(), ColumnarError>
-        ensures { Answers self.old self.new result (content_after self.old
+        ensures { RecordsOrRefuses self.old self.new result (content_after self.old
             (recorded doc name.now (value_type value) (number (number_of value)))) }
     {
-        if let Some(place) = place_of(&self.numerical, self.last.numerical, name) {
-            self.last.numerical = place;
-            return self.numerical[place].record_numerical_value(doc, value);
-        }
-        self.add_numerical(doc, name, value)
-    }
-
-    // Records the first number of a column.
-    #[cold]
-    fn add_numerical(
-        &mut self,
-        doc: DocId,
-        name: &str,
-        value: NumericalValue,
-    ) -> Result<(), ColumnarError>
-        requires { IsNew categories.numerical name.now self.old }
-        ensures { Answers self.old self.new result (content_after self.old
-            (recorded doc name.now (value_type value) (number (number_of value)))) }
-    {
-        let mut column = NumericalColumnWriter::new(self.alloc);
-        column.record_numerical_value(doc, value)?;
-        let key = String::from_str(self.alloc, name)?;
-        self.numerical.insert(key, column)?;
-        Ok(())
+        self.numerical.change(self.alloc, name, Post { doc, value })
     }
 
     /// Records bytes.
@@ -134,82 +108,29 @@ impl ColumnarWriter {
         name: &str,
         value: &[u8],
     ) -> Result<(), ColumnarError>
-        ensures { Answers self.old self.new result (content_after self.old
+        ensures { RecordsOrRefuses self.old self.new result (content_after self.old
             (recorded doc name.now types.bytes (text value.now))) }
     {
-        if let Some(place) = place_of(&self.bytes, self.last.bytes, name) {
-            self.last.bytes = place;
-            return self.bytes[place].record_bytes(doc, value);
-        }
-        self.add_bytes(doc, name, value)
-    }
-
-    // Records bytes into a new column.
-    #[cold]
-    fn add_bytes(&mut self, doc: DocId, name: &str, value: &[u8]) -> Result<(), ColumnarError>
-        requires { IsNew categories.bytes name.now self.old }
-        ensures { Answers self.old self.new result (content_after self.old
-            (recorded doc name.now types.bytes (text value.now))) }
-    {
-        let mut column = StrOrBytesColumnWriter::new(self.alloc);
-        column.record_bytes(doc, value)?;
-        let key = String::from_str(self.alloc, name)?;
-        self.bytes.insert(key, column)?;
-        Ok(())
+        self.bytes.change(self.alloc, name, Post { doc, value })
     }
 
     /// Records a text.
     #[inline]
     pub fn record_str(&mut self, doc: DocId, name: &str, value: &str) -> Result<(), ColumnarError>
-        ensures { Answers self.old self.new result (content_after self.old
+        ensures { RecordsOrRefuses self.old self.new result (content_after self.old
             (recorded doc name.now types.str (text value.now))) }
     {
-        if let Some(place) = place_of(&self.strs, self.last.strs, name) {
-            self.last.strs = place;
-            return self.strs[place].record_bytes(doc, value.as_bytes());
-        }
-        self.add_str(doc, name, value.as_bytes())
-    }
-
-    // Records a text into a new column.
-    #[cold]
-    fn add_str(&mut self, doc: DocId, name: &str, value: &[u8]) -> Result<(), ColumnarError>
-        requires { IsNew categories.str name.now self.old }
-        ensures { Answers self.old self.new result (content_after self.old
-            (recorded doc name.now types.str (text value.now))) }
-    {
-        let mut column = StrOrBytesColumnWriter::new(self.alloc);
-        column.record_bytes(doc, value)?;
-        let key = String::from_str(self.alloc, name)?;
-        self.strs.insert(key, column)?;
-        Ok(())
+        let value = value.as_bytes();
+        self.strs.change(self.alloc, name, Post { doc, value })
     }
 
     /// Records a bool.
     #[inline]
     pub fn record_bool(&mut self, doc: DocId, name: &str, value: bool) -> Result<(), ColumnarError>
-        ensures { Answers self.old self.new result (content_after self.old
+        ensures { RecordsOrRefuses self.old self.new result (content_after self.old
             (recorded doc name.now types.bool (bool_cell value))) }
     {
-        if let Some(place) = place_of(&self.bools, self.last.bools, name) {
-            self.last.bools = place;
-            return self.bools[place].record(doc, value);
-        }
-        self.add_bool(doc, name, value)
-    }
-
-    // Records a bool into a new column.
-    #[cold]
-    fn add_bool(&mut self, doc: DocId, name: &str, value: bool) -> Result<(), ColumnarError>
-        requires { IsNew categories.bool name.now self.old }
-        ensures { Answers self.old self.new result (content_after self.old
-            (recorded doc name.now types.bool (bool_cell value))) }
-    {
-        let mut column = PlainColumnWriter::new(self.alloc);
-        column.record(doc, value)?;
-        let key = String::from_str(self.alloc, name)?;
-        self.bools.insert(key, column)?;
-        Ok(())
+        self.bools.change(self.alloc, name, Post { doc, value })
     }
 
     /// Records an address.
@@ -220,28 +141,10 @@ impl ColumnarWriter {
         name: &str,
         value: Ipv6Addr,
     ) -> Result<(), ColumnarError>
-        ensures { Answers self.old self.new result (content_after self.old
+        ensures { RecordsOrRefuses self.old self.new result (content_after self.old
             (recorded doc name.now types.ip (unsigned_cell value))) }
     {
-        if let Some(place) = place_of(&self.ip_addrs, self.last.ip_addrs, name) {
-            self.last.ip_addrs = place;
-            return self.ip_addrs[place].record(doc, value);
-        }
-        self.add_ip_addr(doc, name, value)
-    }
-
-    // Records an address into a new column.
-    #[cold]
-    fn add_ip_addr(&mut self, doc: DocId, name: &str, value: Ipv6Addr) -> Result<(), ColumnarError>
-        requires { IsNew categories.ip name.now self.old }
-        ensures { Answers self.old self.new result (content_after self.old
-            (recorded doc name.now types.ip (unsigned_cell value))) }
-    {
-        let mut column = PlainColumnWriter::new(self.alloc);
-        column.record(doc, value)?;
-        let key = String::from_str(self.alloc, name)?;
-        self.ip_addrs.insert(key, column)?;
-        Ok(())
+        self.ip_addrs.change(self.alloc, name, Post { doc, value })
     }
 
     /// Records a point in time.
@@ -252,37 +155,11 @@ impl ColumnarWriter {
         name: &str,
         value: DateTime,
     ) -> Result<(), ColumnarError>
-        ensures { Answers self.old self.new result (content_after self.old
+        ensures { RecordsOrRefuses self.old self.new result (content_after self.old
             (recorded doc name.now types.datetime (number value))) }
     {
-        self.record_time(doc, name, time_code(value))
-    }
-
-    // Records the code of a point in time.
-    #[inline]
-    fn record_time(&mut self, doc: DocId, name: &str, code: u64) -> Result<(), ColumnarError>
-        ensures { Answers self.old self.new result (content_after self.old
-            (recorded doc name.now types.datetime (time_cell code))) }
-    {
-        if let Some(place) = place_of(&self.datetimes, self.last.datetimes, name) {
-            self.last.datetimes = place;
-            return self.datetimes[place].record(doc, code);
-        }
-        self.add_time(doc, name, code)
-    }
-
-    // Records the code of a point in time into a new column.
-    #[cold]
-    fn add_time(&mut self, doc: DocId, name: &str, code: u64) -> Result<(), ColumnarError>
-        requires { IsNew categories.datetime name.now self.old }
-        ensures { Answers self.old self.new result (content_after self.old
-            (recorded doc name.now types.datetime (time_cell code))) }
-    {
-        let mut column = PlainColumnWriter::new(self.alloc);
-        column.record(doc, code)?;
-        let key = String::from_str(self.alloc, name)?;
-        self.datetimes.insert(key, column)?;
-        Ok(())
+        let value = time_code(value);
+        self.datetimes.change(self.alloc, name, Post { doc, value })
     }
 }
 

@@ -1,5 +1,5 @@
 //! Lists in blocks, read in place.
-ghost use Rattle.std.specs.Prelude.{◌≡◌, ◌≤◌, ◌+◌, ◌*◌, ◌%◌, ◌^◌, map, length, take, IfOk};
+ghost use Rattle.std.specs.Prelude.{◌≡◌, ◌≤◌, ◌+◌, ◌*◌, ◌%◌, ◌^◌, map, length, drop, take, IfOk};
 ghost use Rattle.std.specs.List.{range_with_len};
 ghost use Rattle.col_common.specs.Decoding.{Decodes};
 ghost use Rattle.col_codecs.specs.ColumnStats.{stats_seen, IsPossible};
@@ -14,7 +14,7 @@ use crate::bounded_items::{BoundedItems, find_ids, read_bounds};
 use crate::column_stats::ColumnStats;
 use crate::packing::BLOCK_LEN;
 use bytes::Bytes;
-use col_common::{ColumnarError, RowId, split_by_second};
+use col_common::{ColumnarError, Iterable, RowId, Walk, split_by_second};
 use col_values::ColumnValues;
 use std::alloc::{AllocError, Global};
 use std::marker::Model;
@@ -170,6 +170,23 @@ impl ColumnValues<u64> for BlockwiseLinearReader {
             bytes: self.data.as_slice(),
         };
         find_ids(&items, &self.bounds, low, high, ids, hits)
+    }
+}
+
+impl Iterable<u64> for BlockwiseLinearReader {
+    ghost items = { λ r. r };
+
+    ghost stands = { λ r w. w.place ≤ length r };
+
+    ghost left = { λ r w. drop w.place r };
+
+    fn walk(&self) -> Walk {
+        self.iter().walk()
+    }
+
+    #[inline]
+    fn next(&self, at: &mut Walk) -> Option<u64> {
+        self.iter().next(at)
     }
 }
 

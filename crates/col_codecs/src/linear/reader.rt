@@ -19,7 +19,7 @@ use crate::line::Line;
 use crate::linear_params::LinearParams;
 use bytes::Bytes;
 use col_bits::{BitUnpacker, is_packed};
-use col_common::{ColumnarError, RowId, cut_rest};
+use col_common::{ColumnarError, Iterable, RowId, Walk, cut_rest};
 use col_values::ColumnValues;
 use std::alloc::{AllocError, Global};
 use std::marker::Model;
@@ -143,6 +143,23 @@ impl ColumnValues<u64> for LinearReader {
             bytes: self.data.as_slice(),
         };
         find_ids(&items, &self.bounds, low, high, ids, hits)
+    }
+}
+
+impl Iterable<u64> for LinearReader {
+    ghost items = { λ r. r };
+
+    ghost stands = { λ r w. w.place ≤ length r };
+
+    ghost left = { λ r w. drop w.place r };
+
+    fn walk(&self) -> Walk {
+        self.iter().walk()
+    }
+
+    #[inline]
+    fn next(&self, at: &mut Walk) -> Option<u64> {
+        self.iter().next(at)
     }
 }
 

@@ -3,15 +3,15 @@ ghost use Rattle.std.specs.Prelude.{◌≡◌, false, OnOk};
 ghost use Rattle.col_indexer.specs.Spelling.{multivalued_index, IsIndex, is_past_limit};
 ghost use Rattle.col_indexer.specs.Written.{row_offsets_of};
 
-use crate::indexer::merged::{assert_index, assert_items};
-use col_common::{ColumnarError, RowId, VecSink};
-use col_index::{Cardinality, OptionalIndex};
+use col_common::{ColumnarError, Iterable, RowId, VecSink};
+use col_index::OptionalIndex;
 use col_indexer::{
     IndexBuilder, MultivaluedIndexBuilder, PreallocatedIndexBuilders, RowIds,
     SerializableColumnIndex, SerializableMultivalueIndex, SerializableOptionalIndex, StartOffsets,
-    serialize_column_index, serialize_multivalued_index, serialize_optional_index,
+    serialize_multivalued_index, serialize_optional_index,
 };
 use std::alloc::Global;
+use std::process::Abort;
 use std::test::Fail;
 
 // Two documents with three values and two.
@@ -48,24 +48,12 @@ fn empty_sink(alloc: Global) -> VecSink {
 }
 
 #[test]
-fn rows_with_many_values_are_written_with_their_offsets(rt: HostRuntime) -> Result<(), Fail> {
-    let alloc = rt.alloc();
-    let mut sink = empty_sink(alloc);
-    let index = SerializableColumnIndex::Multivalued(two_documents());
-    assert_eq!(rt; index.get_cardinality(), Cardinality::Multivalued);
-    assert!(rt; index.is_index());
-    assert!(rt; !index.is_past_limit());
-    let len = serialize_column_index(alloc, index, &mut sink)?;
-    assert_eq!(rt; len, 23);
-    assert_eq!(rt; sink.bytes(), WRITTEN.as_slice());
-    Ok(())
-}
-
-#[test]
 fn parts_of_an_index_are_written_as_in_the_whole(rt: HostRuntime) -> Result<(), Fail> {
     let alloc = rt.alloc();
     let mut sink = empty_sink(alloc);
-    serialize_multivalued_index(alloc, &two_documents(), &mut sink)?;
+    let index = two_documents();
+    assert!(rt; SerializableColumnIndex::Multivalued(two_documents()).is_index());
+    serialize_multivalued_index(alloc, &index, &mut sink)?;
     assert_eq!(rt; sink.bytes(), &WRITTEN[1..]);
     let optional = OptionalIndex::for_test(alloc, 2, &DOCS)?;
     let index = SerializableOptionalIndex::from(&optional);
@@ -80,6 +68,14 @@ fn parts_of_an_index_are_written_as_in_the_whole(rt: HostRuntime) -> Result<(), 
     Ok(())
 }
 
+fn assert_items<I: Iterable<RowId>>(rt: &impl Abort, list: &I, items: &[RowId]) {
+    let mut at = list.walk();
+    for item in items {
+        assert_eq!(rt; list.next(&mut at), Some(*item));
+    }
+    assert_eq!(rt; list.next(&mut at), None);
+}
+
 #[test]
 #[tactic(auto, unfolding(col_indexer::specs::Builders::with_value))]
 fn recorded_values_are_counted_to_their_rows(rt: HostRuntime) -> Result<(), Fail> {
@@ -89,10 +85,9 @@ fn recorded_values_are_counted_to_their_rows(rt: HostRuntime) -> Result<(), Fail
     builder.record_value()?;
     builder.record_row(2)?;
     builder.record_value()?;
-    let index = SerializableColumnIndex::Multivalued(builder.finish(4));
-    assert_index(&rt, &index, 4, &[1, 2], &[0, 2, 3]);
-    let again = SerializableColumnIndex::Multivalued(builder.finish(4));
-    assert_index(&rt, &again, 4, &[1, 2], &[0, 2, 3]);
+    let index = builder.finish(4);
+    assert_items(&rt, &index.doc_ids_with_values.non_null_row_ids, &[1, 2]);
+    assert_items(&rt, &index.start_offsets, &[0, 2, 3]);
     Ok(())
 }
 
@@ -119,7 +114,8 @@ fn builders_are_lent_empty(rt: HostRuntime) -> Result<(), Fail> {
     record(builders.borrow_multivalued_index_builder(), 5)?;
     let again = builders.borrow_multivalued_index_builder();
     record(again, 1)?;
-    let index = SerializableColumnIndex::Multivalued(again.finish(2));
-    assert_index(&rt, &index, 2, &[1], &[0, 1]);
+    let index = again.finish(2);
+    assert_items(&rt, &index.doc_ids_with_values.non_null_row_ids, &[1]);
+    assert_items(&rt, &index.start_offsets, &[0, 1]);
     Ok(())
 }

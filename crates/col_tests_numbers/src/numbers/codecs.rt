@@ -1,10 +1,9 @@
 //! Lists under each codec, written and read, by bytes that are worked out by hand.
 
 use super::lists::{random_looking, stepped};
-use bytes::Bytes;
-use col_common::{ColumnarError, VecSink};
+use col_common::VecSink;
 use col_numbers::{
-    ALL_U64_CODEC_TYPES, CodecType, U64Values, load_u64_values, serialize_and_load_u64_values,
+    ALL_U64_CODEC_TYPES, CodecType, U64Values, serialize_and_load_u64_values,
     serialize_estimated_values,
 };
 use col_values::ColumnValues;
@@ -83,87 +82,6 @@ const LISTS: [(u64, u64, u64, &str); 6] = [
     (0, (1 << 55) + 1, 700, "many far apart"),
 ];
 
-// Bytes, and the count and the last value of the list that they stand for.
-const TAKEN: [(&str, &[u8], u32, u64); 3] = [
-    (
-        "2^32 - 1 rows of one value",
-        &[0, 0x87, 0x81, 0x80, 127, 127, 127, 127, 0x8f],
-        u32::MAX,
-        7,
-    ),
-    (
-        "10 and 13 above the line from 10 on that doesn't rise",
-        &[1, 0x8a, 0x83, 0x81, 0x82, 0x80, 0x8a, 2, 12],
-        2,
-        13,
-    ),
-    (
-        "10 and 12, whose steps 2^63 and one more the divisor 2 wraps",
-        &[
-            2, 0x8a, 0x82, 0x81, 0x82, 2, 0x80, 0, 0, 0, 0, 0, 0, 0, 0, 0, 0x81, 1, 12, 0, 0, 0, 0,
-            0, 0, 0,
-        ],
-        2,
-        12,
-    ),
-];
-
-// Bytes that stand for no list.
-const REFUSED: [(&str, &[u8]); 20] = [
-    ("no items", &[0, 0x8a, 0x8a, 0x81, 0x82]),
-    ("a byte behind items", &[0, 0x8a, 0x8a, 0x81, 0x82, 2, 0]),
-    ("a spare bit of items", &[0, 0x8a, 0x8a, 0x81, 0x82, 6]),
-    ("a lesser least", &[0, 0x8a, 0x8a, 0x81, 0x82, 3]),
-    ("a greater greatest", &[0, 0x8a, 0x8a, 0x81, 0x82, 0]),
-    ("a lesser divisor", &[0, 0x8a, 0x85, 0x82, 0x82, 8]),
-    ("divisor 0", &[0, 0x8a, 0x80, 0x81, 0x82, 2]),
-    ("a divisor without steps", &[0, 0x8a, 0x8a, 0x80, 0x82]),
-    ("more than the steps", &[0, 0x8a, 0x81, 0x82, 0x82, 12]),
-    ("2^32 rows", &[0, 0x80, 0x81, 0x80, 0, 0, 0, 0, 0x90]),
-    ("no line", &[1, 0x8a, 0x83, 0x81, 0x82]),
-    ("no width", &[1, 0x8a, 0x83, 0x81, 0x82, 0x80, 0x8a]),
-    (
-        "a byte behind offsets",
-        &[1, 0x8a, 0x83, 0x81, 0x82, 0x80, 0x8a, 2, 12, 0],
-    ),
-    (
-        "a spare bit of offsets",
-        &[1, 0x8a, 0x83, 0x81, 0x82, 0x80, 0x8a, 2, 28],
-    ),
-    (
-        "a width of 57",
-        &[1, 0x80, 0x81, 0x80, 0x80, 0x80, 0x80, 57],
-    ),
-    (
-        "a length of lines in four bytes",
-        &[2, 0x8a, 0x83, 0x81, 0x82, 2, 0x80, 0x80, 1, 3, 0, 0, 0],
-    ),
-    (
-        "a byte behind the lines",
-        &[
-            2, 0x8a, 0x83, 0x81, 0x82, 2, 0x80, 0x80, 1, 0, 4, 0, 0, 0, 0, 0, 0, 0,
-        ],
-    ),
-    (
-        "a spare bit of a block",
-        &[
-            2, 0x8a, 0x83, 0x81, 0x82, 6, 0x80, 0x80, 1, 3, 0, 0, 0, 0, 0, 0, 0,
-        ],
-    ),
-    (
-        "a greatest past the blocks",
-        &[
-            2, 0x8a, 0x83, 0x82, 0x82, 2, 0x80, 0x80, 1, 3, 0, 0, 0, 0, 0, 0, 0,
-        ],
-    ),
-    (
-        "many rows without a line",
-        &[
-            2, 0x80, 0x81, 0x80, 0x7f, 0x7f, 0x7f, 0x7f, 0x8f, 0, 0, 0, 0, 0, 0, 0, 0,
-        ],
-    ),
-];
-
 // Writes a list under a codec, and compares the estimate and the bytes.
 fn takes(
     rt: &impl Abort,
@@ -201,7 +119,7 @@ fn equals(rt: &impl Abort, reader: &U64Values, vals: &[u64], what: &str) {
     }
 }
 
-// Writes a list under a codec, and reads it.
+// Writes a list under a codec, reads it, and finds two of its rows.
 fn reads_back(
     rt: &impl Abort,
     alloc: Global,
@@ -211,17 +129,10 @@ fn reads_back(
 ) -> Result<(), Fail> {
     let reader = serialize_and_load_u64_values::<u64, &[u64]>(alloc, &vals, &[codec])?;
     equals(rt, &reader, vals, what);
+    let mut hits = Vec::new(alloc);
+    reader.get_row_ids_for_value_range(0..=u64::MAX, 1..3, &mut hits)?;
+    assert_eq!(rt; hits.as_slice(), [1, 2].as_slice(), "{what}");
     Ok(())
-}
-
-// How many values bytes stand for, and the last one.
-fn last_of(alloc: Global, bytes: &[u8]) -> Result<(u32, u64), ColumnarError> {
-    let reader = load_u64_values(alloc, Bytes::copy_from_slice(alloc, bytes)?)?;
-    let count = reader.num_vals();
-    if count == 0 {
-        return Ok((0, 0));
-    }
-    Ok((count, reader.get_val(count - 1)))
 }
 
 #[test]
@@ -246,19 +157,4 @@ fn what_is_written_reads_back(rt: HostRuntime) -> Result<(), Fail> {
         reads_back(&rt, alloc, &vals, codec, "random-looking")?;
     }
     Ok(())
-}
-
-#[test]
-fn bytes_stand_for_one_list_or_none(rt: HostRuntime) {
-    let alloc = rt.alloc();
-    for (what, bytes, count, last) in TAKEN {
-        assert_eq!(rt; last_of(alloc, bytes).ok(), Some((count, last)), "{what}");
-    }
-    for (what, bytes) in REFUSED {
-        assert_eq!(rt;
-            last_of(alloc, bytes).err(),
-            Some(ColumnarError::InvalidData),
-            "{what}"
-        );
-    }
 }

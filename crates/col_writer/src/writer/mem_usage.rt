@@ -4,12 +4,12 @@ ghost use Rattle.std.specs.List.{IsDistinct};
 ghost use Rattle.std.specs.Ordering.{nat_cmp};
 ghost use Rattle.std.specs.Cmp.Lexicographic.{slice_cmp};
 ghost use Rattle.col_model.specs.Sorted.{distinct_items};
-ghost use Rattle.col_writer.specs.Usage.{mem_usage, records_bytes, named_bytes, counted};
+ghost use Rattle.col_writer.specs.Usage.{mem_usage, records_bytes, named_bytes, up_to_64_bits};
 
 use super::ColumnarWriter;
+use super::named_columns::NamedColumns;
 use col_common::Ipv6Addr;
-use col_record::{NumericalColumnWriter, PlainColumnWriter, StrOrBytesColumnWriter};
-use indexmap::IndexMap;
+use col_writer_columns::{NumericalColumnWriter, PlainColumnWriter, StrOrBytesColumnWriter};
 
 // How many bytes a record has: its document, and its value as it is kept.
 const NUM_BYTES_NUMBER: u64 = 12;
@@ -42,7 +42,7 @@ trait RecordBytes {
     ghost bytes: { Self → ℕ };
 
     fn num_bytes(&self) -> u64
-        ensures { result ≡ counted (bytes self.now) };
+        ensures { result ≡ up_to_64_bits (bytes self.now) };
 }
 
 impl RecordBytes for NumericalColumnWriter {
@@ -87,12 +87,12 @@ impl RecordBytes for PlainColumnWriter<u64> {
 }
 
 // How many bytes the names, the records and the texts of some columns have.
-fn columns_bytes<C: RecordBytes>(columns: &IndexMap<String, C>) -> u64
-    ensures bytes { result ≡ counted (named_bytes C.bytes columns.now.entries) }
-    ensures differ { IsDistinct bytes_eq (map (λ p. string_bytes p.0) columns.now.entries) }
+fn columns_bytes<C: RecordBytes>(columns: &NamedColumns<C>) -> u64
+    ensures bytes { result ≡ up_to_64_bits (named_bytes C.bytes columns.now.columns.entries) }
+    ensures differ { IsDistinct bytes_eq (map (λ p. string_bytes p.0) columns.now.columns.entries) }
 {
     let mut bytes: u64 = 0;
-    for (name, column) in columns {
+    for (name, column) in &columns.columns {
         bytes = bytes
             .saturating_add(name.len() as u64)
             .saturating_add(column.num_bytes());

@@ -5,31 +5,6 @@ ghost use Rattle.col_writer.specs.Places.{HasName, IsPlace};
 
 use indexmap::IndexMap;
 
-// The places at which columns were found last.
-#[derive(Clone, Copy)]
-pub(super) struct LastPlaces {
-    pub(super) numerical: usize,
-    pub(super) bytes: usize,
-    pub(super) strs: usize,
-    pub(super) bools: usize,
-    pub(super) ip_addrs: usize,
-    pub(super) datetimes: usize,
-}
-
-impl LastPlaces {
-    // Before a column was found.
-    pub(super) fn new() -> LastPlaces {
-        LastPlaces {
-            numerical: 0,
-            bytes: 0,
-            strs: 0,
-            bools: 0,
-            ip_addrs: 0,
-            datetimes: 0,
-        }
-    }
-}
-
 // The place of a name: the one behind the last that was found, the first, the last one once more,
 // or else that by its hash.
 #[inline]

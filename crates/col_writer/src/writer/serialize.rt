@@ -1,22 +1,24 @@
 //! The file of what was recorded.
 ghost use Rattle.std.specs.Prelude.{◌≡◌, ◌++◌, map, bytes_eq, string_bytes, option_map, IfOk, OnOk};
 ghost use Rattle.std.specs.List.{IsDistinct};
+ghost use Rattle.col_model.specs.Category.{Category};
 ghost use Rattle.col_model.specs.Category as categories;
 ghost use Rattle.col_model.specs.ColumnType as types;
-ghost use Rattle.col_model.specs.Written.{written};
+ghost use Rattle.col_model.specs.Written.{Entry, written};
 ghost use Rattle.col_types.specs.Cells.{bool_cell, unsigned_cell};
-ghost use Rattle.col_record.specs.Columns.{text_entry, plain_entry};
-ghost use Rattle.col_record.specs.Values.{time_cell};
-ghost use Rattle.col_entry.specs.Tables.{named_entry, WritesTable};
+ghost use Rattle.col_writer_columns.specs.Columns.{text_entry, plain_entry};
+ghost use Rattle.col_writer_columns.specs.Values.{time_cell};
+ghost use Rattle.col_writer_file.specs.EntryColumns.{category_in, entry_in};
+ghost use Rattle.col_writer_file.specs.Tables.{named_entry, WritesTable};
 ghost use Rattle.col_writer.specs.Columns.{each_entry};
 ghost use Rattle.col_writer.specs.Contents.{under};
 ghost use Rattle.col_writer.specs.Listed.{IsListed};
 
 use super::ColumnarWriter;
+use super::named_columns::NamedColumns;
 use col_common::{ColumnarError, Ipv6Addr, RowId, Sink};
-use col_entry::{EntryColumn, NamedColumn, serialize_table};
-use col_record::{NumericalColumnWriter, PlainColumnWriter, StrOrBytesColumnWriter};
-use indexmap::IndexMap;
+use col_writer_columns::{NumericalColumnWriter, PlainColumnWriter, StrOrBytesColumnWriter};
+use col_writer_file::{EntryColumn, NamedColumn, serialize_table};
 use std::alloc::AllocError;
 
 impl ColumnarWriter {
@@ -58,123 +60,119 @@ impl ColumnarWriter {
         names_differ(&self.ip_addrs);
         names_differ(&self.datetimes);
         let mut columns = Vec::new(self.alloc);
-        list_numerical(&mut columns, &self.numerical)?;
-        list_bytes(&mut columns, &self.bytes)?;
-        list_strs(&mut columns, &self.strs)?;
-        list_bools(&mut columns, &self.bools)?;
-        list_ip_addrs(&mut columns, &self.ip_addrs)?;
-        list_datetimes(&mut columns, &self.datetimes)?;
+        list::<_, Numbers>(&mut columns, &self.numerical)?;
+        list::<_, Bytes>(&mut columns, &self.bytes)?;
+        list::<_, Strs>(&mut columns, &self.strs)?;
+        list::<_, Bools>(&mut columns, &self.bools)?;
+        list::<_, IpAddrs>(&mut columns, &self.ip_addrs)?;
+        list::<_, DateTimes>(&mut columns, &self.datetimes)?;
         Ok(columns)
     }
 }
 
 // That the names of columns differ.
-fn names_differ<C>(columns: &IndexMap<String, C>)
-    ensures { IsDistinct bytes_eq (map (λ p. string_bytes p.0) columns.now.entries) }
+fn names_differ<C>(columns: &NamedColumns<C>)
+    ensures { IsDistinct bytes_eq (map (λ p. string_bytes p.0) columns.now.columns.entries) }
 {
-    let _ = columns.into_iter();
+    let _ = (&columns.columns).into_iter();
 }
 
-// Lists the columns of numbers.
-fn list_numerical<'a>(
-    found: &mut Vec<NamedColumn<'a>>,
-    columns: &'a IndexMap<String, NumericalColumnWriter>,
-) -> Result<(), AllocError>
-    ensures { OnOk result (map named_entry found.new.items ≡ map named_entry found.old.items
-        ++ under categories.numerical columns.now.entries) }
-{
-    for (name, column) in columns {
-        found.push(NamedColumn {
-            name: name.as_str(),
-            column: EntryColumn::Numerical(column),
-        })?;
+// How the columns of a category are listed.
+pub(super) trait Listing<C> {
+    ghost category: { Category };
+
+    // What a column's entry is.
+    ghost entry: { C → Entry };
+
+    fn listed(column: &C) -> EntryColumn<'_>
+        ensures category { category_in result ≡ category }
+        ensures entry { entry_in result ≡ entry column.now };
+}
+
+pub(super) struct Numbers;
+
+impl Listing<NumericalColumnWriter> for Numbers {
+    ghost category = { categories.numerical };
+
+    ghost entry = { λ e. e };
+
+    fn listed(column: &NumericalColumnWriter) -> EntryColumn<'_> {
+        EntryColumn::Numerical(column)
     }
-    Ok(())
 }
 
-// Lists the columns of bytes.
-fn list_bytes<'a>(
-    found: &mut Vec<NamedColumn<'a>>,
-    columns: &'a IndexMap<String, StrOrBytesColumnWriter>,
-) -> Result<(), AllocError>
-    ensures { OnOk result (map named_entry found.new.items ≡ map named_entry found.old.items
-        ++ under categories.bytes (each_entry (text_entry types.bytes) columns.now.entries)) }
-{
-    for (name, column) in columns {
-        found.push(NamedColumn {
-            name: name.as_str(),
-            column: EntryColumn::Bytes(column),
-        })?;
+pub(super) struct Bytes;
+
+impl Listing<StrOrBytesColumnWriter> for Bytes {
+    ghost category = { categories.bytes };
+
+    ghost entry = { text_entry types.bytes };
+
+    fn listed(column: &StrOrBytesColumnWriter) -> EntryColumn<'_> {
+        EntryColumn::Bytes(column)
     }
-    Ok(())
 }
 
-// Lists the columns of text.
-fn list_strs<'a>(
-    found: &mut Vec<NamedColumn<'a>>,
-    columns: &'a IndexMap<String, StrOrBytesColumnWriter>,
-) -> Result<(), AllocError>
-    ensures { OnOk result (map named_entry found.new.items ≡ map named_entry found.old.items
-        ++ under categories.str (each_entry (text_entry types.str) columns.now.entries)) }
-{
-    for (name, column) in columns {
-        found.push(NamedColumn {
-            name: name.as_str(),
-            column: EntryColumn::Str(column),
-        })?;
+pub(super) struct Strs;
+
+impl Listing<StrOrBytesColumnWriter> for Strs {
+    ghost category = { categories.str };
+
+    ghost entry = { text_entry types.str };
+
+    fn listed(column: &StrOrBytesColumnWriter) -> EntryColumn<'_> {
+        EntryColumn::Str(column)
     }
-    Ok(())
 }
 
-// Lists the columns of bools.
-fn list_bools<'a>(
-    found: &mut Vec<NamedColumn<'a>>,
-    columns: &'a IndexMap<String, PlainColumnWriter<bool>>,
-) -> Result<(), AllocError>
-    ensures { OnOk result (map named_entry found.new.items ≡ map named_entry found.old.items
-        ++ under categories.bool
-        (each_entry (plain_entry types.bool bool_cell) columns.now.entries)) }
-{
-    for (name, column) in columns {
-        found.push(NamedColumn {
-            name: name.as_str(),
-            column: EntryColumn::Bool(column),
-        })?;
+pub(super) struct Bools;
+
+impl Listing<PlainColumnWriter<bool>> for Bools {
+    ghost category = { categories.bool };
+
+    ghost entry = { plain_entry types.bool bool_cell };
+
+    fn listed(column: &PlainColumnWriter<bool>) -> EntryColumn<'_> {
+        EntryColumn::Bool(column)
     }
-    Ok(())
 }
 
-// Lists the columns of addresses.
-fn list_ip_addrs<'a>(
-    found: &mut Vec<NamedColumn<'a>>,
-    columns: &'a IndexMap<String, PlainColumnWriter<Ipv6Addr>>,
-) -> Result<(), AllocError>
-    ensures { OnOk result (map named_entry found.new.items ≡ map named_entry found.old.items
-        ++ under categories.ip
-        (each_entry (plain_entry types.ip unsigned_cell) columns.now.entries)) }
-{
-    for (name, column) in columns {
-        found.push(NamedColumn {
-            name: name.as_str(),
-            column: EntryColumn::IpAddr(column),
-        })?;
+pub(super) struct IpAddrs;
+
+impl Listing<PlainColumnWriter<Ipv6Addr>> for IpAddrs {
+    ghost category = { categories.ip };
+
+    ghost entry = { plain_entry types.ip unsigned_cell };
+
+    fn listed(column: &PlainColumnWriter<Ipv6Addr>) -> EntryColumn<'_> {
+        EntryColumn::IpAddr(column)
     }
-    Ok(())
 }
 
-// Lists the columns of points in time.
-fn list_datetimes<'a>(
+pub(super) struct DateTimes;
+
+impl Listing<PlainColumnWriter<u64>> for DateTimes {
+    ghost category = { categories.datetime };
+
+    ghost entry = { plain_entry types.datetime time_cell };
+
+    fn listed(column: &PlainColumnWriter<u64>) -> EntryColumn<'_> {
+        EntryColumn::DateTime(column)
+    }
+}
+
+// Lists the columns of a category.
+fn list<'a, C, L: Listing<C>>(
     found: &mut Vec<NamedColumn<'a>>,
-    columns: &'a IndexMap<String, PlainColumnWriter<u64>>,
+    columns: &'a NamedColumns<C>,
 ) -> Result<(), AllocError>
     ensures { OnOk result (map named_entry found.new.items ≡ map named_entry found.old.items
-        ++ under categories.datetime
-        (each_entry (plain_entry types.datetime time_cell) columns.now.entries)) }
+        ++ under L.category (each_entry L.entry columns.now.columns.entries)) }
 {
-    for (name, column) in columns {
+    for (name, column) in &columns.columns {
         found.push(NamedColumn {
             name: name.as_str(),
-            column: EntryColumn::DateTime(column),
+            column: L::listed(column),
         })?;
     }
     Ok(())

@@ -5,15 +5,15 @@ ghost use Rattle.col_model.specs.Category as categories;
 ghost use Rattle.col_model.specs.ColumnType as types;
 ghost use Rattle.col_model.specs.Soundness.{IsSoundContent};
 ghost use Rattle.col_types.specs.Cells.{bool_cell, unsigned_cell};
-ghost use Rattle.col_record.specs.Columns.{plain_entry};
-ghost use Rattle.col_record.specs.SoundEntries.{IsSoundIn, AreSoundTexts};
-ghost use Rattle.col_record.specs.Values.{time_cell};
+ghost use Rattle.col_writer_columns.specs.Columns.{plain_entry};
+ghost use Rattle.col_writer_columns.specs.SoundEntries.{IsSoundIn, AreSoundTexts};
+ghost use Rattle.col_writer_columns.specs.Values.{time_cell};
 ghost use Rattle.col_writer.specs.SoundColumns.{AreNamed};
 
 use super::ColumnarWriter;
+use super::named_columns::NamedColumns;
 use col_common::Ipv6Addr;
-use col_record::{NumericalColumnWriter, PlainColumnWriter, StrOrBytesColumnWriter};
-use indexmap::IndexMap;
+use col_writer_columns::{NumericalColumnWriter, PlainColumnWriter, StrOrBytesColumnWriter};
 
 impl ColumnarWriter {
     /// That the content is sound, whatever was recorded: what `written_tables_are_sound` asks of
@@ -35,14 +35,14 @@ trait SoundColumn {
     // What is said of it.
     ghost is_sound: { Self → Type 0 };
 
-    fn tell(&self)
+    fn entry_is_sound(&self)
         ensures { is_sound self.now };
 }
 
 impl SoundColumn for NumericalColumnWriter {
     ghost is_sound = { λ e. IsSoundIn categories.numerical e };
 
-    fn tell(&self) {
+    fn entry_is_sound(&self) {
         self.entry_is_sound();
     }
 }
@@ -50,7 +50,7 @@ impl SoundColumn for NumericalColumnWriter {
 impl SoundColumn for StrOrBytesColumnWriter {
     ghost is_sound = { λ w. AreSoundTexts w };
 
-    fn tell(&self) {
+    fn entry_is_sound(&self) {
         self.entry_is_sound();
     }
 }
@@ -58,7 +58,7 @@ impl SoundColumn for StrOrBytesColumnWriter {
 impl SoundColumn for PlainColumnWriter<bool> {
     ghost is_sound = { λ w. IsSoundIn categories.bool (plain_entry types.bool bool_cell w) };
 
-    fn tell(&self) {
+    fn entry_is_sound(&self) {
         self.entry_is_sound();
     }
 }
@@ -66,7 +66,7 @@ impl SoundColumn for PlainColumnWriter<bool> {
 impl SoundColumn for PlainColumnWriter<Ipv6Addr> {
     ghost is_sound = { λ w. IsSoundIn categories.ip (plain_entry types.ip unsigned_cell w) };
 
-    fn tell(&self) {
+    fn entry_is_sound(&self) {
         self.entry_is_sound();
     }
 }
@@ -75,18 +75,18 @@ impl SoundColumn for PlainColumnWriter<u64> {
     ghost is_sound = { λ w. IsSoundIn categories.datetime
         (plain_entry types.datetime time_cell w) };
 
-    fn tell(&self) {
+    fn entry_is_sound(&self) {
         self.entry_is_sound();
     }
 }
 
 // The names are UTF-8, and the columns sound.
-fn columns_are_sound<C: SoundColumn>(columns: &IndexMap<String, C>)
-    ensures { AreNamed C.is_sound columns.now.entries }
+fn columns_are_sound<C: SoundColumn>(columns: &NamedColumns<C>)
+    ensures { AreNamed C.is_sound columns.now.columns.entries }
 {
-    for (name, column) in columns {
+    for (name, column) in &columns.columns {
         name_is_utf8(name);
-        column.tell();
+        column.entry_is_sound();
     }
 }
 

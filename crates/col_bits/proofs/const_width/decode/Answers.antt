@@ -8,7 +8,9 @@ loop-k-preserved g c =
     let i = c.loop-k.invariant in
     record {
       long = length-set c.loop-k.block (8 * c.loop-g.g + c.loop-k.k) c.in_group.result ∙ i.long;
-      so_far = decoded_more c.args.data.now g.row.W c.args.group c.loop-g.g c.loop-k.k _ c.in_group.result c.loop-k.block (omega arith) (omega arith) c.in_group.ensures.value i.so_far;
+      so_far =
+          decoded_more c.args.data.now g.row.W c.args.group c.loop-g.g c.loop-k.k _ c.in_group.result c.loop-k.block
+          (omega arith) (omega arith) c.in_group.ensures.value i.so_far;
     }
 
 pub returns : goal.returns

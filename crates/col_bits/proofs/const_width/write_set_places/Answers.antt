@@ -29,11 +29,14 @@ loop-left-preserved c =
 pub returns-clause-within : goal.returns-clause-within
 returns-clause-within c =
     let l = c.loop-left in
-    let none : length (set_places 64 c.args.base l.left) ≡ 0 = ap (λ n. length (set_places 64 c.args.base n)) c.loop-left-test.false ∙ ap length (set_places-none 64 c.args.base) in
+    let none : length (set_places 64 c.args.base l.left) ≡ 0 =
+    ap (λ n. length (set_places 64 c.args.base n)) c.loop-left-test.false
+    ∙ ap length (set_places-none 64 c.args.base) in
     omega (arith, none, l.invariant.count)
 
 pub returns-clause-front : goal.returns-clause-front
 returns-clause-front c =
     let l = c.loop-left in
-    let none : set_places 64 c.args.base l.left ≡ [] = ap (set_places 64 c.args.base) c.loop-left-test.false ∙ set_places-none 64 c.args.base in
+    let none : set_places 64 c.args.base l.left ≡ [] =
+    ap (set_places 64 c.args.base) c.loop-left-test.false ∙ set_places-none 64 c.args.base in
     sym (append-nil (take l.«end» l.output)) ∙ (ap (λ xs. take l.«end» l.output ++ xs) (sym none) ∙ l.invariant.all)

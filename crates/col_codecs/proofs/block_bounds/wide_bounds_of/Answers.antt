@@ -8,9 +8,16 @@ loop-value-preserved c =
     let xs = c.args.vals.now in
     let i = c.loop-value.value-index in
     record {
-      least = c.min-least.ensures ∙ ap (λ m. min m (get_or xs i 0)) c.loop-value.invariant.least ∙ sym (fold_more min (get_or xs 0 0) xs i 0 c.loop-value-test.true);
-      greatest = c.max-greatest.ensures ∙ ap (λ m. max m (get_or xs i 0)) c.loop-value.invariant.greatest ∙ sym (fold_more max (get_or xs 0 0) xs i 0 c.loop-value-test.true);
+      least =
+          c.min-least.ensures ∙ ap (λ m. min m (get_or xs i 0)) c.loop-value.invariant.least
+          ∙ sym (fold_more min (get_or xs 0 0) xs i 0 c.loop-value-test.true);
+      greatest =
+          c.max-greatest.ensures ∙ ap (λ m. max m (get_or xs i 0)) c.loop-value.invariant.greatest
+          ∙ sym (fold_more max (get_or xs 0 0) xs i 0 c.loop-value-test.true);
     }
 
 pub returns : goal.returns
-returns c = bounds_whole (record { least = c.loop-value.least; greatest = c.loop-value.greatest }) c.args.vals.now c.loop-value.value-index c.requires c.loop-value-test.false c.loop-value.invariant.least c.loop-value.invariant.greatest
+returns c =
+    bounds_whole (record { least = c.loop-value.least; greatest = c.loop-value.greatest }) c.args.vals.now
+    c.loop-value.value-index c.requires c.loop-value-test.false c.loop-value.invariant.least
+    c.loop-value.invariant.greatest

@@ -12,7 +12,9 @@ loop-at-preserved c =
     let b = c.is_within.result in
     let place : l.at ≡ a.start + l.at - a.start = omega arith in
     record {
-      found = ids_by-more (λ id. get_or a.vals.now (id - a.start) 0) a.low a.high a.start l.at (l.at + 1) (a.start + l.at) l.found l.block b (omega arith) (omega arith)
+      found =
+          ids_by-more (λ id. get_or a.vals.now (id - a.start) 0) a.low a.high a.start l.at (l.at + 1)
+          (a.start + l.at) l.found l.block b (omega arith) (omega arith)
           (c.is_within.ensures ∙ ap (λ k. is_in_range a.low a.high (get_or a.vals.now k 0)) place) (omega arith) l.invariant.found;
       below = kept_within l.found l.at b l.invariant.below;
       room = grind (arith, common_steps);

@@ -20,5 +20,7 @@ loop-from-preserved g c =
       collected = c.read_block-more.ensures.collected ∙ ap (λ n. collected_of (map f (range_with_len 0 (l.from + n)))) long;
       placed = λ h. omega (arith, placed, h, ap length grown, length-append l.bounds.items (found ∷ []));
       enclosed = subst (λ (bs : List Bounds). Enclose bs f (l.from + c.min-len.result)) (sym grown)
-          (enclose_more l.bounds.items found f l.from c.min-len.result placed (omega arith) l.invariant.enclosed (subst (λ n. AreBounds found (map f (range_with_len l.from n))) long c.read_block-more.ensures.bounds));
+          (enclose_more l.bounds.items found f l.from c.min-len.result placed (omega arith) l.invariant.enclosed
+          (subst (λ n. AreBounds found (map f (range_with_len l.from n))) long
+          c.read_block-more.ensures.bounds));
     }

@@ -18,7 +18,9 @@ loop-value-preserved c =
     let i = c.loop-value.value-index in
     let below : i < length values = c.loop-value-test.true in
     rw (take_more values i 0 below)
-    (IsPacking-push c.args.output.now.items c.args.num_bits (take i values) c.loop-value.packer c.write.new.self c.loop-value.output.items c.write.new.output.items (get_or values i 0) c.loop-value.invariant c.in_ok-write.ensures.bits c.in_ok-write.ensures.count c.in_ok-write.ensures.bytes)
+    (IsPacking-push c.args.output.now.items c.args.num_bits (take i values) c.loop-value.packer c.write.new.self
+    c.loop-value.output.items c.write.new.output.items (get_or values i 0) c.loop-value.invariant
+    c.in_ok-write.ensures.bits c.in_ok-write.ensures.count c.in_ok-write.ensures.bytes)
 
 pub returns : goal.returns
 returns c =
@@ -27,4 +29,6 @@ returns c =
     let before = c.args.output.now.items in
     let whole : take i values ≡ values = take_all i values c.loop-value-test.false in
     subst (λ (items : List ℕ). OnOk c.close.result (c.close.new.output.items ≡ before ++ packed_bytes c.args.num_bits items)) whole
-    (on_ok_three c.close.result (IsPacking-close before c.args.num_bits (take i values) c.loop-value.packer c.loop-value.output.items c.close.new.output.items c.loop-value.invariant) c.close.ensures.bits c.close.ensures.count c.close.ensures.bytes)
+    (on_ok_three c.close.result (IsPacking-close before c.args.num_bits (take i values) c.loop-value.packer
+    c.loop-value.output.items c.close.new.output.items c.loop-value.invariant) c.close.ensures.bits
+    c.close.ensures.count c.close.ensures.bytes)

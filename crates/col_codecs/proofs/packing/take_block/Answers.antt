@@ -12,7 +12,11 @@ loop-taken-preserved g c = record {
 }
 
 pub returns-after-loop-taken-clause-count : goal.returns-after-loop-taken-clause-count
-returns-after-loop-taken-clause-count g c = omega (arith, c.loop-taken.auto.block, IsTaken-full _ _ _ _ c.loop-taken.invariant.taken c.loop-taken-test.false)
+returns-after-loop-taken-clause-count g c =
+    omega
+    (arith, c.loop-taken.auto.block, IsTaken-full _ _ _ _ c.loop-taken.invariant.taken c.loop-taken-test.false)
 
 pub returns-in_default-clause-count : goal.returns-in_default-clause-count
-returns-in_default-clause-count g c = omega (arith, c.loop-taken.auto.block, IsTaken-end _ _ _ _ c.loop-taken.invariant.taken c.in_default.ensures.value.0)
+returns-in_default-clause-count g c =
+    omega
+    (arith, c.loop-taken.auto.block, IsTaken-end _ _ _ _ c.loop-taken.invariant.taken c.in_default.ensures.value.0)

@@ -17,7 +17,8 @@ pub select_batch_in_place-requires-clause-inside : goal.select_batch_in_place-re
 select_batch_in_place-requires-clause-inside g c =
     let rows = c.docid_range_to_rowids-row_ids in
     rw c.in_ok-get_row_ids_between.ensures
-    (found_inside (is_between g.T.PartialOrd.partial_cmp _ _) (g.V.ColumnValues.values c.args.values.now) rows.result.start rows.result.end (shape_of c.args.index.now) c.requires)
+    (found_inside (is_between g.T.PartialOrd.partial_cmp _ _) (g.V.ColumnValues.values c.args.values.now)
+    rows.result.start rows.result.end (shape_of c.args.index.now) c.requires)
 
 pub select_batch_in_place-requires-clause-start : goal.select_batch_in_place-requires-clause-start
 select_batch_in_place-requires-clause-start g c =
@@ -34,5 +35,7 @@ returns g c =
     let docs = c.args.docs in
     c.select_batch_in_place.ensures
     ∙ (let e : rows_in s c.get_row_ids_between.new.hits.items ≡ docs_passing test (rows_by s xs) docs.start docs.«end» =
-    rw (c.in_ok-get_row_ids_between.ensures, rows.ensures.start, rows.ensures.«end») (lookup test s xs docs.start docs.«end» c.requires) in e)
-    ∙ (λ i. docs_passing (is_between g.T.PartialOrd.partial_cmp (c.into_inner-low.ensures.start i) (c.into_inner-low.ensures.«end» i)) (rows_by s xs) docs.start docs.«end»)
+    rw (c.in_ok-get_row_ids_between.ensures, rows.ensures.start, rows.ensures.«end»)
+    (lookup test s xs docs.start docs.«end» c.requires) in e)
+    ∙ (λ i. docs_passing (is_between g.T.PartialOrd.partial_cmp (c.into_inner-low.ensures.start i)
+    (c.into_inner-low.ensures.«end» i)) (rows_by s xs) docs.start docs.«end»)

@@ -30,8 +30,10 @@ returns-in_err-open_u128_mapped-clause-ok c =
     let v = version_number c.args.format_version in
     let after = c.from_residual-in_err-open_u128_mapped in
     let p = err_from_is_err_and after.result after.ensures.1 in
-    rw (p.1, p.2) (refuses-as c.in_err-open_u128_mapped.field-0.0 (option_map (map (λ n. n)) (values128 c.in_ok-index.values)) (column c.args.bytes types.ip v c.args.num_rows)
-    (λ e. column-unread values128 types.ip unsigned_cell (λ n. n) (λ _. true) addresses_stored c.args.bytes v c.args.num_rows c.in_ok-index.index c.in_ok-index.values c.in_ok-index.ensures
+    rw (p.1, p.2) (refuses-as c.in_err-open_u128_mapped.field-0.0
+    (option_map (map (λ n. n)) (values128 c.in_ok-index.values)) (column c.args.bytes types.ip v c.args.num_rows)
+    (λ e. column-unread values128 types.ip unsigned_cell (λ n. n) (λ _. true) addresses_stored c.args.bytes v
+    c.args.num_rows c.in_ok-index.index c.in_ok-index.values c.in_ok-index.ensures
     (ap (option_map (map (λ n. n))) (images-all (values128 c.in_ok-index.values)) ∙ e))
     c.in_err-open_u128_mapped.ensures.ok)
 
@@ -40,8 +42,10 @@ returns-clause-ok c =
     let v = version_number c.args.format_version in
     let values = Read c.in_ok-open_u128_mapped.field-0 in
     decodes-as (λ column. content_seen [] unsigned_cell column.shape (ip_values_of column.values)) c.column_of_values.result
-    (indexed_by c.in_ok-index.index v c.args.num_rows (length (ip_values_of values)) values) (column c.args.bytes types.ip v c.args.num_rows)
-    (column-read ip_values_of values values128 types.ip unsigned_cell (λ n. n) (λ _. true) addresses_stored c.args.bytes v c.args.num_rows c.in_ok-index.index c.in_ok-index.values c.in_ok-index.ensures
+    (indexed_by c.in_ok-index.index v c.args.num_rows (length (ip_values_of values)) values)
+    (column c.args.bytes types.ip v c.args.num_rows)
+    (column-read ip_values_of values values128 types.ip unsigned_cell (λ n. n) (λ _. true) addresses_stored
+    c.args.bytes v c.args.num_rows c.in_ok-index.index c.in_ok-index.values c.in_ok-index.ensures
     (ap (option_map (map (λ n. n))) (images-all (values128 c.in_ok-index.values)) ∙ c.in_ok-open_u128_mapped.ensures.ok))
     c.column_of_values.ensures
 
@@ -50,5 +54,7 @@ returns-clause-bounds c =
     let list = c.in_ok-open_u128_mapped.field-0 in
     let opened = c.in_ok-open_u128_mapped.ensures in
     let values = Read list in
-    column-keeps HasExactBounds c.column_of_values.result c.in_ok-index.index (version_number c.args.format_version) c.args.num_rows (length (ip_values_of values)) values c.column_of_values.ensures
-    (bounds-read _ (λ n d. sym d.1 ∙ d.2) (values128 c.in_ok-index.values) list.values list.low list.high opened.ok opened.least opened.greatest)
+    column-keeps HasExactBounds c.column_of_values.result c.in_ok-index.index (version_number c.args.format_version)
+    c.args.num_rows (length (ip_values_of values)) values c.column_of_values.ensures
+    (bounds-read _ (λ n d. sym d.1 ∙ d.2) (values128 c.in_ok-index.values) list.values list.low list.high opened.ok
+    opened.least opened.greatest)

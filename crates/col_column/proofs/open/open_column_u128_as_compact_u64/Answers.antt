@@ -18,7 +18,8 @@ pub returns-in_err-index-clause-ok : goal.returns-in_err-index-clause-ok
 returns-in_err-index-clause-ok c =
     let v = version_number c.args.format_version in
     let p = err_from_is_err_and c.from_residual.result c.from_residual.ensures.1 in
-    rw (p.1, p.2) (refuses-as c.in_err-index.field-0.0 (parts_by_first w64 c.args.bytes) (number_rows c.args.bytes types.ip v c.args.num_rows)
+    rw (p.1, p.2) (refuses-as c.in_err-index.field-0.0 (parts_by_first w64 c.args.bytes)
+    (number_rows c.args.bytes types.ip v c.args.num_rows)
     (rows-unparted types.ip c.args.bytes v c.args.num_rows)
     c.in_err-index.ensures)
 
@@ -26,8 +27,10 @@ pub returns-in_err-values-clause-ok : goal.returns-in_err-values-clause-ok
 returns-in_err-values-clause-ok c =
     let v = version_number c.args.format_version in
     let p = err_from_is_err_and c.from_residual-in_err-values.result c.from_residual-in_err-values.ensures.1 in
-    rw (p.1, p.2) (refuses-as c.in_err-values.field-0.0 (values128 c.in_ok-index.values) (number_rows c.args.bytes types.ip v c.args.num_rows)
-    (rows-unread types.ip values128 addresses-all c.args.bytes v c.args.num_rows c.in_ok-index.index c.in_ok-index.values c.in_ok-index.ensures)
+    rw (p.1, p.2) (refuses-as c.in_err-values.field-0.0 (values128 c.in_ok-index.values)
+    (number_rows c.args.bytes types.ip v c.args.num_rows)
+    (rows-unread types.ip values128 addresses-all c.args.bytes v c.args.num_rows c.in_ok-index.index
+    c.in_ok-index.values c.in_ok-index.ensures)
     c.in_err-values.ensures.numbers)
 
 pub returns-clause-ok : goal.returns-clause-ok
@@ -36,12 +39,15 @@ returns-clause-ok c =
     let values = c.in_ok-values.values in
     decodes-as (λ column. counted_rows column.shape (numbers_of column.values)) c.column_of_values.result
     (indexed_by c.in_ok-index.index v c.args.num_rows (length values.codes) values) (number_rows c.args.bytes types.ip v c.args.num_rows)
-    (rows-read numbers_of values (length values.codes) (length-map values.codes (coded_number values.ranges)) types.ip values128 addresses-all
+    (rows-read numbers_of values (length values.codes) (length-map values.codes (coded_number values.ranges)) types.ip
+    values128 addresses-all
     c.args.bytes v c.args.num_rows c.in_ok-index.index c.in_ok-index.values c.in_ok-index.ensures c.in_ok-values.ensures.numbers)
     c.column_of_values.ensures
 
 pub returns-clause-codes : goal.returns-clause-codes
 returns-clause-codes c =
     let values = c.in_ok-values.values in
-    column-keeps (λ d. codes_behind c.args.bytes ≡ Some d) c.column_of_values.result c.in_ok-index.index (version_number c.args.format_version) c.args.num_rows (length values.codes) values c.column_of_values.ensures
+    column-keeps (λ d. codes_behind c.args.bytes ≡ Some d) c.column_of_values.result c.in_ok-index.index
+    (version_number c.args.format_version) c.args.num_rows (length values.codes) values
+    c.column_of_values.ensures
     (ap (λ o. o >>= λ p. headed_list p.1) c.in_ok-index.ensures ∙ c.in_ok-values.ensures.codes)

@@ -29,8 +29,11 @@ returns-in_err-values g c =
     let t = g.T.HasAssociatedColumnType in
     let m = g.T.MonotonicallyMappableToU64 in
     let p = err_from_is_err_and c.from_residual-in_err-values.result c.from_residual-in_err-values.ensures.1 in
-    rw (p.1, p.2) (refuses-as c.in_err-values.field-0.0 (option_map (map m.value) (images64 m.is_code c.in_ok-index.values)) (column c.args.bytes t.kind v c.args.num_rows)
-    (column-unread values64 t.kind t.cell m.value m.is_code g.met.T.StoredAsU64.stored c.args.bytes v c.args.num_rows c.in_ok-index.index c.in_ok-index.values c.in_ok-index.ensures)
+    rw (p.1, p.2) (refuses-as c.in_err-values.field-0.0
+    (option_map (map m.value) (images64 m.is_code c.in_ok-index.values))
+    (column c.args.bytes t.kind v c.args.num_rows)
+    (column-unread values64 t.kind t.cell m.value m.is_code g.met.T.StoredAsU64.stored c.args.bytes v
+    c.args.num_rows c.in_ok-index.index c.in_ok-index.values c.in_ok-index.ensures)
     c.in_err-values.ensures.ok)
 
 pub returns : goal.returns
@@ -41,5 +44,7 @@ returns g c =
     let values = c.in_ok-values.values in
     decodes-as (λ column. content_seen [] t.cell column.shape (num_values_of column.values)) c.column_of_values.result
     (indexed_by c.in_ok-index.index v c.args.num_rows (length (num_values_of values)) values) (column c.args.bytes t.kind v c.args.num_rows)
-    (column-read num_values_of values values64 t.kind t.cell m.value m.is_code g.met.T.StoredAsU64.stored c.args.bytes v c.args.num_rows c.in_ok-index.index c.in_ok-index.values c.in_ok-index.ensures c.in_ok-values.ensures.ok)
+    (column-read num_values_of values values64 t.kind t.cell m.value m.is_code g.met.T.StoredAsU64.stored
+    c.args.bytes v c.args.num_rows c.in_ok-index.index c.in_ok-index.values c.in_ok-index.ensures
+    c.in_ok-values.ensures.ok)
     c.column_of_values.ensures

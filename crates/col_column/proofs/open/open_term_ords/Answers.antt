@@ -17,7 +17,8 @@ pub returns-in_err-index : goal.returns-in_err-index
 returns-in_err-index c =
     let v = version_number c.args.format_version in
     let p = err_from_is_err_and c.from_residual.result c.from_residual.ensures.1 in
-    rw (p.1, p.2) (refuses-as c.in_err-index.field-0.0 (parts_by_first w64 c.args.bytes) (number_rows c.args.bytes types.bytes v c.args.num_rows)
+    rw (p.1, p.2) (refuses-as c.in_err-index.field-0.0 (parts_by_first w64 c.args.bytes)
+    (number_rows c.args.bytes types.bytes v c.args.num_rows)
     (rows-unparted types.bytes c.args.bytes v c.args.num_rows)
     c.in_err-index.ensures)
 
@@ -26,8 +27,10 @@ returns-in_err-values c =
     let v = version_number c.args.format_version in
     let b = c.in_ok-index.values in
     let p = err_from_is_err_and c.from_residual-in_err-values.result c.from_residual-in_err-values.ensures.1 in
-    rw (p.1, p.2) (refuses-as c.in_err-values.field-0.0 (option_map (map (λ n. n)) (images64 (λ _. true) b)) (number_rows c.args.bytes types.bytes v c.args.num_rows)
-    (λ e. rows-unread types.bytes values64 ordinals-all c.args.bytes v c.args.num_rows c.in_ok-index.index b c.in_ok-index.ensures (sym (values-all (values64 b)) ∙ e))
+    rw (p.1, p.2) (refuses-as c.in_err-values.field-0.0 (option_map (map (λ n. n)) (images64 (λ _. true) b))
+    (number_rows c.args.bytes types.bytes v c.args.num_rows)
+    (λ e. rows-unread types.bytes values64 ordinals-all c.args.bytes v c.args.num_rows c.in_ok-index.index b
+    c.in_ok-index.ensures (sym (values-all (values64 b)) ∙ e))
     c.in_err-values.ensures.ok)
 
 pub returns : goal.returns
@@ -38,6 +41,7 @@ returns c =
     let count = length (num_values_of values) in
     decodes-as (λ column. counted_rows column.shape (num_values_of column.values)) c.column_of_values.result
     (indexed_by c.in_ok-index.index v c.args.num_rows count values) (number_rows c.args.bytes types.bytes v c.args.num_rows)
-    (rows-read num_values_of values count refl types.bytes values64 ordinals-all c.args.bytes v c.args.num_rows c.in_ok-index.index b c.in_ok-index.ensures
+    (rows-read num_values_of values count refl types.bytes values64 ordinals-all c.args.bytes v c.args.num_rows
+    c.in_ok-index.index b c.in_ok-index.ensures
     (sym (values-all (values64 b)) ∙ c.in_ok-values.ensures.ok))
     c.column_of_values.ensures

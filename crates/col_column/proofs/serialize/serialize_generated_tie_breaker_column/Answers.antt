@@ -7,7 +7,9 @@ use Rattle.col_column.proofs.serialize.serialize_generated_tie_breaker_column.Go
 pub serialize_numbers-requires-clause-few : goal.serialize_numbers-requires-clause-few
 serialize_numbers-requires-clause-few g c =
     let same : to_z w64 (of_z w64 c.args.start) ≡ c.args.start = omega (arith, ints) in
-    let within = ties-within c.args.start c.args.num_docs (subst (λ z. is_past_ties c.args.num_docs (Some z) ≡ false) same (sym c.is_past_ties.ensures ∙ c.if-is_past_ties.false)) in
+    let within = ties-within c.args.start c.args.num_docs (subst
+    (λ z. is_past_ties c.args.num_docs (Some z) ≡ false) same
+    (sym c.is_past_ties.ensures ∙ c.if-is_past_ties.false)) in
     ties-few c.args.start _ _ c.args.num_docs same (omega (arith, ints)) (omega arith)
 
 pub returns-clause-again : goal.returns-clause-again

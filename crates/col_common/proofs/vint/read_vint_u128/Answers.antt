@@ -18,17 +18,23 @@ loop-index-init c = let known = c.in_ok-end.ensures in
 
 pub returns-in_err-checked_mul : goal.returns-in_err-checked_mul
 returns-in_err-checked_mul c = let known = c.in_ok-end.ensures in
-    rw c.from_residual-in_err-checked_mul.ensures (sym (read-past c.args.bytes.now c.in_ok-end.end (c.loop-index.index - 1) c.loop-index.index c.loop-index.value (omega arith) known.found known.before (omega (arith, c.in_err-checked_mul.ensures)) c.loop-index.invariant.so_far))
+    rw c.from_residual-in_err-checked_mul.ensures (sym (read-past c.args.bytes.now c.in_ok-end.end
+    (c.loop-index.index - 1) c.loop-index.index c.loop-index.value (omega arith) known.found known.before
+    (omega (arith, c.in_err-checked_mul.ensures)) c.loop-index.invariant.so_far))
 
 pub returns-in_err-value : goal.returns-in_err-value
 returns-in_err-value c = let known = c.in_ok-end.ensures in
-    rw c.from_residual-in_err-value.ensures (sym (read-past c.args.bytes.now c.in_ok-end.end (c.loop-index.index - 1) c.loop-index.index c.loop-index.value (omega arith) known.found known.before (omega (arith, c.in_err-value.ensures, c.in_ok-checked_mul.ensures)) c.loop-index.invariant.so_far))
+    rw c.from_residual-in_err-value.ensures (sym (read-past c.args.bytes.now c.in_ok-end.end
+    (c.loop-index.index - 1) c.loop-index.index c.loop-index.value (omega arith) known.found known.before
+    (omega (arith, c.in_err-value.ensures, c.in_ok-checked_mul.ensures)) c.loop-index.invariant.so_far))
 
 pub loop-index-preserved : goal.loop-index-preserved
 loop-index-preserved c = let known = c.in_ok-end.ensures in
     record {
       fits = omega (arith, c.in_ok-value.ensures);
-      so_far = read-more _ _ _ _ c.loop-index.value _ (omega arith) known.found known.before (omega (arith, c.in_ok-value.ensures, c.in_ok-checked_mul.ensures)) c.loop-index.invariant.so_far;
+      so_far =
+          read-more _ _ _ _ c.loop-index.value _ (omega arith) known.found known.before
+          (omega (arith, c.in_ok-value.ensures, c.in_ok-checked_mul.ensures)) c.loop-index.invariant.so_far;
     }
 
 pub returns : goal.returns

@@ -20,4 +20,5 @@ returns c =
     let n = c.num_vals-count.ensures.value in
     let same : items bytes c.bit_unpacker.result 0 c.num_vals-count.result ≡ codes = λ i. items bytes (u i) 0 (n i) in
     let some : 0 < length codes = omega (arith, length_items bytes f.code_width f.count, n, c.if-count-eq0.false) in
-    c.have_bounds.ensures codes some (c.code_bounds-least.ensures.least ∙ ap least_of same) (c.code_bounds-least.ensures.greatest ∙ ap greatest_of same)
+    c.have_bounds.ensures codes some (c.code_bounds-least.ensures.least ∙ ap least_of same)
+    (c.code_bounds-least.ensures.greatest ∙ ap greatest_of same)

@@ -8,7 +8,9 @@ pub loop-taken-preserved : goal.loop-taken-preserved
 loop-taken-preserved g c = record {
   stands = c.in-Some.ensures.stands;
   within = rw (length-set c.loop-taken.block c.loop-taken.taken c.in-Some.value) (let room = c.loop-taken-test.true in omega (arith, room));
-  whole = collected-more _ _ _ _ _ c.in-Some.value c.loop-taken.invariant.whole c.in-Some.ensures.value (take_more_set _ _ _ c.loop-taken-test.true);
+  whole =
+      collected-more _ _ _ _ _ c.in-Some.value c.loop-taken.invariant.whole c.in-Some.ensures.value
+      (take_more_set _ _ _ c.loop-taken-test.true);
 }
 
 pub returns-in_default-clause-end : goal.returns-in_default-clause-end

@@ -13,7 +13,10 @@ pub next-requires : goal.next-requires
 next-requires g c = c.loop-value.invariant.stands
 
 pub returns-then-as_slice-clause-too_large : goal.returns-then-as_slice-clause-too_large
-returns-then-as_slice-clause-too_large g c e = collected-many c.loop-value.values.items _ _ _ c.in-Some.value c.loop-value.invariant.whole c.in-Some.ensures.value (let many = c.if-as_slice.true in omega (arith, many, ap length c.as_slice.ensures.value))
+returns-then-as_slice-clause-too_large g c e =
+    collected-many c.loop-value.values.items _ _ _ c.in-Some.value c.loop-value.invariant.whole
+    c.in-Some.ensures.value
+    (let many = c.if-as_slice.true in omega (arith, many, ap length c.as_slice.ensures.value))
 
 pub loop-value-smaller : goal.loop-value-smaller
 loop-value-smaller g c = omega (arith, ap length c.in-Some.ensures.value)
@@ -22,7 +25,14 @@ pub loop-value-preserved : goal.loop-value-preserved
 loop-value-preserved g c = record {
   stands = c.next.ensures.stands;
   whole = collected-more _ _ _ _ _ c.in-Some.value c.loop-value.invariant.whole c.in-Some.ensures.value c.in_ok-push.ensures.items;
-  few = let room = c.if-as_slice.false in omega (arith, room, ap length c.as_slice.ensures.value, ap length c.in_ok-push.ensures.items, length-append c.loop-value.values.items (c.in-Some.value ∷ []));
+  few =
+      let room = c.if-as_slice.false in omega (
+        arith,
+        room,
+        ap length c.as_slice.ensures.value,
+        ap length c.in_ok-push.ensures.items,
+        length-append c.loop-value.values.items (c.in-Some.value ∷ []),
+      );
 }
 
 pub returns-clause-ok : goal.returns-clause-ok

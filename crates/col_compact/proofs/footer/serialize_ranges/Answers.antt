@@ -7,10 +7,14 @@ pub loop-range-init : goal.loop-range-init
 loop-range-init g c = spelling-none c.args.ranges.now _ c.requires
 
 pub overflow_sub-range : goal.overflow_sub-range
-overflow_sub-range g c = rw (c.get-range.ensures ∙ c.range-item.is) ((spelling-ordered _ _ c.range-item.result _ _ _ _ c.loop-range-test.true c.loop-range.invariant).0)
+overflow_sub-range g c =
+    rw (c.get-range.ensures ∙ c.range-item.is)
+    ((spelling-ordered _ _ c.range-item.result _ _ _ _ c.loop-range-test.true c.loop-range.invariant).0)
 
 pub overflow_sub-range-in-loop-range : goal.overflow_sub-range-in-loop-range
-overflow_sub-range-in-loop-range g c = rw (c.get-range.ensures ∙ c.range-item.is) ((spelling-ordered _ _ c.range-item.result _ _ _ _ c.loop-range-test.true c.loop-range.invariant).1)
+overflow_sub-range-in-loop-range g c =
+    rw (c.get-range.ensures ∙ c.range-item.is)
+    ((spelling-ordered _ _ c.range-item.result _ _ _ _ c.loop-range-test.true c.loop-range.invariant).1)
 
 pub returns-in_err-serialize_pair : goal.returns-in_err-serialize_pair
 returns-in_err-serialize_pair g c =
@@ -20,7 +24,8 @@ returns-in_err-serialize_pair g c =
 pub loop-range-preserved : goal.loop-range-preserved
 loop-range-preserved g c =
     let found = c.get-range.ensures ∙ c.range-item.is in
-    rw found (spelling-more _ _ c.range-item.result _ _ _ _ c.loop-range-test.true c.loop-range.invariant _ _ (rw found at c.in_ok-serialize_pair.ensures))
+    rw found (spelling-more _ _ c.range-item.result _ _ _ _ c.loop-range-test.true c.loop-range.invariant _ _
+    (rw found at c.in_ok-serialize_pair.ensures))
 
 pub returns : goal.returns
 returns g c = spelling-all _ _ _ _ _ _ c.loop-range-test.false c.loop-range.invariant

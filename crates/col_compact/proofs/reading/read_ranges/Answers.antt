@@ -8,7 +8,8 @@ loop-done-init c = reading_first c.args.bytes.now c.args.count c.new-ranges.resu
 pub returns-in_default-clause-ranges : goal.returns-in_default-clause-ranges
 returns-in_default-clause-ranges c =
     let l = c.loop-done in
-    reading_none c.args.bytes.now c.args.count l._done l.ranges.items l.before l.apart l.codes l.rest.now l.invariant (omega arith) (sym c.in_default.ensures.range)
+    reading_none c.args.bytes.now c.args.count l._done l.ranges.items l.before l.apart l.codes l.rest.now
+    l.invariant (omega arith) (sym c.in_default.ensures.range)
 
 pub overflow_sub-codes : goal.overflow_sub-codes
 overflow_sub-codes c = (range_at-is _ _ _ _ _ _ (sym c.in-Some.ensures.range)).ordered
@@ -31,7 +32,9 @@ new-requires-clause-short c = let few = (range_at-is _ _ _ _ _ _ (sym c.in-Some.
 pub loop-done-preserved : goal.loop-done-preserved
 loop-done-preserved c =
     let l = c.loop-done in
-    reading_more c.args.bytes.now c.args.count l._done l.ranges.items l.before l.apart l.codes l.rest.now c.in-Some.range c.in-Some.behind.now _ _ l.invariant (omega arith) (sym c.in-Some.ensures.range) c.in-Some.ensures.code refl (c.in_ok-push.ensures.items ∙ ap (λ m. l.ranges.items ++ m ∷ []) c.new.ensures)
+    reading_more c.args.bytes.now c.args.count l._done l.ranges.items l.before l.apart l.codes l.rest.now
+    c.in-Some.range c.in-Some.behind.now _ _ l.invariant (omega arith) (sym c.in-Some.ensures.range)
+    c.in-Some.ensures.code refl (c.in_ok-push.ensures.items ∙ ap (λ m. l.ranges.items ++ m ∷ []) c.new.ensures)
 
 pub returns-clause-ranges : goal.returns-clause-ranges
 returns-clause-ranges c =

@@ -15,7 +15,9 @@ returns-clause-fits c =
     let s = shape_of parts.result.0 in
     let xs = num_values_of parts.result.1 in
     rw (← parts.ensures.index, ← parts.ensures.values)
-    (there content_of (λ v. content_seen [] number s (num_values_of v)) num_values_of c.with_i64_values.result c.coerce_to_i64.result (list_all fits_i64 xs) (map pos xs) c.with_i64_values.ensures.content c.coerce_to_i64.ensures
+    (there content_of (λ v. content_seen [] number s (num_values_of v)) num_values_of c.with_i64_values.result
+    c.coerce_to_i64.result (list_all fits_i64 xs) (map pos xs) c.with_i64_values.ensures.content
+    c.coerce_to_i64.ensures
     ∙ sym (other_i64 s xs parts.ensures.counted))
 
 pub returns-clause-content : goal.returns-clause-content
@@ -24,4 +26,5 @@ returns-clause-content c =
     let s = shape_of parts.result.0 in
     let xs = num_values_of parts.result.1 in
     rw (← parts.ensures.index, ← parts.ensures.values)
-    (as_signed content_of num_values_of c.with_i64_values.result c.coerce_to_i64.result s xs (list_all fits_i64 xs) c.with_i64_values.ensures.content c.coerce_to_i64.ensures)
+    (as_signed content_of num_values_of c.with_i64_values.result c.coerce_to_i64.result s xs (list_all fits_i64 xs)
+    c.with_i64_values.ensures.content c.coerce_to_i64.ensures)

@@ -6,4 +6,5 @@ use Rattle.col_dynamic.proofs.dynamic_column.u64_column.Goals as goal
 pub returns-clause-fits : goal.returns-clause-fits
 returns-clause-fits c =
     let parts = c.into_parts-index in
-    rw (← parts.ensures.index, ← parts.ensures.values) (own_u64 (shape_of parts.result.0) (num_values_of parts.result.1) parts.ensures.counted c.tell.ensures.values.each)
+    rw (← parts.ensures.index, ← parts.ensures.values) (own_u64 (shape_of parts.result.0)
+    (num_values_of parts.result.1) parts.ensures.counted c.values_are_in_type.ensures.values.each)

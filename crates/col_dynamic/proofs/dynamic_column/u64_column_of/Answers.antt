@@ -15,8 +15,10 @@ returns-clause-fits c =
     let s = shape_of parts.result.0 in
     let xs = num_values_of parts.result.1 in
     rw (← parts.ensures.index, ← parts.ensures.values)
-    (there content_of (λ v. content_seen [] unsigned_cell s (num_values_of v)) num_values_of c.with_u64_values.result c.coerce_to_u64.result (list_all is_not_negative xs) (map nat_abs xs) c.with_u64_values.ensures.content c.coerce_to_u64.ensures
-    ∙ sym (other_u64 s xs parts.ensures.counted c.tell.ensures.values.each))
+    (there content_of (λ v. content_seen [] unsigned_cell s (num_values_of v)) num_values_of c.with_u64_values.result
+    c.coerce_to_u64.result (list_all is_not_negative xs) (map nat_abs xs) c.with_u64_values.ensures.content
+    c.coerce_to_u64.ensures
+    ∙ sym (other_u64 s xs parts.ensures.counted c.values_are_in_type.ensures.values.each))
 
 pub returns-clause-content : goal.returns-clause-content
 returns-clause-content c =
@@ -24,10 +26,12 @@ returns-clause-content c =
     let s = shape_of parts.result.0 in
     let xs = num_values_of parts.result.1 in
     rw (← parts.ensures.index, ← parts.ensures.values)
-    (as_unsigned content_of num_values_of c.with_u64_values.result c.coerce_to_u64.result s xs (list_all is_not_negative xs) refl c.with_u64_values.ensures.content c.coerce_to_u64.ensures)
+    (as_unsigned content_of num_values_of c.with_u64_values.result c.coerce_to_u64.result s xs
+    (list_all is_not_negative xs) refl c.with_u64_values.ensures.content c.coerce_to_u64.ensures)
 
 pub with_u64_values-requires : goal.with_u64_values-requires
 with_u64_values-requires c =
     let parts = c.into_parts-index in
     let xs = num_values_of parts.result.1 in
-    still_counted num_values_of c.coerce_to_u64.result (shape_of parts.result.0) nat_abs xs (list_all is_not_negative xs) parts.ensures.counted c.coerce_to_u64.ensures
+    still_counted num_values_of c.coerce_to_u64.result (shape_of parts.result.0) nat_abs xs
+    (list_all is_not_negative xs) parts.ensures.counted c.coerce_to_u64.ensures

@@ -6,7 +6,10 @@ pub loop-segment-init : goal.loop-segment-init
 loop-segment-init c = segments-start _ (c.args.segments - 0) c.args.segments c.args.documents c.args.draws.now (omega arith)
 
 pub loop-segment-preserved : goal.loop-segment-preserved
-loop-segment-preserved c = segments-more _ _ _ _ (c.args.segments - c.loop-segment._segment) (c.args.segments - (c.loop-segment._segment + 1)) c.args.documents c.loop-segment.draws _ (omega arith) c.loop-segment.invariant c.in_ok-push_segment.ensures
+loop-segment-preserved c =
+    segments-more _ _ _ _ (c.args.segments - c.loop-segment._segment)
+    (c.args.segments - (c.loop-segment._segment + 1)) c.args.documents c.loop-segment.draws _ (omega arith)
+    c.loop-segment.invariant c.in_ok-push_segment.ensures
 
 pub returns : goal.returns
 returns c = segments-none _ _ _ (c.args.segments - c.loop-segment._segment) c.args.documents _ (omega arith) c.loop-segment.invariant

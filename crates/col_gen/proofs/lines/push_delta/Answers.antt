@@ -8,4 +8,5 @@ use Rattle.col_gen.proofs.lines.push_delta.Goals as goal
 pub returns : goal.returns
 returns c =
     let delta : to_z w64 (of_z w64 c.delta_of.result) ≡ pos (c.args.drawn % 201) -ℤ pos 100 = omega (arith, ints, c.delta_of.ensures) in
-    value-printed c.push_value.result _ _ (codes "i64") c.args.document (codes "delta") _ _ (c.from.ensures ∙ ap (λ z. number (of_integer z)) delta) c.push_value.ensures
+    value-printed c.push_value.result _ _ (codes "i64") c.args.document (codes "delta") _ _
+    (c.from.ensures ∙ ap (λ z. number (of_integer z)) delta) c.push_value.ensures

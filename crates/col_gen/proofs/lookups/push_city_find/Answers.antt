@@ -4,4 +4,7 @@ use Rattle.col_gen.proofs.AddedLemmas.{find-printed}
 use Rattle.col_gen.proofs.lookups.push_city_find.Goals as goal
 
 pub returns : goal.returns
-returns c = find-printed c.push_find.result _ _ (codes "city") (codes "str") _ _ _ _ _ _ (c.from-low.ensures ∙ ap string c.in_ok-first.ensures.ok) (c.from-high.ensures ∙ ap string c.in_ok-last.ensures.ok) c.push_find.ensures
+returns c =
+    find-printed c.push_find.result _ _ (codes "city") (codes "str") _ _ _ _ _ _
+    (c.from-low.ensures ∙ ap string c.in_ok-first.ensures.ok)
+    (c.from-high.ensures ∙ ap string c.in_ok-last.ensures.ok) c.push_find.ensures

@@ -1,5 +1,5 @@
 use Rattle.std.proofs.Common.{◌≡◌, ◌-◌, ◌≤◌, ◌++◌, refl, ap, ◌∙◌, arith}
-use Rattle.col_index.specs.Offsets.{run, docs_of, positions_of}
+use Rattle.col_index.specs.Offsets.{run, found_rows, positions_of}
 use Rattle.col_index.proofs.PushLemmas.{begins-same, begins-more, pushes-stopped, docs-more, positions-more}
 use Rattle.col_index.proofs.appending.push_run.Goals as goal
 
@@ -21,14 +21,16 @@ loop-position-preserved c =
     record {
       within = omega arith;
       docs = docs-more _ _ _ c.args.doc c.args.start c.loop-position.position h c.loop-position.invariant.docs c.in_ok-push.ensures.items;
-      rows = positions-more _ _ _ c.args.doc c.args.start c.loop-position.position h c.loop-position.invariant.rows c.in_ok-push-2.ensures.items;
+      rows =
+          positions-more _ _ _ c.args.doc c.args.start c.loop-position.position h c.loop-position.invariant.rows
+          c.in_ok-push-2.ensures.items;
     }
 
 pub returns : goal.returns
 returns c =
     let all : c.loop-position.position - c.args.start ≡ c.args.end - c.args.start = omega arith in
     record {
-      docs = c.loop-position.invariant.docs ∙ ap (λ n. c.args.docs_out.now.items ++ docs_of (run c.args.doc c.args.start n)) all;
+      docs = c.loop-position.invariant.docs ∙ ap (λ n. c.args.docs_out.now.items ++ found_rows (run c.args.doc c.args.start n)) all;
       rows = c.loop-position.invariant.rows ∙ ap (λ n. c.args.rows_out.now.items ++ positions_of (run c.args.doc c.args.start n)) all;
       err = tt;
     }

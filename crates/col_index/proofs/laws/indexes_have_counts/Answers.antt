@@ -2,4 +2,10 @@ use Rattle.col_index.proofs.CountLaws.{set_counts-rows, set_counts-start, offset
 use Rattle.col_index.proofs.laws.indexes_have_counts.Goals as goal
 
 pub returns : goal.returns
-returns c = record { set_rows = set_counts-rows; set_starts = set_counts-start; offset_rows = offset_counts-rows; offset_starts = offset_counts-starts }
+returns c =
+    record {
+      set_rows = set_counts-rows;
+      set_starts = set_counts-start;
+      offset_rows = offset_counts-rows;
+      offset_starts = offset_counts-starts;
+    }

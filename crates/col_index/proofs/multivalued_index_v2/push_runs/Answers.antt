@@ -15,6 +15,11 @@ pub loop-row-preserved : goal.loop-row-preserved
 loop-row-preserved c =
     let offsets = c.args.start_offsets.now in
     record {
-      rows = pushed _ _ _ _ _ _ (rows-with offsets c.loop-row.row c.loop-row-test.true c.requires.never_fall c.if-start_offsets-row.false) c.in_ok-push.ensures.items c.loop-row.invariant.rows;
-      starts = pushed _ _ _ _ _ _ (starts-with offsets c.loop-row.row c.loop-row-test.true c.requires.never_fall c.if-start_offsets-row.false) c.in_ok-push-2.ensures.items c.loop-row.invariant.starts;
+      rows =
+          pushed _ _ _ _ _ _
+          (rows-with offsets c.loop-row.row c.loop-row-test.true c.requires.never_fall c.if-start_offsets-row.false)
+          c.in_ok-push.ensures.items c.loop-row.invariant.rows;
+      starts =
+          pushed _ _ _ _ _ _ (starts-with offsets c.loop-row.row c.loop-row-test.true c.requires.never_fall
+          c.if-start_offsets-row.false) c.in_ok-push-2.ensures.items c.loop-row.invariant.starts;
     }

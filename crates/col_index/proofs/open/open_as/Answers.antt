@@ -9,17 +9,22 @@ use Rattle.col_index.proofs.ShapeLemmas.{shape-full, shape-optional, shape-multi
 use Rattle.col_index.proofs.open.open_as.Goals as goal
 
 pub returns-then-not-is_empty : goal.returns-then-not-is_empty
-returns-then-not-is_empty c = shape-full c.args.cardinality c.args.format_version c.args.bytes c.in-Full.is ∙ ap (λ b. only_if b full_shape) (sym c.if-not-is_empty.ensures)
+returns-then-not-is_empty c =
+    shape-full c.args.cardinality c.args.format_version c.args.bytes c.in-Full.is
+    ∙ ap (λ b. only_if b full_shape) (sym c.if-not-is_empty.ensures)
 
 pub returns-else-not-is_empty : goal.returns-else-not-is_empty
-returns-else-not-is_empty c = shape-full c.args.cardinality c.args.format_version c.args.bytes c.in-Full.is ∙ ap (λ b. only_if b full_shape) (sym c.if-not-is_empty.ensures)
+returns-else-not-is_empty c =
+    shape-full c.args.cardinality c.args.format_version c.args.bytes c.in-Full.is
+    ∙ ap (λ b. only_if b full_shape) (sym c.if-not-is_empty.ensures)
 
 pub returns-in_err-open_optional_index-in-Optional : goal.returns-in_err-open_optional_index-in-Optional
 returns-in_err-open_optional_index-in-Optional c =
     let p = err_from_is_err_and c.from_residual.result c.from_residual.ensures.1 in
     rw (p.1, p.2) (refuses-list c.in_err-open_optional_index-in-Optional.field-0.0 (row_set c.args.bytes)
     (shape (cardinality_code (cardinality_of c.args.cardinality) ∷ c.args.bytes) (version_number c.args.format_version))
-    (λ e. shape-optional c.args.cardinality c.args.format_version c.args.bytes c.in-Optional.is ∙ ap (option_map (λ (s : RowSet). optional_shape (set_counts s))) e)
+    (λ e. shape-optional c.args.cardinality c.args.format_version c.args.bytes c.in-Optional.is
+    ∙ ap (option_map (λ (s : RowSet). optional_shape (set_counts s))) e)
     c.in_err-open_optional_index-in-Optional.ensures)
 
 pub returns-in_err-open_multivalued_index-in-Multivalued : goal.returns-in_err-open_multivalued_index-in-Multivalued
@@ -28,13 +33,18 @@ returns-in_err-open_multivalued_index-in-Multivalued c =
     let p = err_from_is_err_and after.result after.ensures.1 in
     rw (p.1, p.2) (refuses-list c.in_err-open_multivalued_index-in-Multivalued.field-0.0 (row_offsets c.args.bytes)
     (shape (cardinality_code (cardinality_of c.args.cardinality) ∷ c.args.bytes) (version_number c.args.format_version))
-    (λ e. shape-multivalued c.args.cardinality c.args.format_version c.args.bytes c.in-Multivalued.is ∙ ap (option_map (λ (o : RowOffsets). multivalued_shape (offset_counts o))) e)
+    (λ e. shape-multivalued c.args.cardinality c.args.format_version c.args.bytes c.in-Multivalued.is
+    ∙ ap (option_map (λ (o : RowOffsets). multivalued_shape (offset_counts o))) e)
     c.in_err-open_multivalued_index-in-Multivalued.ensures)
 
 pub returns-in_ok-open_optional_index-in-Optional : goal.returns-in_ok-open_optional_index-in-Optional
 returns-in_ok-open_optional_index-in-Optional c =
-    shape-optional c.args.cardinality c.args.format_version c.args.bytes c.in-Optional.is ∙ ap (option_map (λ (s : RowSet). optional_shape (set_counts s))) c.in_ok-open_optional_index-in-Optional.ensures
+    shape-optional c.args.cardinality c.args.format_version c.args.bytes c.in-Optional.is
+    ∙ ap (option_map (λ (s : RowSet). optional_shape (set_counts s)))
+    c.in_ok-open_optional_index-in-Optional.ensures
 
 pub returns-in_ok-open_multivalued_index-in-Multivalued : goal.returns-in_ok-open_multivalued_index-in-Multivalued
 returns-in_ok-open_multivalued_index-in-Multivalued c =
-    shape-multivalued_index c.args.cardinality c.args.format_version c.args.bytes c.in_ok-open_multivalued_index-in-Multivalued.field-0 c.in-Multivalued.is c.in_ok-open_multivalued_index-in-Multivalued.ensures
+    shape-multivalued_index c.args.cardinality c.args.format_version c.args.bytes
+    c.in_ok-open_multivalued_index-in-Multivalued.field-0 c.in-Multivalued.is
+    c.in_ok-open_multivalued_index-in-Multivalued.ensures

@@ -4,4 +4,6 @@ use Rattle.col_index.proofs.ShapeLemmas.{shape-uncoded}
 use Rattle.col_index.proofs.open.open_column_index.Goals as goal
 
 pub returns-in_default : goal.returns-in_default
-returns-in_default c = shape-uncoded c.args.bytes c.args.format_version (ap first_byte_cardinality (sym c.as_slice.ensures) ∙ c.in_default.ensures.none)
+returns-in_default c =
+    shape-uncoded c.args.bytes c.args.format_version
+    (ap first_byte_cardinality (sym c.as_slice.ensures) ∙ c.in_default.ensures.none)

@@ -14,7 +14,12 @@ returns-in_default c = row_set-uncounted c.args.bytes c.in_default.ensures
 pub returns-in_err-load_u64_values : goal.returns-in_err-load_u64_values
 returns-in_err-load_u64_values c =
     let p = err_from_is_err_and c.from_residual.result c.from_residual.ensures.1 in
-    rw (p.1, p.2) (refuses-list c.in_err-load_u64_values.field-0.0 (values64 c.in-Some.rows) (row_set c.args.bytes) (row_set-unread c.args.bytes c.in-Some.rows c.in-Some.num_rows c.in-Some.ensures) c.in_err-load_u64_values.ensures)
+    rw (p.1, p.2) (refuses-list c.in_err-load_u64_values.field-0.0 (values64 c.in-Some.rows) (row_set c.args.bytes)
+    (row_set-unread c.args.bytes c.in-Some.rows c.in-Some.num_rows c.in-Some.ensures)
+    c.in_err-load_u64_values.ensures)
 
 pub returns : goal.returns
-returns c = subst (Decodes (λ (index : RowSet). index) c.from_rows.result) (sym (row_set-read c.args.bytes c.in-Some.rows (list_of c.in_ok-load_u64_values.field-0) c.in-Some.num_rows c.in-Some.ensures c.in_ok-load_u64_values.ensures)) c.from_rows.ensures
+returns c =
+    subst (Decodes (λ (index : RowSet). index) c.from_rows.result) (sym (row_set-read c.args.bytes c.in-Some.rows
+    (list_of c.in_ok-load_u64_values.field-0) c.in-Some.num_rows c.in-Some.ensures c.in_ok-load_u64_values.ensures))
+    c.from_rows.ensures

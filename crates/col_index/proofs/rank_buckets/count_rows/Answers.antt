@@ -21,7 +21,12 @@ loop-at-preserved c =
     let counts = c.loop-at.counts in
     let m = 2 ^ c.args.shift in
     let taken = rises_taken c.args.num_rows c.loop-at.next rows at (omega arith) row c.in-Some.ensures in
-    let inside : row / m < length counts = omega (arith, c.loop-at.invariant.long, c.requires.room, part_le m row c.args.num_rows (pow_pos c.args.shift) (omega (arith, taken.below))) in
+    let inside : row / m < length counts = omega (
+      arith,
+      c.loop-at.invariant.long,
+      c.requires.room,
+      part_le m row c.args.num_rows (pow_pos c.args.shift) (omega (arith, taken.below)),
+    ) in
     record {
       rest = c.loop-at.invariant.rest ∙ taken.rest;
       long = length-set counts _ _ ∙ c.loop-at.invariant.long;

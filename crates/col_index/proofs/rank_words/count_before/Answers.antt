@@ -33,6 +33,9 @@ loop-word-preserved c =
     let word = get_or words at 0 in
     let next = whole_word rows words c.requires.rising c.requires.flags at word c.loop-word-test.true (c.type_inv.words at).fits refl in
     record {
-      counts = subst (AreCounts rows 64 (at + 1)) (sym c.in_ok-push.ensures.items) (table_more (λ part. rank rows (64 * part)) c.loop-word.before.items at c.loop-word.count c.loop-word.invariant.counts c.loop-word.invariant.count);
+      counts =
+          subst (AreCounts rows 64 (at + 1)) (sym c.in_ok-push.ensures.items) (table_more
+          (λ part. rank rows (64 * part)) c.loop-word.before.items at c.loop-word.count c.loop-word.invariant.counts
+          c.loop-word.invariant.count);
       count = ap (λ n. n + count_ones word) c.loop-word.invariant.count ∙ next;
     }

@@ -8,7 +8,9 @@ narrow-requires-clause-narrowed c =
     let numbers = list_of c.args.values.now in
     let low = c.loop-low.low in
     let inside : low + c.min.result < length numbers = search rules in
-    narrowed_not_less numbers c.args.target low (length numbers) (low + c.min.result) c.get_val.result c.requires.rising c.loop-low.invariant.narrowed (omega arith) inside c.get_val.ensures c.if-get_val-target.true
+    narrowed_not_less numbers c.args.target low (length numbers) (low + c.min.result) c.get_val.result
+    c.requires.rising c.loop-low.invariant.narrowed (omega arith) inside c.get_val.ensures
+    c.if-get_val-target.true
 
 pub loop-low-preserved : goal.loop-low-preserved
 loop-low-preserved c =
@@ -16,7 +18,10 @@ loop-low-preserved c =
     let low = c.loop-low.low in
     let inside : low + c.min.result < length numbers = search rules in
     record {
-      narrowed = narrowed_less numbers c.args.target low (length numbers) (low + c.min.result) c.get_val.result c.requires.rising c.loop-low.invariant.narrowed (omega arith) inside c.get_val.ensures c.if-get_val-target.false;
+      narrowed =
+          narrowed_less numbers c.args.target low (length numbers) (low + c.min.result) c.get_val.result
+          c.requires.rising c.loop-low.invariant.narrowed (omega arith) inside c.get_val.ensures
+          c.if-get_val-target.false;
       some_step = omega arith;
     }
 

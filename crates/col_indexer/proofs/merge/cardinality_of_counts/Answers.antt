@@ -18,14 +18,18 @@ values_at-count-requires c =
     let order = c.args.shuffle_merge_order.now in
     let addrs = c.iter_new_to_old_row_addrs-addr-items.result.now in
     let named = ap (λ all. list_all (has_row order.counts) all) c.iter_new_to_old_row_addrs-addr-items.ensures ∙ c.rows_are_there.ensures in
-    segment-there indexes addrs order.counts c.loop-addr.addr-index (record { segment_ord = 0; row_id = 0 }) c.requires.segments named c.loop-addr-test.true
+    segment-there indexes addrs order.counts c.loop-addr.addr-index (record { segment_ord = 0; row_id = 0 })
+    c.requires.segments named c.loop-addr-test.true
 
 pub returns-then-count-gt1 : goal.returns-then-count-gt1
 returns-then-count-gt1 c =
     let indexes = c.args.column_indexes.now in
     let addrs = c.iter_new_to_old_row_addrs-addr-items.result.now in
     let p = picked_of (map shape_of indexes) c.args.shuffle_merge_order.now in
-    let there = pick-there indexes addrs p c.loop-addr.addr-index c.values_at-count.result (record { segment_ord = 0; row_id = 0 }) (record { shapes = refl; addresses = c.iter_new_to_old_row_addrs-addr-items.ensures }) c.loop-addr-test.true c.values_at-count.ensures in
+    let there = pick-there indexes addrs p c.loop-addr.addr-index c.values_at-count.result
+    (record { segment_ord = 0; row_id = 0 })
+    (record { shapes = refl; addresses = c.iter_new_to_old_row_addrs-addr-items.ensures }) c.loop-addr-test.true
+    c.values_at-count.ensures in
     tightest-many (shuffled_counts p) c.loop-addr.addr-index there.0 (omega (arith, there.1))
 
 pub loop-addr-preserved : goal.loop-addr-preserved
@@ -33,7 +37,10 @@ loop-addr-preserved c =
     let indexes = c.args.column_indexes.now in
     let addrs = c.iter_new_to_old_row_addrs-addr-items.result.now in
     let p = picked_of (map shape_of indexes) c.args.shuffle_merge_order.now in
-    let there = pick-there indexes addrs p c.loop-addr.addr-index c.values_at-count.result (record { segment_ord = 0; row_id = 0 }) (record { shapes = refl; addresses = c.iter_new_to_old_row_addrs-addr-items.ensures }) c.loop-addr-test.true c.values_at-count.ensures in
+    let there = pick-there indexes addrs p c.loop-addr.addr-index c.values_at-count.result
+    (record { segment_ord = 0; row_id = 0 })
+    (record { shapes = refl; addresses = c.iter_new_to_old_row_addrs-addr-items.ensures }) c.loop-addr-test.true
+    c.values_at-count.ensures in
     let cs = shuffled_counts p in
     let i = c.loop-addr.addr-index in
     elim c.if-count-eq0.branch [

@@ -6,4 +6,6 @@ use Rattle.col_indexer.proofs.merge.cardinality_of_sets.Given as goal
 
 -- each of the rows that were passed has one value
 abbrev pub invariant-loop-addr : goal.invariant-loop-addr
-invariant-loop-addr l = list_all (λ c. c == 1) (take l.addr-index (picked_counts (map shape_of l.column_indexes) l.shuffle_merge_order.addresses)) ≡ true
+invariant-loop-addr l =
+    list_all (λ c. c == 1)
+    (take l.addr-index (picked_counts (map shape_of l.column_indexes) l.shuffle_merge_order.addresses)) ≡ true

@@ -24,7 +24,8 @@ returns-in-Optional-clause-counts c =
     let long = sym (length-shuffled p) in
     let same = sym (ap cardinality_of c.in-Optional.is) ∙ c.requires.cardinality in
     let rows = ap (λ q. rows_with_value (shuffled_counts q)) c.new.ensures in
-    merged-optional cs _ (length order.addresses) c.num_rows-num_rows.result (tightest_of cs) long (c.num_rows-num_rows.ensures ∙ long) rows same (tightest-optional cs same)
+    merged-optional cs _ (length order.addresses) c.num_rows-num_rows.result (tightest_of cs) long
+    (c.num_rows-num_rows.ensures ∙ long) rows same (tightest-optional cs same)
 
 pub returns-in-Optional-clause-index : goal.returns-in-Optional-clause-index
 returns-in-Optional-clause-index c =
@@ -42,7 +43,8 @@ returns-in-Multivalued-clause-counts c =
     let same = sym (ap cardinality_of c.in-Multivalued.is) ∙ c.requires.cardinality in
     let rows = ap (λ q. rows_with_value (shuffled_counts q)) c.new-in-Multivalued.ensures in
     let starts = ap (λ q. starts_of (shuffled_counts q)) c.new-in-Multivalued-2.ensures in
-    merged-multivalued cs _ _ (length order.addresses) c.num_rows-num_rows.result (tightest_of cs) long (c.num_rows-num_rows.ensures ∙ long) rows starts same
+    merged-multivalued cs _ _ (length order.addresses) c.num_rows-num_rows.result (tightest_of cs) long
+    (c.num_rows-num_rows.ensures ∙ long) rows starts same
 
 pub returns-in-Multivalued-clause-index : goal.returns-in-Multivalued-clause-index
 returns-in-Multivalued-clause-index c =
@@ -50,4 +52,8 @@ returns-in-Multivalued-clause-index c =
     let long = sym (length-shuffled p) in
     let rows = ap (λ q. rows_with_value (shuffled_counts q)) c.new-in-Multivalued.ensures in
     let starts = ap (λ q. starts_of (shuffled_counts q)) c.new-in-Multivalued-2.ensures in
-    record { offsets = merged-offsets (shuffled_counts p) _ _ c.num_rows-num_rows.result (c.num_rows-num_rows.ensures ∙ long) rows starts c.requires.fit.few; fits = c.num_rows-num_rows.type_inv }
+    record {
+      offsets = merged-offsets (shuffled_counts p) _ _ c.num_rows-num_rows.result
+          (c.num_rows-num_rows.ensures ∙ long) rows starts c.requires.fit.few;
+      fits = c.num_rows-num_rows.type_inv;
+    }

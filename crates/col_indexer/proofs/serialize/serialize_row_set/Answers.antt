@@ -14,10 +14,16 @@ serialize_rows-requires g c =
 pub returns-in_err-len-clause-ok : goal.returns-in_err-len-clause-ok
 returns-in_err-len-clause-ok g c =
     let p = err_from_is_err_and c.from_residual-in_err-len.result c.from_residual-in_err-len.ensures.1 in
-    rw (p.1, p.2) (row_set-written _ _ _ _ (Err c.in_err-len.field-0.0) _ _ c.from.ensures c.in_ok-serialize.ensures.ok c.in_err-len.ensures.ok)
+    rw (p.1, p.2) (row_set-written _ _ _ _ (Err c.in_err-len.field-0.0) _ _ c.from.ensures
+    c.in_ok-serialize.ensures.ok c.in_err-len.ensures.ok)
 
 pub overflow_add-result : goal.overflow_add-result
-overflow_add-result g c = omega (arith, row_set-long _ _ _ _ c.from.ensures c.num_bytes.ensures c.in_ok-len.ensures.length, row_set_bytes-few _ c.requires)
+overflow_add-result g c =
+    omega (
+      arith,
+      row_set-long _ _ _ _ c.from.ensures c.num_bytes.ensures c.in_ok-len.ensures.length,
+      row_set_bytes-few _ c.requires,
+    )
 
 pub returns-clause-ok : goal.returns-clause-ok
 returns-clause-ok g c = row_set-written _ _ _ _ _ _ _ c.from.ensures c.in_ok-serialize.ensures.ok c.in_ok-len.ensures.ok

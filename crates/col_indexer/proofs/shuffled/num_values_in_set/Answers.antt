@@ -8,4 +8,5 @@ returns-then-contains c =
 
 pub returns-else-contains : goal.returns-else-contains
 returns-else-contains c =
-    sym (set_counts-at c.args.index.now c.rows_rise.ensures c.args.row ∙ ap (λ b. cond b 1 0) (sym c.contains.ensures ∙ c.if-contains.false))
+    sym (set_counts-at c.args.index.now c.rows_rise.ensures c.args.row
+    ∙ ap (λ b. cond b 1 0) (sym c.contains.ensures ∙ c.if-contains.false))

@@ -1,11 +1,12 @@
 use Rattle.std.proofs.Common.{◌≡◌, ◌-◌}
-use Rattle.col_indexer.specs.Stacks.{segments_of, StandsAtRow, stacked_rows_to_give}
+use Rattle.col_indexer.specs.Stacks.{index_segments, StandsAtRow, stacked_rows_to_give}
 use Rattle.col_indexer.proofs.stacked.next_row.Given as goal
 
 abbrev pub invariant-loop-at : goal.invariant-loop-at
 invariant-loop-at l = record {
-  stands : StandsAtRow (segments_of l.column_indexes l.order) l.at;
-  left : stacked_rows_to_give (segments_of l.column_indexes l.order) l.at ≡ stacked_rows_to_give (segments_of l.column_indexes l.order) l.fn.at;
+  stands : StandsAtRow (index_segments l.column_indexes l.order) l.at;
+  left : stacked_rows_to_give (index_segments l.column_indexes l.order) l.at
+      ≡ stacked_rows_to_give (index_segments l.column_indexes l.order) l.fn.at;
 }
 
 abbrev pub decreases-loop-at : goal.decreases-loop-at

@@ -1,63 +1,114 @@
 use Rattle.std.proofs.Common.{◌+◌, sym, ap, refl, ◌∙◌, ◌∷◌, arith}
 use Rattle.col_common.specs.declared.iterable.Walk.{Walk}
-use Rattle.col_indexer.specs.Stacks.{segments_of, stacked_offsets_to_give}
+use Rattle.col_indexer.specs.Stacks.{index_segments, stacked_offsets_to_give}
 use Rattle.col_indexer.proofs.StackedOffsetLemmas.{start_read, sum_read, sum_fits, first_stands, first_given, offsets_end, start_fits, start_stands, start_given, starts_stand, starts_left}
 use Rattle.col_indexer.proofs.stacked.next_start.Goals as goal
 
 pub returns-then-at-eq0-clause-stands : goal.returns-then-at-eq0-clause-stands
-returns-then-at-eq0-clause-stands c = first_stands (segments_of c.args.column_indexes.now c.args.order.now) c.args.at.now _ c.requires.segments c.requires.stands refl refl refl
+returns-then-at-eq0-clause-stands c =
+    first_stands (index_segments c.args.column_indexes.now c.args.order.now) c.args.at.now _ c.requires.segments
+    c.requires.stands refl refl refl
 
 pub returns-then-at-eq0-clause-value : goal.returns-then-at-eq0-clause-value
-returns-then-at-eq0-clause-value c = first_given (segments_of c.args.column_indexes.now c.args.order.now) c.args.at.now (record { segment = c.args.at.now.segment; place = 1; inner = c.args.at.now.inner; sum = c.args.at.now.sum }) c.requires.segments c.requires.stands c.if-at-eq0.true refl refl refl
+returns-then-at-eq0-clause-value c =
+    first_given (index_segments c.args.column_indexes.now c.args.order.now) c.args.at.now
+    (record { segment = c.args.at.now.segment; place = 1; inner = c.args.at.now.inner; sum = c.args.at.now.sum })
+    c.requires.segments c.requires.stands c.if-at-eq0.true refl refl refl
 
 pub start_at-requires : goal.start_at-requires
 start_at-requires c =
-    let sum = sum_read c.args.column_indexes.now c.args.order.now c.loop-at.at.segment _ _ c.requires.segments.fit (omega arith) c.segment_num_rows-num_rows.ensures c.index-column_indexes-segment.is in
-    omega (arith, sum, sum_fits (segments_of c.args.column_indexes.now c.args.order.now) c.loop-at.at.segment c.requires.segments (omega arith))
+    let sum = sum_read c.args.column_indexes.now c.args.order.now c.loop-at.at.segment _ _ c.requires.segments.fit
+    (omega arith) c.segment_num_rows-num_rows.ensures c.index-column_indexes-segment.is in
+    omega (
+      arith,
+      sum,
+      sum_fits (index_segments c.args.column_indexes.now c.args.order.now) c.loop-at.at.segment
+          c.requires.segments (omega arith),
+    )
 
 pub overflow_add-at : goal.overflow_add-at
 overflow_add-at c =
-    let read = start_read c.args.column_indexes.now c.args.order.now c.loop-at.at _ _ _ _ c.requires.segments.fit (omega arith) c.segment_num_rows-num_rows.ensures c.index-column_indexes-segment.is c.start_at.ensures c.in-Some.is in
-    let fits = start_fits (segments_of c.args.column_indexes.now c.args.order.now) c.loop-at.at c.loop-at.at c.requires.segments c.loop-at.invariant.stands (omega arith) c.in-Some.start read in
+    let read = start_read c.args.column_indexes.now c.args.order.now c.loop-at.at _ _ _ _ c.requires.segments.fit
+    (omega arith) c.segment_num_rows-num_rows.ensures c.index-column_indexes-segment.is c.start_at.ensures
+    c.in-Some.is in
+    let fits = start_fits (index_segments c.args.column_indexes.now c.args.order.now) c.loop-at.at c.loop-at.at
+    c.requires.segments c.loop-at.invariant.stands (omega arith) c.in-Some.start read in
     omega (arith, fits.1)
 
 pub overflow_cast-result-in-Some : goal.overflow_cast-result-in-Some
 overflow_cast-result-in-Some c =
-    let read = start_read c.args.column_indexes.now c.args.order.now c.loop-at.at _ _ _ _ c.requires.segments.fit (omega arith) c.segment_num_rows-num_rows.ensures c.index-column_indexes-segment.is c.start_at.ensures c.in-Some.is in
-    let fits = start_fits (segments_of c.args.column_indexes.now c.args.order.now) c.loop-at.at c.loop-at.at c.requires.segments c.loop-at.invariant.stands (omega arith) c.in-Some.start read in
+    let read = start_read c.args.column_indexes.now c.args.order.now c.loop-at.at _ _ _ _ c.requires.segments.fit
+    (omega arith) c.segment_num_rows-num_rows.ensures c.index-column_indexes-segment.is c.start_at.ensures
+    c.in-Some.is in
+    let fits = start_fits (index_segments c.args.column_indexes.now c.args.order.now) c.loop-at.at c.loop-at.at
+    c.requires.segments c.loop-at.invariant.stands (omega arith) c.in-Some.start read in
     omega (arith, fits.0, c.from.ensures)
 
 pub returns-in-Some-clause-stands : goal.returns-in-Some-clause-stands
 returns-in-Some-clause-stands c =
-    let read = start_read c.args.column_indexes.now c.args.order.now c.loop-at.at _ _ _ _ c.requires.segments.fit (omega arith) c.segment_num_rows-num_rows.ensures c.index-column_indexes-segment.is c.start_at.ensures c.in-Some.is in
-    start_stands (segments_of c.args.column_indexes.now c.args.order.now) c.loop-at.at _ c.requires.segments c.loop-at.invariant.stands (omega arith) c.in-Some.start read refl refl refl
+    let read = start_read c.args.column_indexes.now c.args.order.now c.loop-at.at _ _ _ _ c.requires.segments.fit
+    (omega arith) c.segment_num_rows-num_rows.ensures c.index-column_indexes-segment.is c.start_at.ensures
+    c.in-Some.is in
+    start_stands (index_segments c.args.column_indexes.now c.args.order.now) c.loop-at.at _ c.requires.segments
+    c.loop-at.invariant.stands (omega arith) c.in-Some.start read refl refl refl
 
 pub returns-in-Some-clause-value : goal.returns-in-Some-clause-value
 returns-in-Some-clause-value c =
-    let read = start_read c.args.column_indexes.now c.args.order.now c.loop-at.at _ _ _ _ c.requires.segments.fit (omega arith) c.segment_num_rows-num_rows.ensures c.index-column_indexes-segment.is c.start_at.ensures c.in-Some.is in
-    let after : Walk = record { segment = c.loop-at.at.segment; place = c.loop-at.at.place + 1; inner = c.loop-at.at.inner; sum = c.loop-at.at.sum } in
+    let read = start_read c.args.column_indexes.now c.args.order.now c.loop-at.at _ _ _ _ c.requires.segments.fit
+    (omega arith) c.segment_num_rows-num_rows.ensures c.index-column_indexes-segment.is c.start_at.ensures
+    c.in-Some.is in
+    let after : Walk = record {
+      segment = c.loop-at.at.segment;
+      place = c.loop-at.at.place + 1;
+      inner = c.loop-at.at.inner;
+      sum = c.loop-at.at.sum;
+    } in
     sym c.loop-at.invariant.left
-    ∙ start_given (segments_of c.args.column_indexes.now c.args.order.now) c.loop-at.at after c.requires.segments c.loop-at.invariant.stands (omega arith) c.in-Some.start read refl refl refl
-    ∙ ap (λ start. (c.loop-at.at.sum + start) ∷ stacked_offsets_to_give (segments_of c.args.column_indexes.now c.args.order.now) after) (sym c.from.ensures)
+    ∙ start_given (index_segments c.args.column_indexes.now c.args.order.now) c.loop-at.at after c.requires.segments
+    c.loop-at.invariant.stands (omega arith) c.in-Some.start read refl refl refl
+    ∙ ap (λ start. (c.loop-at.at.sum + start)
+    ∷ stacked_offsets_to_give (index_segments c.args.column_indexes.now c.args.order.now) after)
+    (sym c.from.ensures)
 
 pub num_values-requires : goal.num_values-requires
 num_values-requires c =
-    let sum = sum_read c.args.column_indexes.now c.args.order.now c.loop-at.at.segment _ _ c.requires.segments.fit (omega arith) c.segment_num_rows-num_rows.ensures c.index-column_indexes-segment.is in
-    omega (arith, sum, sum_fits (segments_of c.args.column_indexes.now c.args.order.now) c.loop-at.at.segment c.requires.segments (omega arith))
+    let sum = sum_read c.args.column_indexes.now c.args.order.now c.loop-at.at.segment _ _ c.requires.segments.fit
+    (omega arith) c.segment_num_rows-num_rows.ensures c.index-column_indexes-segment.is in
+    omega (
+      arith,
+      sum,
+      sum_fits (index_segments c.args.column_indexes.now c.args.order.now) c.loop-at.at.segment
+          c.requires.segments (omega arith),
+    )
 
 pub loop-at-preserved : goal.loop-at-preserved
 loop-at-preserved c =
-    let read = start_read c.args.column_indexes.now c.args.order.now c.loop-at.at _ _ _ _ c.requires.segments.fit (omega arith) c.segment_num_rows-num_rows.ensures c.index-column_indexes-segment.is c.start_at.ensures c.in-None.is in
-    let after : Walk = record { segment = c.loop-at.at.segment + 1; place = 1; inner = c.loop-at.at.inner; sum = c.loop-at.at.sum + c.from-in-None.result } in
-    let values = sum_read c.args.column_indexes.now c.args.order.now c.loop-at.at.segment _ _ c.requires.segments.fit (omega arith) c.segment_num_rows-num_rows.ensures c.index-column_indexes-segment.is in
+    let read = start_read c.args.column_indexes.now c.args.order.now c.loop-at.at _ _ _ _ c.requires.segments.fit
+    (omega arith) c.segment_num_rows-num_rows.ensures c.index-column_indexes-segment.is c.start_at.ensures
+    c.in-None.is in
+    let after : Walk = record {
+      segment = c.loop-at.at.segment + 1;
+      place = 1;
+      inner = c.loop-at.at.inner;
+      sum = c.loop-at.at.sum + c.from-in-None.result;
+    } in
+    let values = sum_read c.args.column_indexes.now c.args.order.now c.loop-at.at.segment _ _
+    c.requires.segments.fit (omega arith) c.segment_num_rows-num_rows.ensures
+    c.index-column_indexes-segment.is in
     let sum = ap (λ n. c.loop-at.at.sum + n) (c.from-in-None.ensures ∙ c.num_values.ensures ∙ values) in
     record {
       begun = omega arith;
-      stands = starts_stand (segments_of c.args.column_indexes.now c.args.order.now) c.loop-at.at after c.requires.segments c.loop-at.invariant.stands (omega arith) read refl refl sum;
-      left = starts_left (segments_of c.args.column_indexes.now c.args.order.now) c.loop-at.at after c.requires.segments c.loop-at.invariant.stands (omega arith) read refl refl sum ∙ c.loop-at.invariant.left;
+      stands =
+          starts_stand (index_segments c.args.column_indexes.now c.args.order.now) c.loop-at.at after
+          c.requires.segments c.loop-at.invariant.stands (omega arith) read refl refl sum;
+      left =
+          starts_left (index_segments c.args.column_indexes.now c.args.order.now) c.loop-at.at after
+          c.requires.segments c.loop-at.invariant.stands (omega arith) read refl refl sum
+          ∙ c.loop-at.invariant.left;
     }
 
 pub returns-clause-value : goal.returns-clause-value
 returns-clause-value c =
-    let left = offsets_end (segments_of c.args.column_indexes.now c.args.order.now) c.loop-at.at c.loop-at.at c.requires.segments c.loop-at.invariant.stands (omega arith) c.loop-at.invariant.begun in
+    let left = offsets_end (index_segments c.args.column_indexes.now c.args.order.now) c.loop-at.at c.loop-at.at
+    c.requires.segments c.loop-at.invariant.stands (omega arith) c.loop-at.invariant.begun in
     (sym c.loop-at.invariant.left ∙ left, left)

@@ -47,11 +47,14 @@ loop-start-preserved c =
       begun = omega arith;
       within = omega (arith, inside);
       whole =
-          appended-more c.args.before c.loop-start.place c.in-Some.start _ (starts_of counts) c.loop-start.starts.items _ (ap (λ n. c.args.before + n) c.from.ensures) c.in_ok-push.ensures.items read
+          appended-more c.args.before c.loop-start.place c.in-Some.start _ (starts_of counts)
+          c.loop-start.starts.items _ (ap (λ n. c.args.before + n) c.from.ensures) c.in_ok-push.ensures.items
+          read
           ∙ c.loop-start.invariant.whole;
     }
 
 pub returns : goal.returns
 returns c =
     let counts = counts_in c.args.num_rows (shape_of c.args.column_index.now) in
-    appended-all c.args.before c.loop-start.place (starts_of counts) c.loop-start.starts.items (sym c.start_at.ensures ∙ c.in_default.is) ∙ c.loop-start.invariant.whole
+    appended-all c.args.before c.loop-start.place (starts_of counts) c.loop-start.starts.items
+    (sym c.start_at.ensures ∙ c.in_default.is) ∙ c.loop-start.invariant.whole

@@ -11,7 +11,8 @@ invariant-loop-start l =
     record {
       begun : 0 < l.place;
       within : l.place ≤ length (starts_of counts);
-      whole : l.starts.items ++ drop l.place (map (λ start. l.before + start) (starts_of counts)) ≡ l.initial.starts.items ++ ends_behind l.before counts;
+      whole : l.starts.items ++ drop l.place (map (λ start. l.before + start) (starts_of counts))
+          ≡ l.initial.starts.items ++ ends_behind l.before counts;
     }
 
 abbrev pub decreases-loop-start : goal.decreases-loop-start

@@ -33,11 +33,13 @@ loop-row-preserved c =
     record {
       within = omega (arith, inside);
       whole =
-          appended-more c.args.before c.loop-row.rank c.in-Some.row _ (rows_with_value counts) c.loop-row.rows.items _ (ap (λ n. c.args.before + n) c.from.ensures) c.in_ok-push.ensures.items read
+          appended-more c.args.before c.loop-row.rank c.in-Some.row _ (rows_with_value counts) c.loop-row.rows.items
+          _ (ap (λ n. c.args.before + n) c.from.ensures) c.in_ok-push.ensures.items read
           ∙ c.loop-row.invariant.whole;
     }
 
 pub returns : goal.returns
 returns c =
     let counts = counts_in c.args.num_rows (shape_of c.args.column_index.now) in
-    appended-all c.args.before c.loop-row.rank (rows_with_value counts) c.loop-row.rows.items (sym c.row_at.ensures ∙ c.in_default.is) ∙ c.loop-row.invariant.whole
+    appended-all c.args.before c.loop-row.rank (rows_with_value counts) c.loop-row.rows.items
+    (sym c.row_at.ensures ∙ c.in_default.is) ∙ c.loop-row.invariant.whole

@@ -10,6 +10,7 @@ returns-in_err-serialize_bytes-2 g c =
 
 pub returns : goal.returns
 returns g c =
-    let whole = footer-parts c.args.key_table_len c.args.num_docs c.to_le_bytes.result c.to_le_bytes-2.result c.footer.result c.to_le_bytes.ensures c.to_le_bytes-2.ensures c.footer.ensures in
+    let whole = footer-parts c.args.key_table_len c.args.num_docs c.to_le_bytes.result c.to_le_bytes-2.result
+    c.footer.result c.to_le_bytes.ensures c.to_le_bytes-2.ensures c.footer.ensures in
     let front = serializes-then _ _ _ _ _ _ _ c.in_ok-serialize_bytes.ensures c.in_ok-serialize_bytes-2.ensures in
     serializes-as _ _ _ _ _ (serializes-then _ _ _ _ _ _ _ front c.serialize_bytes-3.ensures) whole

@@ -6,4 +6,6 @@ use Rattle.col_keys.proofs.ItemLemmas.{with_front}
 use Rattle.col_keys.proofs.key_table.parse_keyed_lengths.Given as goal
 
 abbrev pub invariant-loop : goal.invariant-loop
-invariant-loop l = with_front (all_keyed l.found.items) (items keyed_length (l.count - l.counter) l.rest) ≡ items keyed_length l.count l.bytes
+invariant-loop l =
+    with_front (all_keyed l.found.items) (items keyed_length (l.count - l.counter) l.rest)
+    ≡ items keyed_length l.count l.bytes

@@ -10,7 +10,8 @@ loop-handle-init g c =
     let s = c.args.slot.now in
     let es = c.args.reader.now.keys.entries in
     let gives = c.into_iter-handle-iterator.ensures.into_iter_gives in
-    let is : into_iter_items c.into_iter-handle-iterator.result ≡ map handle_of (entries_named s.name es) = gives.0 ∙ c.in_ok-handles.ensures.ok ∙ ap (λ name. map handle_of (entries_named name es)) c.name.ensures in
+    let is : into_iter_items c.into_iter-handle-iterator.result ≡ map handle_of (entries_named s.name es) =
+    gives.0 ∙ c.in_ok-handles.ensures.ok ∙ ap (λ name. map handle_of (entries_named name es)) c.name.ensures in
     let many = ap length gives.0 in
     let long = gives.1 in
     (ap (find (is_in s.category)) is ∙ found-handle s es, omega (arith, c.in_ok-handles.handles.ok.0))

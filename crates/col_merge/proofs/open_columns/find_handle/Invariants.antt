@@ -3,7 +3,7 @@ use Rattle.std.specs.Vec.Iter.{into_iter_items, into_iter_len}
 use Rattle.col_model.specs.Category.{same_slot}
 use Rattle.col_file.specs.Handles.{handle_of}
 use Rattle.col_merge.specs.Opened.{is_in}
-use Rattle.col_slots.specs.Slots.{entry_slot}
+use Rattle.col_merge_plan.specs.Slots.{entry_slot}
 use Rattle.col_merge.proofs.open_columns.find_handle.Given as goal
 
 abbrev pub invariant-loop-handle : goal.invariant-loop-handle

@@ -1,5 +1,5 @@
 use Rattle.std.proofs.Common.{◌≡◌, take}
-use Rattle.col_slots.specs.Slots.{counts_read}
+use Rattle.col_merge_plan.specs.Slots.{counts_read}
 use Rattle.col_merge.proofs.stack_from_readers.row_counts.Given as goal
 
 abbrev pub invariant-loop-reader : goal.invariant-loop-reader

@@ -18,8 +18,13 @@ loop-slot-init g c =
     let rs = c.args.columnar_readers.now in
     let a = g.K.Sink.seen c.args.output.now in
     let order = order_of c.args.merge_row_order.now in
-    let n = length (picks_of order) in
-    (all_read-none (slots_reads []) rs, goes-itself a, λ required types. subst (λ cs. MergedSoFar rs a a cs n (joined_by order required) []) (sym c.requires.none) (slots-none rs a n (joined_by order required)))
+    let n = length (picks_of order) in (
+      all_read-none (slots_reads []) rs,
+      goes-itself a,
+      λ required types. subst
+          (λ cs. MergedSoFar rs a a cs n (joined_by order required) []) (sym c.requires.none)
+          (slots-none rs a n (joined_by order required)),
+    )
 
 pub loop-slot-preserved : goal.loop-slot-preserved
 loop-slot-preserved g c =
@@ -31,10 +36,15 @@ loop-slot-preserved g c =
     let n = length (picks_of (order_of c.args.merge_row_order.now)) in
     let was = c.loop-slot.invariant in
     let slot = c.slot-item.result in
-    let wanted : option_map kind_of c.copied-wanted.result ≡ option_map kind_of (get slot_cmp c.args.types.now slot) = ap (option_map kind_of) (cc (c.get.ensures.value, c.copied-wanted.ensures)) in (
-      read-more c.args.slots.now c.loop-slot.slot-index slot (omega (arith, c.loop-slot-test.true)) c.slot-item.is rs mids c.merge_slot.new.columnar_readers was.0 c.in_ok-merge_slot.ensures.kept,
+    let wanted : option_map kind_of c.copied-wanted.result ≡ option_map kind_of (get slot_cmp c.args.types.now slot) =
+    ap (option_map kind_of) (cc (c.get.ensures.value, c.copied-wanted.ensures)) in (
+      read-more c.args.slots.now c.loop-slot.slot-index slot (omega (arith, c.loop-slot-test.true)) c.slot-item.is
+          rs mids c.merge_slot.new.columnar_readers was.0 c.in_ok-merge_slot.ensures.kept,
       goes-then start a b was.1 c.in_ok-merge_slot.ensures.sink,
-      λ required types. turn-more (slots_reads (take c.loop-slot.slot-index c.args.slots.now)) rs mids start a b c.loop-slot.columns c.merge_slot.new.columns n (joined_by (order_of c.args.merge_row_order.now) required) c.args.slots.now c.loop-slot.slot-index slot (omega (arith, c.loop-slot-test.true)) c.slot-item.is (was.2 required types) was.0 (c.in_ok-merge_slot.ensures.answer required (wanted ∙ types slot)),
+      λ required types. turn-more (slots_reads (take c.loop-slot.slot-index c.args.slots.now)) rs mids start a b
+          c.loop-slot.columns c.merge_slot.new.columns n (joined_by (order_of c.args.merge_row_order.now) required)
+          c.args.slots.now c.loop-slot.slot-index slot (omega (arith, c.loop-slot-test.true)) c.slot-item.is
+          (was.2 required types) was.0 (c.in_ok-merge_slot.ensures.answer required (wanted ∙ types slot)),
     )
 
 pub returns-in_err-merge_slot-clause-answer : goal.returns-in_err-merge_slot-clause-answer
@@ -48,23 +58,40 @@ returns-in_err-merge_slot-clause-answer g c required types =
     let n = length (picks_of (order_of c.args.merge_row_order.now)) in
     let was = c.loop-slot.invariant in
     let slot = c.slot-item.result in
-    let wanted : option_map kind_of c.copied-wanted.result ≡ option_map kind_of (get slot_cmp c.args.types.now slot) = ap (option_map kind_of) (cc (c.get.ensures.value, c.copied-wanted.ensures)) in
-    rw (p.1, p.2) (turn-refused (slots_reads (take c.loop-slot.slot-index c.args.slots.now)) rs mids start a b c.loop-slot.columns c.merge_slot.new.columns n (joined_by (order_of c.args.merge_row_order.now) required) c.args.slots.now c.loop-slot.slot-index slot (omega (arith, c.loop-slot-test.true)) c.slot-item.is (was.2 required types) was.0 c.merge_slot.new.columnar_readers c.in_err-merge_slot.field-0.0 (c.in_err-merge_slot.ensures.answer required (wanted ∙ types slot)))
+    let wanted : option_map kind_of c.copied-wanted.result ≡ option_map kind_of (get slot_cmp c.args.types.now slot)
+    = ap (option_map kind_of) (cc (c.get.ensures.value, c.copied-wanted.ensures)) in
+    rw (p.1, p.2) (turn-refused (slots_reads (take c.loop-slot.slot-index c.args.slots.now)) rs mids start a b
+    c.loop-slot.columns c.merge_slot.new.columns n (joined_by (order_of c.args.merge_row_order.now) required)
+    c.args.slots.now c.loop-slot.slot-index slot (omega (arith, c.loop-slot-test.true)) c.slot-item.is
+    (was.2 required types) was.0 c.merge_slot.new.columnar_readers c.in_err-merge_slot.field-0.0
+    (c.in_err-merge_slot.ensures.answer required (wanted ∙ types slot)))
 
 pub returns-in_err-merge_slot-clause-kept : goal.returns-in_err-merge_slot-clause-kept
-returns-in_err-merge_slot-clause-kept g c = read-stops c.args.slots.now c.loop-slot.slot-index c.slot-item.result (omega (arith, c.loop-slot-test.true)) c.slot-item.is c.args.columnar_readers.now c.loop-slot.columnar_readers c.merge_slot.new.columnar_readers c.loop-slot.invariant.0 c.in_err-merge_slot.ensures.kept
+returns-in_err-merge_slot-clause-kept g c =
+    read-stops c.args.slots.now c.loop-slot.slot-index c.slot-item.result (omega (arith, c.loop-slot-test.true))
+    c.slot-item.is c.args.columnar_readers.now c.loop-slot.columnar_readers c.merge_slot.new.columnar_readers
+    c.loop-slot.invariant.0 c.in_err-merge_slot.ensures.kept
 
 pub returns-in_err-merge_slot-clause-sink : goal.returns-in_err-merge_slot-clause-sink
-returns-in_err-merge_slot-clause-sink g c = goes-then (g.K.Sink.seen c.args.output.now) (g.K.Sink.seen c.loop-slot.output) (g.K.Sink.seen c.merge_slot.new.output) c.loop-slot.invariant.1 c.in_err-merge_slot.ensures.sink
+returns-in_err-merge_slot-clause-sink g c =
+    goes-then (g.K.Sink.seen c.args.output.now) (g.K.Sink.seen c.loop-slot.output)
+    (g.K.Sink.seen c.merge_slot.new.output) c.loop-slot.invariant.1 c.in_err-merge_slot.ensures.sink
 
 pub merge_slot-requires : goal.merge_slot-requires
-merge_slot-requires g c = counts-stay (slots_reads (take c.loop-slot.slot-index c.args.slots.now)) c.args.columnar_readers.now c.loop-slot.columnar_readers c.loop-slot.invariant.0 ∙ c.requires.counts
+merge_slot-requires g c =
+    counts-stay (slots_reads (take c.loop-slot.slot-index c.args.slots.now)) c.args.columnar_readers.now
+    c.loop-slot.columnar_readers c.loop-slot.invariant.0 ∙ c.requires.counts
 
 pub returns-clause-answer : goal.returns-clause-answer
 returns-clause-answer g c required types =
     let rs = c.args.columnar_readers.now in
     let order = order_of c.args.merge_row_order.now in
-    subst (λ ss. MergedSoFar rs (g.K.Sink.seen c.args.output.now) (g.K.Sink.seen c.loop-slot.output) c.loop-slot.columns (length (picks_of order)) (joined_by order required) ss) (all-taken c.args.slots.now c.loop-slot.slot-index (omega (arith, c.loop-slot-test.false))) (c.loop-slot.invariant.2 required types)
+    subst (λ ss. MergedSoFar rs (g.K.Sink.seen c.args.output.now) (g.K.Sink.seen c.loop-slot.output)
+    c.loop-slot.columns (length (picks_of order)) (joined_by order required) ss)
+    (all-taken c.args.slots.now c.loop-slot.slot-index (omega (arith, c.loop-slot-test.false)))
+    (c.loop-slot.invariant.2 required types)
 
 pub returns-clause-kept : goal.returns-clause-kept
-returns-clause-kept g c = read-all c.args.slots.now c.loop-slot.slot-index c.args.columnar_readers.now c.loop-slot.columnar_readers c.loop-slot.invariant.0
+returns-clause-kept g c =
+    read-all c.args.slots.now c.loop-slot.slot-index c.args.columnar_readers.now c.loop-slot.columnar_readers
+    c.loop-slot.invariant.0

@@ -10,4 +10,6 @@ returns c =
     let values = num_values_of c.args.values.now in
     let bound = c.max_value.result in
     let told = c.max_value.ensures.value in
-    grind (arith, nat_tests, c.cast_unsigned.ensures) ∙ bound_tells fits_i64 values bound (λ e. ap fits_i64 (told.without_values e)) told.value (λ t k d within. below_fits bound _ (told.above k d within) t)
+    grind (arith, nat_tests, c.cast_unsigned.ensures)
+    ∙ bound_tells fits_i64 values bound (λ e. ap fits_i64 (told.without_values e)) told.value
+    (λ t k d within. below_fits bound _ (told.above k d within) t)

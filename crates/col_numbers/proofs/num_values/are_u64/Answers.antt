@@ -11,4 +11,6 @@ returns c =
     let values = num_values_of c.args.values.now in
     let bound = c.min_value.result in
     let told = c.min_value.ensures.value in
-    grind (arith, ints, nat_tests) ∙ bound_tells is_not_negative values bound (λ e. ap is_not_negative (told.without_values e)) told.value (λ t k d within. above_fits bound _ (told.below k d within) t)
+    grind (arith, ints, nat_tests)
+    ∙ bound_tells is_not_negative values bound (λ e. ap is_not_negative (told.without_values e)) told.value
+    (λ t k d within. above_fits bound _ (told.below k d within) t)

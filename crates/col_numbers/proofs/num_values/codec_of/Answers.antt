@@ -6,4 +6,6 @@ pub returns-in_default-clause-none : goal.returns-in_default-clause-none
 returns-in_default-clause-none c = values64-nothing c.args.bytes.now (omega (arith, c.in_default.len_below))
 
 pub returns-clause-none : goal.returns-clause-none
-returns-clause-none c = values64-no_codec c.args.bytes.now c.try_from_code.result (omega (arith, c.in-len1-up.len_at_least)) c.try_from_code.ensures
+returns-clause-none c =
+    values64-no_codec c.args.bytes.now c.try_from_code.result (omega (arith, c.in-len1-up.len_at_least))
+    c.try_from_code.ensures

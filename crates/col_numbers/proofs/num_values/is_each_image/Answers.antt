@@ -10,7 +10,9 @@ returns-then-not-is_image g c =
     let is_code = g.T.MonotonicallyMappableToU64.is_code in
     let xs = list_of c.args.values.now in
     let v = c.get_val.result in
-    sym (list_all_at is_code xs c.loop-idx.idx v (omega arith) (ap is_code (get_or_from_slice_get xs c.loop-idx.idx v v c.get_val.ensures) ∙ sym c.is_image.ensures ∙ c.if-not-is_image.true))
+    sym (list_all_at is_code xs c.loop-idx.idx v (omega arith) (
+    ap is_code (get_or_from_slice_get xs c.loop-idx.idx v v c.get_val.ensures) ∙ sym c.is_image.ensures
+    ∙ c.if-not-is_image.true))
 
 pub loop-idx-preserved : goal.loop-idx-preserved
 loop-idx-preserved g c =
@@ -18,4 +20,5 @@ loop-idx-preserved g c =
     let xs = list_of c.args.values.now in
     let v = c.get_val.result in
     list_all_more is_code xs c.loop-idx.idx v (omega arith)
-    ∙ and_from _ _ c.loop-idx.invariant (ap is_code (get_or_from_slice_get xs c.loop-idx.idx v v c.get_val.ensures) ∙ sym c.is_image.ensures ∙ c.if-not-is_image.false)
+    ∙ and_from _ _ c.loop-idx.invariant (ap is_code (get_or_from_slice_get xs c.loop-idx.idx v v c.get_val.ensures)
+    ∙ sym c.is_image.ensures ∙ c.if-not-is_image.false)

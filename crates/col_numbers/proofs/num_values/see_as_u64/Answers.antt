@@ -7,19 +7,29 @@ use Rattle.col_numbers.proofs.CoercionLemmas.{whole_list_to_u64, half_list_to_u6
 use Rattle.col_numbers.proofs.num_values.see_as_u64.Goals as goal
 
 pub new-requires : goal.new-requires
-new-requires c = (whole_list_to_u64 (list_of c.into_parts.result.0) c.in-Read.view c.into_parts.ensures.values c.into_parts.ensures.seen (ap (λ v. list_all is_not_negative (num_values_of v)) (sym c.in-Read.is) ∙ c.requires)).0
+new-requires c =
+    (whole_list_to_u64 (list_of c.into_parts.result.0) c.in-Read.view c.into_parts.ensures.values
+    c.into_parts.ensures.seen
+    (ap (λ v. list_all is_not_negative (num_values_of v)) (sym c.in-Read.is) ∙ c.requires)).0
 
 pub returns-in-Read : goal.returns-in-Read
 returns-in-Read c =
     c.new.ensures
-    ∙ (whole_list_to_u64 (list_of c.into_parts.result.0) c.in-Read.view c.into_parts.ensures.values c.into_parts.ensures.seen (ap (λ v. list_all is_not_negative (num_values_of v)) (sym c.in-Read.is) ∙ c.requires)).1
+    ∙ (whole_list_to_u64 (list_of c.into_parts.result.0) c.in-Read.view c.into_parts.ensures.values
+    c.into_parts.ensures.seen
+    (ap (λ v. list_all is_not_negative (num_values_of v)) (sym c.in-Read.is) ∙ c.requires)).1
     ∙ ap (λ v. map nat_abs (num_values_of v)) (sym c.in-Read.is)
 
 pub new-requires-in-Coerced-2 : goal.new-requires-in-Coerced-2
-new-requires-in-Coerced-2 c = (half_list_to_u64 c.into_parts-in-Coerced.result.1.rises (list_of c.into_parts-in-Coerced.result.0) c.in-Coerced.view c.into_parts-in-Coerced.ensures.values c.into_parts-in-Coerced.ensures.seen (ap (λ v. list_all is_not_negative (num_values_of v)) (sym c.in-Coerced.is) ∙ c.requires)).0
+new-requires-in-Coerced-2 c =
+    (half_list_to_u64 c.into_parts-in-Coerced.result.1.rises (list_of c.into_parts-in-Coerced.result.0)
+    c.in-Coerced.view c.into_parts-in-Coerced.ensures.values c.into_parts-in-Coerced.ensures.seen
+    (ap (λ v. list_all is_not_negative (num_values_of v)) (sym c.in-Coerced.is) ∙ c.requires)).0
 
 pub returns-in-Coerced : goal.returns-in-Coerced
 returns-in-Coerced c =
     c.new-in-Coerced-2.ensures
-    ∙ (half_list_to_u64 c.into_parts-in-Coerced.result.1.rises (list_of c.into_parts-in-Coerced.result.0) c.in-Coerced.view c.into_parts-in-Coerced.ensures.values c.into_parts-in-Coerced.ensures.seen (ap (λ v. list_all is_not_negative (num_values_of v)) (sym c.in-Coerced.is) ∙ c.requires)).1
+    ∙ (half_list_to_u64 c.into_parts-in-Coerced.result.1.rises (list_of c.into_parts-in-Coerced.result.0)
+    c.in-Coerced.view c.into_parts-in-Coerced.ensures.values c.into_parts-in-Coerced.ensures.seen
+    (ap (λ v. list_all is_not_negative (num_values_of v)) (sym c.in-Coerced.is) ∙ c.requires)).1
     ∙ ap (λ v. map nat_abs (num_values_of v)) (sym c.in-Coerced.is)

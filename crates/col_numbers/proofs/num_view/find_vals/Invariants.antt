@@ -9,7 +9,10 @@ invariant-loop-done g l =
       room : length l.output ≡ length l.fn.output;
       block : 0 < length l.block;
       within : l.done ≤ length l.output;
-      found : take l.done l.output ≡ map (slice_get (map (λ n. g.T.MonotonicallyMappableToU64.value (g.M.StrictlyMonotonicFn.there l.mapping n)) (list_of l.values))) (take l.done l.indexes);
+      found : take l.done l.output
+          ≡ map (slice_get (map
+          (λ n. g.T.MonotonicallyMappableToU64.value (g.M.StrictlyMonotonicFn.there l.mapping n))
+          (list_of l.values))) (take l.done l.indexes);
     }
 
 abbrev pub decreases-loop-done : goal.decreases-loop-done

@@ -9,7 +9,9 @@ invariant-loop-done g l =
       room : length l.output ≡ length l.fn.output;
       block : 0 < length l.block;
       within : l.done ≤ length l.output;
-      seen : take l.done l.output ≡ map (λ n. g.T.MonotonicallyMappableToU64.value (g.M.StrictlyMonotonicFn.there l.mapping n)) (take l.done (drop l.start (list_of l.values)));
+      seen : take l.done l.output
+          ≡ map (λ n. g.T.MonotonicallyMappableToU64.value (g.M.StrictlyMonotonicFn.there l.mapping n))
+          (take l.done (drop l.start (list_of l.values)));
     }
 
 abbrev pub decreases-loop-done : goal.decreases-loop-done

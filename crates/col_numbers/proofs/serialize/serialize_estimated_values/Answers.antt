@@ -13,17 +13,20 @@ returns-in_err-serialize-clause-ok g c =
     let xs = map g.T.MonotonicallyMappableToU64.code (g.I.Iterable.items c.args.vals.now) in
     let best = subst (HasBest xs (map code_of c.args.codec_types.now)) c.in-Some-2.is c.in_ok-chosen.ensures.ok in
     let p = err_from_is_err_and c.from_residual-in_err-serialize.result c.from_residual-in_err-serialize.ensures.1 in
-    rw (p.1, p.2) (at_some _ _ _ best.0 (λ _. behind_code _ _ _ _ _ _ _ xs c.to_code.ensures c.in_ok-serialize_bytes.ensures (from_some _ _ _ best.1.estimated c.in_err-serialize.ensures.ok)))
+    rw (p.1, p.2) (at_some _ _ _ best.0 (λ _. behind_code _ _ _ _ _ _ _ xs c.to_code.ensures
+    c.in_ok-serialize_bytes.ensures (from_some _ _ _ best.1.estimated c.in_err-serialize.ensures.ok)))
 
 pub returns-clause-list : goal.returns-clause-list
 returns-clause-list g c =
     let xs = map g.T.MonotonicallyMappableToU64.code (g.I.Iterable.items c.args.vals.now) in
     let best = subst (HasBest xs (map code_of c.args.codec_types.now)) c.in-Some-2.is c.in_ok-chosen.ensures.ok in
     appends_list _ _ _ xs _ _ c.in-Some.ensures.fit c.in-Some.ensures.count best.0
-    (behind_code _ _ _ _ _ _ _ xs c.to_code.ensures c.in_ok-serialize_bytes.ensures (from_some _ _ _ best.1.estimated c.in_ok-serialize.ensures.ok))
+    (behind_code _ _ _ _ _ _ _ xs c.to_code.ensures c.in_ok-serialize_bytes.ensures
+    (from_some _ _ _ best.1.estimated c.in_ok-serialize.ensures.ok))
 
 pub returns-clause-ok : goal.returns-clause-ok
 returns-clause-ok g c =
     let xs = map g.T.MonotonicallyMappableToU64.code (g.I.Iterable.items c.args.vals.now) in
     let best = subst (HasBest xs (map code_of c.args.codec_types.now)) c.in-Some-2.is c.in_ok-chosen.ensures.ok in
-    at_some _ _ _ best.0 (λ _. behind_code _ _ _ _ _ _ _ xs c.to_code.ensures c.in_ok-serialize_bytes.ensures (from_some _ _ _ best.1.estimated c.in_ok-serialize.ensures.ok))
+    at_some _ _ _ best.0 (λ _. behind_code _ _ _ _ _ _ _ xs c.to_code.ensures c.in_ok-serialize_bytes.ensures
+    (from_some _ _ _ best.1.estimated c.in_ok-serialize.ensures.ok))

@@ -7,7 +7,11 @@ loop-addr-init c = marked-none _ _ c.in_ok-sets.ensures
 
 pub index_mut-requires : goal.index_mut-requires
 index_mut-requires c =
-    omega (arith, (row_there _ _ _ (record { segment_ord = 0; row_id = 0 }) c.requires c.loop-addr-test.true).0, c.loop-addr.invariant.segments)
+    omega (
+      arith,
+      (row_there _ _ _ (record { segment_ord = 0; row_id = 0 }) c.requires c.loop-addr-test.true).0,
+      c.loop-addr.invariant.segments,
+    )
 
 pub insert-requires : goal.insert-requires
 insert-requires c =

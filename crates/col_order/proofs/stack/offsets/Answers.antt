@@ -11,4 +11,8 @@ loop-count-preserved c = record {
 
 pub returns : goal.returns
 returns c =
-    grind (arith, offset_put _ _ _ c.loop-count.count-index _ c.loop-count.invariant.offsets_are c.loop-count.invariant.start_is c.in_ok-push-2.ensures.items)
+    grind (
+      arith,
+      offset_put _ _ _ c.loop-count.count-index _ c.loop-count.invariant.offsets_are
+          c.loop-count.invariant.start_is c.in_ok-push-2.ensures.items,
+    )

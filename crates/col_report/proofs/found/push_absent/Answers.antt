@@ -1,4 +1,4 @@
-use Rattle.col_find.specs.Finds as finds
+use Rattle.col_lines.specs.Finds as finds
 use Rattle.col_report.proofs.FoundLemmas.{absent-printed}
 use Rattle.col_report.proofs.found.push_absent.Goals as goal
 

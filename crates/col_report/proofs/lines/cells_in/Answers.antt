@@ -1,5 +1,5 @@
 use Rattle.std.proofs.Common.{ℕ, map, ap, ◌∙◌}
-use Rattle.col_column.specs.Columns.{Seen, rows_in}
+use Rattle.col_column.specs.Columns.{Seen, rows_of_values}
 use Rattle.col_model.specs.Column.{term_cell}
 use Rattle.col_model.specs.Limits.{cell_count}
 use Rattle.col_model.specs.Table.{number}
@@ -27,9 +27,12 @@ returns-in-DateTime c = rw c.in-DateTime.is (c.values_in-in-DateTime.ensures (λ
 pub returns-in-Bytes : goal.returns-in-Bytes
 returns-in-Bytes c =
     let cell = term_cell c.in-Bytes.column.terms in
-    rw c.in-Bytes.is (c.values_in-in-Bytes.ensures cell ∙ ap (λ (o : Seen (NumValues ℕ)). cell_count (map (map cell) (rows_in num_values_of o))) c.ords.ensures)
+    rw c.in-Bytes.is (c.values_in-in-Bytes.ensures cell
+    ∙ ap (λ (o : Seen (NumValues ℕ)). cell_count (map (map cell) (rows_of_values num_values_of o))) c.ords.ensures)
 
 pub returns-in-Str : goal.returns-in-Str
 returns-in-Str c =
     let cell = term_cell c.in-Str.column.terms in
-    rw c.in-Str.is (c.values_in-in-Str.ensures cell ∙ ap (λ (o : Seen (NumValues ℕ)). cell_count (map (map cell) (rows_in num_values_of o))) (c.ords-in-Str.ensures ∙ ap (λ (t : Texts). t.ords) c.bytes_column.ensures))
+    rw c.in-Str.is (c.values_in-in-Str.ensures cell
+    ∙ ap (λ (o : Seen (NumValues ℕ)). cell_count (map (map cell) (rows_of_values num_values_of o)))
+    (c.ords-in-Str.ensures ∙ ap (λ (t : Texts). t.ords) c.bytes_column.ensures))

@@ -11,5 +11,9 @@ returns g c =
     let cell = g.T.HasAssociatedColumnType.cell in
     let xs = g.V.ColumnValues.values a.column.now.values in
     let ends = c.new.ensures in
-    let same = c.lookups_are_those_of_cells.ensures [] a.column.now.shape xs (range_inclusive_start c.new.result) (range_inclusive_end c.new.result) a.selected.start a.selected.«end» ∙ (λ i. docs_between (content_seen [] cell a.column.now.shape xs) (cell (ends.start i)) (cell (ends.«end» i)) a.selected.start a.selected.«end») in
-    subst (Replaces c.get_docids_for_value_range.result c.get_docids_for_value_range.new.doc_ids.items) same c.get_docids_for_value_range.ensures.ok
+    let same = c.lookups_are_those_of_cells.ensures [] a.column.now.shape xs (range_inclusive_start c.new.result)
+    (range_inclusive_end c.new.result) a.selected.start a.selected.«end»
+    ∙ (λ i. docs_between (content_seen [] cell a.column.now.shape xs) (cell (ends.start i))
+    (cell (ends.«end» i)) a.selected.start a.selected.«end») in
+    subst (Replaces c.get_docids_for_value_range.result c.get_docids_for_value_range.new.doc_ids.items) same
+    c.get_docids_for_value_range.ensures.ok

@@ -3,7 +3,7 @@ use Rattle.std.specs.Vec.Iter.{into_iter_items, into_iter_len}
 use Rattle.std.proofs.lemmas.List.{map_push}
 use Rattle.std.proofs.lemmas.Result.{err_from_is_err_and}
 use Rattle.col_report.specs.Opened.{opened}
-use Rattle.col_report.proofs.OpenLemmas.{OpensFrom, Listed, opens-none, next-entry, opens-more, opens-refused, none-left, opens-all}
+use Rattle.col_report.proofs.OpenLemmas.{OpensFrom, Listed, opens-none, next-entry, opens-more, opens-refused, next-read, all-read, none-left, opens-all, reads-none, reads-fewer}
 use Rattle.col_report.proofs.open.open_columns.Goals as goal
 
 pub loop-name-init : goal.loop-name-init
@@ -30,9 +30,13 @@ loop-name-preserved g c =
     let was = at.invariant.1 in
     let short = ap length steps in
     let now = subst (λ ps. OpensFrom r at.reader ps made) steps at.invariant.0 in
-    let more : map opened c.push.new.self.items ≡ made ++ opened column ∷ [] = rw c.in_ok-push.ensures.items (map_push opened at.columns.items column) in
-    let entry = next-entry r at.reader c.open_named.new.reader x left made now in
-    (rw more (opens-more r at.reader c.open_named.new.reader x left made now column c.in_ok-column.ensures.kept (c.in_ok-column.ensures.answer entry)), omega arith)
+    let more : map opened c.push.new.self.items ≡ made ++ opened column ∷ [] =
+    rw c.in_ok-push.ensures.items (map_push opened at.columns.items column) in
+    let entry = next-entry r at.reader c.open_named.new.reader x left made now in (
+      rw more (opens-more r at.reader c.open_named.new.reader x left made now column c.in_ok-column.ensures.kept
+          (c.in_ok-column.ensures.answer entry)),
+      omega arith,
+    )
 
 pub returns-in_err-column-clause-answer : goal.returns-in_err-column-clause-answer
 returns-in_err-column-clause-answer g c =
@@ -45,7 +49,8 @@ returns-in_err-column-clause-answer g c =
     let now = subst (λ ps. OpensFrom r at.reader ps made) steps at.invariant.0 in
     let entry = next-entry r at.reader c.open_named.new.reader x left made now in
     let p = err_from_is_err_and c.from_residual-in_err-column.result c.from_residual-in_err-column.ensures.1 in
-    rw (p.1, p.2) (opens-refused r at.reader c.open_named.new.reader x left made now c.in_err-column.field-0.0 (c.in_err-column.ensures.answer entry))
+    rw (p.1, p.2) (opens-refused r at.reader c.open_named.new.reader x left made now c.in_err-column.field-0.0
+    (c.in_err-column.ensures.answer entry))
 
 pub returns-clause-answer : goal.returns-clause-answer
 returns-clause-answer g c =
@@ -55,3 +60,35 @@ returns-clause-answer g c =
     let made = map opened at.columns.items in
     let end_ = none-left left (into_iter_len at.name-iterator) c.in-None.ensures.steps.0 at.invariant.1 in
     opens-all r at.reader at.columns.items made (subst (λ ps. OpensFrom r at.reader ps made) end_ at.invariant.0) refl
+
+pub returns-in_err-column-clause-reads : goal.returns-in_err-column-clause-reads
+returns-in_err-column-clause-reads g c =
+    let r = c.args.reader.now in
+    let at = c.loop-name in
+    let x : Listed = (c.in-Some.name, c.in-Some.handle) in
+    let left = into_iter_items c.next.new.self in
+    let made = map opened at.columns.items in
+    let steps : into_iter_items at.name-iterator ≡ x ∷ left = c.in-Some.ensures.steps.0 in
+    let now = subst (λ ps. OpensFrom r at.reader ps made) steps at.invariant.0 in
+    next-read r at.reader c.open_named.new.reader x left made now c.in_err-column.ensures.kept
+
+pub returns-in_err-push-clause-reads : goal.returns-in_err-push-clause-reads
+returns-in_err-push-clause-reads g c =
+    let r = c.args.reader.now in
+    let at = c.loop-name in
+    let x : Listed = (c.in-Some.name, c.in-Some.handle) in
+    let left = into_iter_items c.next.new.self in
+    let made = map opened at.columns.items in
+    let steps : into_iter_items at.name-iterator ≡ x ∷ left = c.in-Some.ensures.steps.0 in
+    let now = subst (λ ps. OpensFrom r at.reader ps made) steps at.invariant.0 in
+    next-read r at.reader c.open_named.new.reader x left made now c.in_ok-column.ensures.kept
+
+pub returns-clause-reads : goal.returns-clause-reads
+returns-clause-reads g c =
+    all-read c.args.reader.now c.loop-name.reader (into_iter_items c.loop-name.name-iterator)
+    (map opened c.loop-name.columns.items) c.loop-name.invariant.0
+
+pub returns-in_err-name-items-clause-reads : goal.returns-in_err-name-items-clause-reads
+returns-in_err-name-items-clause-reads g c =
+    let r = c.args.reader.now in
+    reads-fewer r r 0 (length r.keys.entries) (omega arith) (reads-none r)

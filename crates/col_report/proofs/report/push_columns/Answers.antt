@@ -9,7 +9,11 @@ pub loop-named-init : goal.loop-named-init
 loop-named-init c = Prints-none _
 
 pub loop-named-preserved : goal.loop-named-preserved
-loop-named-preserved c = lines-more (λ n. column_lines c.args.short (opened n)) _ _ _ c.args.columns.now c.loop-named.named-index c.named-item.result (omega arith) c.named-item.is c.loop-named.invariant c.in_ok-push_named.ensures
+loop-named-preserved c =
+    lines-more (λ n. column_lines c.args.short (opened n)) _ _ _ c.args.columns.now c.loop-named.named-index
+    c.named-item.result (omega arith) c.named-item.is c.loop-named.invariant c.in_ok-push_named.ensures
 
 pub returns : goal.returns
-returns c = lines-all (λ n. column_lines c.args.short (opened n)) _ _ c.args.columns.now c.loop-named.named-index (omega arith) c.loop-named.invariant
+returns c =
+    lines-all (λ n. column_lines c.args.short (opened n)) _ _ c.args.columns.now c.loop-named.named-index
+    (omega arith) c.loop-named.invariant

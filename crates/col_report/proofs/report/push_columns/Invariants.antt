@@ -4,4 +4,6 @@ use Rattle.col_report.specs.Opened.{opened}
 use Rattle.col_report.proofs.report.push_columns.Given as goal
 
 abbrev pub invariant-loop-named : goal.invariant-loop-named
-invariant-loop-named l = Prints l.initial.out.items l.out.items (flat_map (λ c. column_lines l.short (opened c)) (take l.named-index l.columns))
+invariant-loop-named l =
+    Prints l.initial.out.items l.out.items
+    (flat_map (λ c. column_lines l.short (opened c)) (take l.named-index l.columns))

@@ -5,5 +5,6 @@ use Rattle.col_report.proofs.rows.push_others.Given as goal
 
 abbrev pub invariant-loop-at : goal.invariant-loop-at
 invariant-loop-at g l =
-    let text = λ (at : ℕ). more_text (map (cell_data g.P.PrintCells.kind) (map (g.P.PrintCells.cell l.cells) (slice_range (g.V.ColumnValues.values l.values) at l.«end»))) in
+    let text = λ (at : ℕ). more_text (map (cell_data g.P.PrintCells.kind)
+    (map (g.P.PrintCells.cell l.cells) (slice_range (g.V.ColumnValues.values l.values) at l.«end»))) in
     l.out.items ++ text l.at ≡ l.initial.out.items ++ text l.start

@@ -14,11 +14,16 @@ pub loop-at-preserved : goal.loop-at-preserved
 loop-at-preserved c =
     let id = c.loop-at.at - 1 in
     let below : id < length c.args.terms.now = omega (arith, c.loop-at.invariant.within, c.loop-at-test.true) in
-    sought-next c.args.terms.now c.args.chains.now c.args.term.now c.requires.hashed c.loop-at.at c.older-at.result c.loop-at-test.true c.loop-at.invariant c.older-at.ensures
+    sought-next c.args.terms.now c.args.chains.now c.args.term.now c.requires.hashed c.loop-at.at c.older-at.result
+    c.loop-at-test.true c.loop-at.invariant c.older-at.ensures
     (elim c.else-hash.branch [
-      | else-hash-via-then-hash+else-eq w ↦ other-term c.args.terms.now c.args.term.now id w.get.result.now below w.get.ensures (sym w.eq.ensures ∙ w.if-eq.false)
-      | else-hash-via-else-hash w ↦ other-hash c.args.terms.now c.args.chains.now c.args.term.now c.requires.hashed id c.hash.result c.args.hash below c.requires.hash c.hash.ensures w.if-hash.false
+      | else-hash-via-then-hash+else-eq w ↦ other-term c.args.terms.now c.args.term.now id w.get.result.now below
+          w.get.ensures (sym w.eq.ensures ∙ w.if-eq.false)
+      | else-hash-via-else-hash w ↦ other-hash c.args.terms.now c.args.chains.now c.args.term.now c.requires.hashed id
+          c.hash.result c.args.hash below c.requires.hash c.hash.ensures w.if-hash.false
     ])
 
 pub returns : goal.returns
-returns c = sym (sought-none c.args.terms.now c.args.chains.now c.args.term.now c.requires.hashed c.loop-at.at c.loop-at-test.false c.loop-at.invariant)
+returns c =
+    sym (sought-none c.args.terms.now c.args.chains.now c.args.term.now c.requires.hashed c.loop-at.at
+    c.loop-at-test.false c.loop-at.invariant)

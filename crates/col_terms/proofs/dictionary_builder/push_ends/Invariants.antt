@@ -6,6 +6,7 @@ use Rattle.col_terms.proofs.dictionary_builder.push_ends.Given as goal
 
 abbrev pub invariant-loop-term : goal.invariant-loop-term
 invariant-loop-term l = record {
-  bytes : l.bytes.items ++ flat_map (to_le_bytes w32) (ends_from l.end (texts (drop l.term-index l.terms))) ≡ l.initial.bytes.items ++ flat_map (to_le_bytes w32) (ends_from 0 (texts l.terms));
+  bytes : l.bytes.items ++ flat_map (to_le_bytes w32) (ends_from l.end (texts (drop l.term-index l.terms)))
+      ≡ l.initial.bytes.items ++ flat_map (to_le_bytes w32) (ends_from 0 (texts l.terms));
   within : l.end + sum_by length (texts (drop l.term-index l.terms)) < 2 ^ 32;
 }

@@ -13,5 +13,7 @@ returns-else-num_vals-eq0 c =
     let bound = c.max_value.result in
     let told = c.max_value.ensures.value in
     ap (nat_lt bound) c.num_terms.ensures
-    ∙ bound_tells test values bound (λ e. absurd (omega (arith, ap length e, c.num_vals.ensures, c.if-num_vals-eq0.false))) told.value (λ t k d within. below_greatest bound _ count (told.above k d within) t)
+    ∙ bound_tells test values bound
+    (λ e. absurd (omega (arith, ap length e, c.num_vals.ensures, c.if-num_vals-eq0.false))) told.value
+    (λ t k d within. below_greatest bound _ count (told.above k d within) t)
     ∙ ap (λ v. list_all test (num_values_of v)) c.values-values.ensures

@@ -12,7 +12,8 @@ pub returns-in_err-open_texts : goal.returns-in_err-open_texts
 returns-in_err-open_texts c =
     let v = version_number c.args.format_version in
     let p = err_from_is_err_and c.from_residual.result c.from_residual.ensures.1 in
-    rw (p.1, p.2) (refuses-as c.in_err-open_texts.field-0.0 (column c.args.bytes types.bytes v c.args.num_rows) (column c.args.bytes types.str v c.args.num_rows)
+    rw (p.1, p.2) (refuses-as c.in_err-open_texts.field-0.0 (column c.args.bytes types.bytes v c.args.num_rows)
+    (column c.args.bytes types.str v c.args.num_rows)
     (λ e. texts-as-bytes c.args.bytes v c.args.num_rows ∙ e)
     c.in_err-open_texts.ensures)
 

@@ -36,15 +36,18 @@ returns-in_err-ords c =
     let parts = c.in_ok-terms in
     let after = c.from_residual-in_err-ords in
     let p = err_from_is_err_and after.result after.ensures.1 in
-    rw (p.1, p.2) (refuses-as c.in_err-ords.field-0.0 (number_rows parts.ords types.bytes v c.args.num_rows) (column c.args.bytes types.bytes v c.args.num_rows)
-    (without_rows c.args.bytes v c.args.num_rows parts.terms parts.ords parts.ensures c.in_ok-dictionary.dictionary c.in_ok-dictionary.ensures.ok)
+    rw (p.1, p.2) (refuses-as c.in_err-ords.field-0.0 (number_rows parts.ords types.bytes v c.args.num_rows)
+    (column c.args.bytes types.bytes v c.args.num_rows)
+    (without_rows c.args.bytes v c.args.num_rows parts.terms parts.ords parts.ensures c.in_ok-dictionary.dictionary
+    c.in_ok-dictionary.ensures.ok)
     c.in_err-ords.ensures)
 
 pub returns-then-not-are_ordinals : goal.returns-then-not-are_ordinals
 returns-then-not-are_ordinals c =
     let parts = c.in_ok-terms in
     let found = c.in_ok-dictionary in
-    with_rows c.args.bytes (version_number c.args.format_version) c.args.num_rows parts.terms parts.ords parts.ensures found.dictionary found.ensures.ok
+    with_rows c.args.bytes (version_number c.args.format_version) c.args.num_rows parts.terms parts.ords
+    parts.ensures found.dictionary found.ensures.ok
     _ _ c.in_ok-ords.ords false c.ords-2.view_is c.ords-2.invariant c.in_ok-ords.ensures c.if-not-are_ordinals.ensures
 
 pub new-requires : goal.new-requires
@@ -57,6 +60,7 @@ pub returns : goal.returns
 returns c =
     let parts = c.in_ok-terms in
     let found = c.in_ok-dictionary in
-    with_rows c.args.bytes (version_number c.args.format_version) c.args.num_rows parts.terms parts.ords parts.ensures found.dictionary found.ensures.ok
+    with_rows c.args.bytes (version_number c.args.format_version) c.args.num_rows parts.terms parts.ords
+    parts.ensures found.dictionary found.ensures.ok
     _ _ c.in_ok-ords.ords true c.ords-2.view_is c.ords-2.invariant c.in_ok-ords.ensures c.if-not-are_ordinals.ensures
     ∙ (λ i. Some (texts_content (record { terms = sym c.new.ensures.terms i; ords = sym c.new.ensures.ords i })))

@@ -4,7 +4,9 @@ use Rattle.col_tool.proofs.AnswerLemmas.{without-inputs, unread}
 use Rattle.col_tool.proofs.run.made_of_number.Goals as goal
 
 pub returns-clause-made : goal.returns-clause-made
-returns-clause-made c = without-inputs (λ (h : Scheduled). Some h.bytes) _ _ c.args.number c.made_of_bytes.result c.new-inputs.ensures.items (c.deref.ensures.value ∙ c.in_ok-script.ensures) c.made_of_bytes.ensures.made
+returns-clause-made c =
+    without-inputs (λ (h : Scheduled). Some h.bytes) _ _ c.args.number c.made_of_bytes.result
+    c.new-inputs.ensures.items (c.deref.ensures.value ∙ c.in_ok-script.ensures) c.made_of_bytes.ensures.made
 
 pub returns-clause-no_read_fault : goal.returns-clause-no_read_fault
 returns-clause-no_read_fault c = unread _ _ _ c.made_of_bytes.result c.new-inputs.ensures.items c.made_of_bytes.ensures.read_fault

@@ -17,7 +17,8 @@ loop-done-preserved g c =
     let there = g.M.StrictlyMonotonicFn.there c.args.mapping.now in
     let values = g.V.ColumnValues.values c.args.values.now in
     let rest = drop len c.loop-done.block in
-    let next = block_mapped there values (c.args.start + done) len (length (take len c.loop-done.block)) part read rest read_long count c.map_block.ensures c.get_range.ensures in
+    let next = block_mapped there values (c.args.start + done) len (length (take len c.loop-done.block)) part read
+    rest read_long count c.map_block.ensures c.get_range.ensures in
     let long = block_long there values len part read rest read_long c.map_block.ensures in
     let kept = room_kept done len output part room long in
     record {
@@ -28,4 +29,6 @@ loop-done-preserved g c =
     }
 
 pub returns : goal.returns
-returns g c = whole_mapped _ _ c.args.start c.loop-done.done _ c.loop-done.output c.loop-done.invariant.room (omega (arith, c.loop-done.invariant.within, c.loop-done.invariant.room)) c.loop-done.invariant.mapped
+returns g c =
+    whole_mapped _ _ c.args.start c.loop-done.done _ c.loop-done.output c.loop-done.invariant.room
+    (omega (arith, c.loop-done.invariant.within, c.loop-done.invariant.room)) c.loop-done.invariant.mapped

@@ -8,7 +8,9 @@ invariant-loop-done g l =
       room : length l.output ≡ length l.fn.output;
       block : 0 < length l.block;
       within : l.done ≤ length l.output;
-      mapped : take l.done l.output ≡ map (g.M.StrictlyMonotonicFn.there l.mapping) (take l.done (drop l.start (g.V.ColumnValues.values l.values)));
+      mapped : take l.done l.output
+          ≡ map (g.M.StrictlyMonotonicFn.there l.mapping)
+          (take l.done (drop l.start (g.V.ColumnValues.values l.values)));
     }
 
 abbrev pub decreases-loop-done : goal.decreases-loop-done

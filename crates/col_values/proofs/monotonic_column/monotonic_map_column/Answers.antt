@@ -7,7 +7,9 @@ use Rattle.col_values.proofs.monotonic_column.monotonic_map_column.Goals.{then-n
 use Rattle.col_values.proofs.monotonic_column.monotonic_map_column.Goals as goal
 
 -- the bounds enclose what is mapped
-encloses : (g : _) (c : goal.Joined-num_vals-eq0 g) → Encloses g.Internal.PartialOrd.partial_cmp c.if-num_vals-eq0.min_value.0 c.if-num_vals-eq0.min_value.1 (map (g.M.StrictlyMonotonicFn.there c.args.map) (g.V.ColumnValues.values c.args.values))
+encloses : (g : _) (c : goal.Joined-num_vals-eq0 g)
+    → Encloses g.Internal.PartialOrd.partial_cmp c.if-num_vals-eq0.min_value.0 c.if-num_vals-eq0.min_value.1
+    (map (g.M.StrictlyMonotonicFn.there c.args.map) (g.V.ColumnValues.values c.args.values))
 encloses g c =
     let values = g.V.ColumnValues.values c.args.values in
     elim c.if-num_vals-eq0.branch [
@@ -25,19 +27,38 @@ encloses g c =
 pub invariant_of-result : goal.invariant_of-result
 invariant_of-result g c = record { each = c.requires.each; encloses = encloses g c }
 
-low_bound : (g : _) (c : goal.Joined-num_vals-eq0 g) → IsMappedBound g.Internal.Default.is_default (g.M.StrictlyMonotonicFn.there c.args.map) (g.V.ColumnValues.values c.args.values) (g.V.ColumnValues.IsLeast c.args.values) c.if-num_vals-eq0.min_value.0
+low_bound : (g : _) (c : goal.Joined-num_vals-eq0 g)
+    → IsMappedBound g.Internal.Default.is_default (g.M.StrictlyMonotonicFn.there c.args.map)
+    (g.V.ColumnValues.values c.args.values) (g.V.ColumnValues.IsLeast c.args.values) c.if-num_vals-eq0.min_value.0
 low_bound g c = elim c.if-num_vals-eq0.branch [
-  | then-num_vals-eq0 w ↦ rw w.min_value-is record { without_values = λ e. w.default.ensures; mapped = λ some. absurd (omega (arith, some)) }
-  | else-num_vals-eq0 w ↦ rw w.min_value-is record { without_values = λ e. absurd (omega (arith, ap length e)); mapped = λ some. (w.min_value.result, w.min_value.ensures.value, w.mapping.ensures) }
+  | then-num_vals-eq0 w ↦ rw w.min_value-is record {
+    without_values = λ e. w.default.ensures;
+    mapped =
+        λ some. absurd (omega (arith, some));
+  }
+  | else-num_vals-eq0 w ↦ rw w.min_value-is record {
+    without_values = λ e. absurd (omega (arith, ap length e));
+    mapped = λ some. (w.min_value.result, w.min_value.ensures.value, w.mapping.ensures);
+  }
 ]
 
-high_bound : (g : _) (c : goal.Joined-num_vals-eq0 g) → IsMappedBound g.Internal.Default.is_default (g.M.StrictlyMonotonicFn.there c.args.map) (g.V.ColumnValues.values c.args.values) (g.V.ColumnValues.IsGreatest c.args.values) c.if-num_vals-eq0.min_value.1
+high_bound : (g : _) (c : goal.Joined-num_vals-eq0 g)
+    → IsMappedBound g.Internal.Default.is_default (g.M.StrictlyMonotonicFn.there c.args.map)
+    (g.V.ColumnValues.values c.args.values) (g.V.ColumnValues.IsGreatest c.args.values)
+    c.if-num_vals-eq0.min_value.1
 high_bound g c = elim c.if-num_vals-eq0.branch [
-  | then-num_vals-eq0 w ↦ rw w.min_value-is record { without_values = λ e. w.default-then-num_vals-eq0.ensures; mapped = λ some. absurd (omega (arith, some)) }
-  | else-num_vals-eq0 w ↦ rw w.min_value-is record { without_values = λ e. absurd (omega (arith, ap length e)); mapped = λ some. (w.max_value.result, w.max_value.ensures.value, w.mapping-else-num_vals-eq0.ensures) }
+  | then-num_vals-eq0 w ↦ rw w.min_value-is record {
+    without_values = λ e. w.default-then-num_vals-eq0.ensures;
+    mapped = λ some. absurd (omega (arith, some));
+  }
+  | else-num_vals-eq0 w ↦ rw w.min_value-is record {
+    without_values = λ e. absurd (omega (arith, ap length e));
+    mapped = λ some. (w.max_value.result, w.max_value.ensures.value, w.mapping-else-num_vals-eq0.ensures);
+  }
 ]
 
 pub returns-clause-exact : goal.returns-clause-exact
 returns-clause-exact g c least greatest =
     exact_mapped g.Internal.Default.is_default (g.M.StrictlyMonotonicFn.there c.args.map) (g.V.ColumnValues.values c.args.values) _ _
-    (g.V.ColumnValues.IsLeast c.args.values) (g.V.ColumnValues.IsGreatest c.args.values) (low_bound g c) (high_bound g c) (encloses g c) least greatest
+    (g.V.ColumnValues.IsLeast c.args.values) (g.V.ColumnValues.IsGreatest c.args.values) (low_bound g c)
+    (high_bound g c) (encloses g c) least greatest

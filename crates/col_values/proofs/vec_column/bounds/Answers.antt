@@ -9,5 +9,7 @@ loop-value-preserved g c =
     record {
       least = contains_either _ _ _ _ item c.loop-value.invariant.least;
       greatest = contains_either _ _ _ _ c.loop-value.invariant.greatest item;
-      encloses = encloses_more g.met.T.Ord.total g.met.T.Ord.matches_partial_cmp _ _ _ _ _ c.loop-value-test.true c.value-item.is c.loop-value.invariant.encloses;
+      encloses =
+          encloses_more g.met.T.Ord.total g.met.T.Ord.matches_partial_cmp _ _ _ _ _ c.loop-value-test.true
+          c.value-item.is c.loop-value.invariant.encloses;
     }

@@ -8,7 +8,10 @@ loop-from-init c =
     let a = c.args in
     let ends = c.into_inner-low.result in
     record {
-      found = c.clear.ensures.items ∙ sym (ids_none a.«data».now a.self.now ends.0 ends.1 a.ids.start (a.ids.start - a.ids.start) (omega arith));
+      found =
+          c.clear.ensures.items
+          ∙ sym
+          (ids_none a.«data».now a.self.now ends.0 ends.1 a.ids.start (a.ids.start - a.ids.start) (omega arith));
       begun = omega arith;
       within = omega arith;
     }
@@ -22,9 +25,10 @@ loop-from-preserved c =
     let to = from + c.min.result in
     let block = ids_between a.«data».now a.self.now ends.0 ends.1 from (to - from) in
     record {
-      found = c.in_default.ensures
+      found = c.in_default.ensures.ok
           ∙ (ap (λ found. found ++ block) c.loop-from.invariant.found
-          ∙ sym (ids_joined a.«data».now a.self.now ends.0 ends.1 start (from - start) (to - from) from (to - start) (omega arith) (omega arith)));
+          ∙ sym (ids_joined a.«data».now a.self.now ends.0 ends.1 start (from - start) (to - from) from (to - start)
+          (omega arith) (omega arith)));
       begun = omega arith;
       within = omega arith;
     }

@@ -8,7 +8,10 @@ loop-id-init g c =
     let front = take a.at a.output.now in
     record {
       below = omega arith;
-      front = sym (append-nil front) ∙ ap (λ xs. front ++ xs) (sym (ids_none a.«data».now a.self.now a.low a.high a.ids.start (a.ids.start - a.ids.start) (omega arith)));
+      front =
+          sym (append-nil front)
+          ∙ ap (λ xs. front ++ xs) (sym
+          (ids_none a.«data».now a.self.now a.low a.high a.ids.start (a.ids.start - a.ids.start) (omega arith)));
     }
 
 pub loop-id-preserved : goal.loop-id-preserved
@@ -18,11 +21,15 @@ loop-id-preserved g c =
     let b = c.is_within.result in
     record {
       below = omega (arith, kept_within l.kept (a.at + l.id - a.ids.start) b (omega arith));
-      front = ids_more a.«data».now a.self.now a.low a.high a.ids.start (l.id - a.ids.start) (l.id + 1 - a.ids.start) l.id l.kept c.item_at-value.result (take a.at a.output.now) l.output b (omega arith) (omega arith) c.is_within.ensures c.item_at-value.ensures (omega arith) l.invariant.front;
+      front =
+          ids_more a.«data».now a.self.now a.low a.high a.ids.start (l.id - a.ids.start) (l.id + 1 - a.ids.start)
+          l.id l.kept c.item_at-value.result (take a.at a.output.now) l.output b (omega arith) (omega arith)
+          c.is_within.ensures c.item_at-value.ensures (omega arith) l.invariant.front;
     }
 
 pub returns-then-low-high-clause-front : goal.returns-then-low-high-clause-front
 returns-then-low-high-clause-front g c =
     let a = c.args in
     let front = take a.at a.output.now in
-    sym (append-nil front) ∙ ap (λ xs. front ++ xs) (sym (ids_outside a.«data».now a.self.now a.low a.high a.ids.start (a.ids.«end» - a.ids.start) c.if-low-high.true))
+    sym (append-nil front) ∙ ap (λ xs. front ++ xs) (sym (ids_outside a.«data».now a.self.now a.low a.high
+    a.ids.start (a.ids.«end» - a.ids.start) c.if-low-high.true))

@@ -7,7 +7,10 @@ use Rattle.col_bits.proofs.WriteLemmas.{bits_closed, word_bytes}
 use Rattle.col_bits.proofs.bitpacker.BitPacker.close.Goals as goal
 
 -- what is written
-closed_items : (c : goal.After-self-2-1) → c.extend_from_slice.new.self.items ≡ c.args.output.now.items ++ take (div_ceil c.self.inside.mini_buffer_written 8) (to_le_bytes w64 c.self.inside.mini_buffer)
+closed_items : (c : goal.After-self-2-1)
+    → c.extend_from_slice.new.self.items
+    ≡ c.args.output.now.items
+    ++ take (div_ceil c.self.inside.mini_buffer_written 8) (to_le_bytes w64 c.self.inside.mini_buffer)
 closed_items c =
     let s = c.self.inside in
     let out = c.args.output.now.items in

@@ -36,7 +36,8 @@ returns-clause-bits c =
     let new : c.extend_from_slice.new.self.items ≡ out ++ to_le_bytes w64 word =
     c.in_ok-extend_from_slice.ensures.items ∙ ap (λ bs. out ++ bs) c.to_le_bytes.ensures in
     ap (λ (bytes : List ℕ). number_of 256 bytes + c.above-self-inside.result * 2 ^ (8 * length bytes)) new
-    ∙ (ap (λ n. number_of 256 (out ++ to_le_bytes w64 word) + n * 2 ^ (8 * length (out ++ to_le_bytes w64 word))) c.above-self-inside.ensures
+    ∙ (ap (λ n. number_of 256 (out ++ to_le_bytes w64 word) + n * 2 ^ (8 * length (out ++ to_le_bytes w64 word)))
+    c.above-self-inside.ensures
     ∙ (bits_spill s.mini_buffer s.mini_buffer_written c.args.val out c.self.invariant.1 c.self.invariant.0
     ∙ ap (λ (held : Held). bits_of held out + c.args.val * 2 ^ count_of held out) c.self.view_is))
 

@@ -33,4 +33,5 @@ returns c xs done e =
     let w : c.compute_num_bits-num_bits.result ≡ width (steps_of s) = c.compute_num_bits-num_bits.ensures ∙ ap width c.steps.ensures in
     let bytes : c.div_ceil.result ≡ div_ceil (s.count * c.compute_num_bits-num_bits.result) 8 =
     c.div_ceil.ensures ∙ ap (λ n. div_ceil (n * c.from-2.result) 8) c.from.ensures ∙ ap (λ v. div_ceil (s.count * v) 8) c.from-2.ensures in
-    ap Some (ap (λ n. c.num_bytes.result + n) bytes ∙ estimated s xs c.num_bytes.result c.compute_num_bits-num_bits.result e c.num_bytes.ensures w)
+    ap Some (ap (λ n. c.num_bytes.result + n) bytes
+    ∙ estimated s xs c.num_bytes.result c.compute_num_bits-num_bits.result e c.num_bytes.ensures w)

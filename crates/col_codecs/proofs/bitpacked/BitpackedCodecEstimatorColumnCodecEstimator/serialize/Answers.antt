@@ -7,17 +7,24 @@ use Rattle.col_codecs.proofs.PossibleLemmas.{IsPossible-stats_of}
 use Rattle.col_codecs.proofs.bitpacked.BitpackedCodecEstimatorColumnCodecEstimator.serialize.Goals as goal
 
 pub serialize-requires : goal.serialize-requires
-serialize-requires g c = IsPossible-stats_of (stats_seen c.args.stats.now) (g.I.Iterable.items c.args.vals.now) c.requires.stats (omega arith)
+serialize-requires g c =
+    IsPossible-stats_of (stats_seen c.args.stats.now) (g.I.Iterable.items c.args.vals.now) c.requires.stats
+    (omega arith)
 
 pub steps-requires-clause-ordered : goal.steps-requires-clause-ordered
-steps-requires-clause-ordered g c = (IsPossible-stats_of (stats_seen c.args.stats.now) (g.I.Iterable.items c.args.vals.now) c.requires.stats (omega arith)).ordered
+steps-requires-clause-ordered g c =
+    (IsPossible-stats_of (stats_seen c.args.stats.now) (g.I.Iterable.items c.args.vals.now) c.requires.stats
+    (omega arith)).ordered
 
 pub steps-requires-clause-positive : goal.steps-requires-clause-positive
-steps-requires-clause-positive g c = (IsPossible-stats_of (stats_seen c.args.stats.now) (g.I.Iterable.items c.args.vals.now) c.requires.stats (omega arith)).positive
+steps-requires-clause-positive g c =
+    (IsPossible-stats_of (stats_seen c.args.stats.now) (g.I.Iterable.items c.args.vals.now) c.requires.stats
+    (omega arith)).positive
 
 pub serialize_turned-requires-clause-packable : goal.serialize_turned-requires-clause-packable
 serialize_turned-requires-clause-packable g c =
-    steps-packable (stats_seen c.args.stats.now) (g.I.Iterable.items c.args.vals.now) c.compute_num_bits-num_bits.result c.requires.stats (omega arith) c.requires.count
+    steps-packable (stats_seen c.args.stats.now) (g.I.Iterable.items c.args.vals.now)
+    c.compute_num_bits-num_bits.result c.requires.stats (omega arith) c.requires.count
     (c.compute_num_bits-num_bits.ensures ∙ ap width c.steps.ensures)
 
 pub returns-clause-ok : goal.returns-clause-ok

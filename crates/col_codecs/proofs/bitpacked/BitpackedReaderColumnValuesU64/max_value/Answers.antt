@@ -8,4 +8,6 @@ pub returns-clause-value : goal.returns-clause-value
 returns-clause-value c = ap (λ s. s.greatest) (sym c.self.invariant.0.exact) ∙ stats_of-greatest _ ∙ ap greatest_of c.self.view_is
 
 pub returns-clause-encloses : goal.returns-clause-encloses
-returns-clause-encloses c = greatest-above c.args.self.now c.self.inside.stats.max_value (ap (λ s. s.greatest) (sym c.self.invariant.0.exact) ∙ stats_of-greatest _ ∙ ap greatest_of c.self.view_is)
+returns-clause-encloses c =
+    greatest-above c.args.self.now c.self.inside.stats.max_value
+    (ap (λ s. s.greatest) (sym c.self.invariant.0.exact) ∙ stats_of-greatest _ ∙ ap greatest_of c.self.view_is)

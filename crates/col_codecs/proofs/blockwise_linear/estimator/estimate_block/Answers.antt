@@ -8,7 +8,8 @@ use Rattle.col_codecs.proofs.blockwise_linear.estimator.estimate_block.Goals as 
 pub returns : goal.returns
 returns c =
     let slope = params_seen c.train_offsets-params.result in
-    block_estimate-parts c.args.vals.now slope c.num_bytes.result c.from.result c.div_ceil.result c.train_offsets-params.ensures.params c.num_bytes.ensures c.from.ensures c.div_ceil.ensures
+    block_estimate-parts c.args.vals.now slope c.num_bytes.result c.from.result c.div_ceil.result
+    c.train_offsets-params.ensures.params c.num_bytes.ensures c.from.ensures c.div_ceil.ensures
 
 small : (c : goal.After-div_ceil) → 1 + c.num_bytes.result + c.div_ceil.result ≤ 9 * block_size
 small c = omega (arith, returns c, block_estimate-bound c.args.vals.now c.requires.small)

@@ -26,7 +26,9 @@ returns-then-divisor-eq1 c =
     c.add_to.ensures
     ∙ ap (by_position above a.place) (c.get_range.ensures ∙ ap (λ cut. items cut w a.place n) (from b.start a.bytes.now))
     ∙ by_position-of above read a.place n
-    ∙ λ k. map (λ i. raised-first a.least a.divisor b.line.slope b.line.intercept line.slope line.intercept i (read i) c.raised_by.ensures.slope c.raised_by.ensures.intercept c.if-divisor-eq1.true k) (range_with_len a.place n)
+    ∙ λ k. map (λ i. raised-first a.least a.divisor b.line.slope b.line.intercept line.slope line.intercept i
+    (read i) c.raised_by.ensures.slope c.raised_by.ensures.intercept c.if-divisor-eq1.true k)
+    (range_with_len a.place n)
 
 pub returns : goal.returns
 returns c =

@@ -8,4 +8,5 @@ use Rattle.col_codecs.proofs.blockwise_linear.writer.serialize_blocks.Goals as g
 pub returns : goal.returns
 returns g c = serializes-as _ _ _ _ _
     (serializes-then _ _ _ _ _ _ _ c.in_ok-serialize_packed.ensures.packed c.serialize_lines.ensures)
-    (blocks_bytes-parts (blocks_of (steps_above (stats_seen c.args.stats.now) (g.I.Iterable.items c.args.vals.now))) c.as_slice.result.now (c.as_slice.ensures ∙ c.in_ok-serialize_packed.ensures.lines))
+    (blocks_bytes-parts (blocks_of (steps_above (stats_seen c.args.stats.now) (g.I.Iterable.items c.args.vals.now)))
+    c.as_slice.result.now (c.as_slice.ensures ∙ c.in_ok-serialize_packed.ensures.lines))

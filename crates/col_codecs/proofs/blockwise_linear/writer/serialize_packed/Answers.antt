@@ -10,21 +10,37 @@ use Rattle.col_codecs.proofs.blockwise_linear.writer.serialize_packed.Goals as g
 
 pub loop-block_id-init : goal.loop-block_id-init
 unfolding cut_blocks
-loop-block_id-init g c = record { stands = c.walk-at.ensures.stands; left = c.walk-at.ensures.front; written = serializes-nothing _ tt; gathered = c.requires.empty; room = refl }
+loop-block_id-init g c =
+    record {
+      stands = c.walk-at.ensures.stands;
+      left = c.walk-at.ensures.front;
+      written = serializes-nothing _ tt;
+      gathered = c.requires.empty;
+      room = refl;
+    }
 
 pub serialize_block-requires : goal.serialize_block-requires
 serialize_block-requires g c =
     let k = c.loop-block_id._block_id in
     let xs = g.I.Iterable.items c.args.vals.now in
     let n = c.take_block-taken.result in
-    let count : n ≡ min block_size (length (drop (512 * k) xs)) = omega (arith, c.take_block-taken.ensures.count, c.loop-block_id.invariant.room, ap length c.loop-block_id.invariant.left) in
-    IsBlock-taken (stats_seen c.args.stats.now) xs (take n c.take_block-taken.new.block) c.div_ceil-block_id-end.result k n c.requires.stats c.div_ceil-block_id-end.ensures c.loop-block_id-test.true count
+    let count : n ≡ min block_size (length (drop (512 * k) xs)) =
+    omega (
+      arith,
+      c.take_block-taken.ensures.count,
+      c.loop-block_id.invariant.room,
+      ap length c.loop-block_id.invariant.left,
+    ) in
+    IsBlock-taken (stats_seen c.args.stats.now) xs (take n c.take_block-taken.new.block)
+    c.div_ceil-block_id-end.result k n c.requires.stats c.div_ceil-block_id-end.ensures
+    c.loop-block_id-test.true count
     (c.take_block-taken.ensures.taken ∙ ap (take n) c.loop-block_id.invariant.left)
 
 pub returns-in_err-serialize_block-clause-packed : goal.returns-in_err-serialize_block-clause-packed
 returns-in_err-serialize_block-clause-packed g c =
     let p = err_from_is_err_and c.from_residual-in_err-serialize_block.result c.from_residual-in_err-serialize_block.ensures.1 in
-    rw (p.1, p.2) (serializes-stopped _ _ _ _ _ (serializes-then _ _ _ _ _ _ _ c.loop-block_id.invariant.written c.in_err-serialize_block.ensures.packed))
+    rw (p.1, p.2) (serializes-stopped _ _ _ _ _
+    (serializes-then _ _ _ _ _ _ _ c.loop-block_id.invariant.written c.in_err-serialize_block.ensures.packed))
 
 pub loop-block_id-preserved : goal.loop-block_id-preserved
 loop-block_id-preserved g c =
@@ -34,8 +50,16 @@ loop-block_id-preserved g c =
     let steps = steps_above s xs in
     let n = c.take_block-taken.result in
     let part = take n c.take_block-taken.new.block in
-    let count : n ≡ min block_size (length (drop (512 * k) xs)) = omega (arith, c.take_block-taken.ensures.count, c.loop-block_id.invariant.room, ap length c.loop-block_id.invariant.left) in
-    let block : steps_above s part ≡ block_at k steps = steps_above-block s xs part k n count (c.take_block-taken.ensures.taken ∙ ap (take n) c.loop-block_id.invariant.left) in
+    let count : n ≡ min block_size (length (drop (512 * k) xs)) =
+    omega (
+      arith,
+      c.take_block-taken.ensures.count,
+      c.loop-block_id.invariant.room,
+      ap length c.loop-block_id.invariant.left,
+    ) in
+    let block : steps_above s part ≡ block_at k steps =
+    steps_above-block s xs part k n count
+    (c.take_block-taken.ensures.taken ∙ ap (take n) c.loop-block_id.invariant.left) in
     record {
       stands = c.take_block-taken.ensures.stands;
       left = c.take_block-taken.ensures.left ∙ ap (drop n) c.loop-block_id.invariant.left ∙ left-next xs k n count;
@@ -48,7 +72,17 @@ loop-block_id-preserved g c =
           ∙ ap (λ ls. ls ++ params_bytes (block_line (steps_above s part))) c.loop-block_id.invariant.gathered
           ∙ ap (λ b. lines_so_far steps k ++ params_bytes (block_line b)) block
           ∙ sym (lines_so_far-more steps k);
-      room = omega (arith, length-append c.serialize_block.new.vals (drop n c.take_block-taken.new.block), c.serialize_block.auto.vals, length-take n c.take_block-taken.new.block, length-drop n c.take_block-taken.new.block, c.take_block-taken.auto.block, c.loop-block_id.invariant.room, count);
+      room =
+          omega (
+            arith,
+            length-append c.serialize_block.new.vals (drop n c.take_block-taken.new.block),
+            c.serialize_block.auto.vals,
+            length-take n c.take_block-taken.new.block,
+            length-drop n c.take_block-taken.new.block,
+            c.take_block-taken.auto.block,
+            c.loop-block_id.invariant.room,
+            count,
+          );
     }
 
 pub returns-clause-packed : goal.returns-clause-packed
@@ -56,11 +90,13 @@ returns-clause-packed g c =
     let s = stats_seen c.args.stats.now in
     let xs = g.I.Iterable.items c.args.vals.now in
     serializes-as _ _ _ _ _ c.loop-block_id.invariant.written
-    (ap (packed_so_far (steps_above s xs)) (all_blocks s xs c.div_ceil-block_id-end.result c.loop-block_id._block_id c.requires.stats c.div_ceil-block_id-end.ensures (omega arith)))
+    (ap (packed_so_far (steps_above s xs)) (all_blocks s xs c.div_ceil-block_id-end.result c.loop-block_id._block_id
+    c.requires.stats c.div_ceil-block_id-end.ensures (omega arith)))
 
 pub returns-clause-lines : goal.returns-clause-lines
 returns-clause-lines g c =
     let s = stats_seen c.args.stats.now in
     let xs = g.I.Iterable.items c.args.vals.now in
     c.loop-block_id.invariant.gathered
-    ∙ ap (lines_so_far (steps_above s xs)) (all_blocks s xs c.div_ceil-block_id-end.result c.loop-block_id._block_id c.requires.stats c.div_ceil-block_id-end.ensures (omega arith))
+    ∙ ap (lines_so_far (steps_above s xs)) (all_blocks s xs c.div_ceil-block_id-end.result c.loop-block_id._block_id
+    c.requires.stats c.div_ceil-block_id-end.ensures (omega arith))

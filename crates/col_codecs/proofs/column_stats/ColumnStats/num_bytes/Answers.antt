@@ -14,4 +14,11 @@ pub overflow_add-result-2 : goal.overflow_add-result-2
 overflow_add-result-2 c = omega (arith, few _ _ c.num_bytes.ensures, few _ _ c.num_bytes-2.ensures, few _ _ c.num_bytes-3.ensures)
 
 pub overflow_add-result-3 : goal.overflow_add-result-3
-overflow_add-result-3 c = omega (arith, few _ _ c.num_bytes.ensures, few _ _ c.num_bytes-2.ensures, few _ _ c.num_bytes-3.ensures, few _ _ c.num_bytes-4.ensures)
+overflow_add-result-3 c =
+    omega (
+      arith,
+      few _ _ c.num_bytes.ensures,
+      few _ _ c.num_bytes-2.ensures,
+      few _ _ c.num_bytes-3.ensures,
+      few _ _ c.num_bytes-4.ensures,
+    )

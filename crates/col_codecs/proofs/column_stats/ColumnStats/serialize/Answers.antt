@@ -14,4 +14,5 @@ pub returns-clause-again : goal.returns-clause-again
 returns-clause-again g c rest = stats_at-possible (stats_seen c.args.self.now) rest c.requires (omega arith) (omega arith) (omega arith)
 
 pub returns-in_err-serialize_two-clause-again : goal.returns-in_err-serialize_two-clause-again
-returns-in_err-serialize_two-clause-again g c rest = stats_at-possible (stats_seen c.args.self.now) rest c.requires (omega arith) (omega arith) (omega arith)
+returns-in_err-serialize_two-clause-again g c rest =
+    stats_at-possible (stats_seen c.args.self.now) rest c.requires (omega arith) (omega arith) (omega arith)

@@ -7,4 +7,5 @@ pub loop-at-preserved : goal.loop-at-preserved
 loop-at-preserved c =
     let l = c.args.self.now in
     let y = slice_index c.loop-at.offsets c.loop-at.at in
-    replaced-more (raised l.slope l.intercept) c.args.start c.loop-at.at _ c.args.offsets.now c.loop-at.offsets c.loop-at-test.true c.loop-at.invariant (ap (λ x. (x + y) % 2 ^ 64) c.eval.ensures)
+    replaced-more (raised l.slope l.intercept) c.args.start c.loop-at.at _ c.args.offsets.now c.loop-at.offsets
+    c.loop-at-test.true c.loop-at.invariant (ap (λ x. (x + y) % 2 ^ 64) c.eval.ensures)

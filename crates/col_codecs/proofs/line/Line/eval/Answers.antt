@@ -8,5 +8,6 @@ unfolding line
 returns c =
     let l = c.args.self.now in
     let product = c.from.result * l.slope % 2 ^ 64 / 2 ^ 32 in
-    ap (λ h. (l.intercept + h) % 2 ^ 64) (extended_by_casts product c.cast_unsigned.result c.cast_signed.result c.from-2.result (omega arith) c.cast_signed.ensures c.from-2.ensures c.cast_unsigned.ensures)
+    ap (λ h. (l.intercept + h) % 2 ^ 64) (extended_by_casts product c.cast_unsigned.result c.cast_signed.result
+    c.from-2.result (omega arith) c.cast_signed.ensures c.from-2.ensures c.cast_unsigned.ensures)
     ∙ ap (λ x. (l.intercept + signed_32 (x * l.slope % 2 ^ 64 / 2 ^ 32)) % 2 ^ 64) c.from.ensures

@@ -3,4 +3,11 @@ use Rattle.col_codecs.proofs.LineLemmas.{vint_bytes-bound}
 use Rattle.col_codecs.proofs.line.Line.num_bytes.Goals as goal
 
 pub overflow_add-result : goal.overflow_add-result
-overflow_add-result c = omega (arith, c.num_bytes.ensures, c.num_bytes-2.ensures, vint_bytes-bound c.args.self.now.slope, vint_bytes-bound c.args.self.now.intercept)
+overflow_add-result c =
+    omega (
+      arith,
+      c.num_bytes.ensures,
+      c.num_bytes-2.ensures,
+      vint_bytes-bound c.args.self.now.slope,
+      vint_bytes-bound c.args.self.now.intercept,
+    )

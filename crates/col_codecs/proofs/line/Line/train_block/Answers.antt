@@ -11,4 +11,7 @@ pub returns : goal.returns
 returns c =
     let ys = c.args.ys.now in
     let first = slice_index ys 0 in
-    trained_line-passed first (slice_index ys (length ys - 1)) (length ys) c.slope_between-slope.result ((first + 0xffff_ffff_0000_0001) % 2 ^ 64) c.least_above-least.result _ (enumerate_from 0 ys) c.if-num_vals-eq1.false (omega (arith, length-enumerate_from 0 ys, c.requires.some)) c.slope_between-slope.ensures refl c.least_above-least.ensures refl
+    trained_line-passed first (slice_index ys (length ys - 1)) (length ys) c.slope_between-slope.result
+    ((first + 0xffff_ffff_0000_0001) % 2 ^ 64) c.least_above-least.result _ (enumerate_from 0 ys)
+    c.if-num_vals-eq1.false (omega (arith, length-enumerate_from 0 ys, c.requires.some))
+    c.slope_between-slope.ensures refl c.least_above-least.ensures refl

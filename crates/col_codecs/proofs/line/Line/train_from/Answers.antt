@@ -11,5 +11,8 @@ returns g c =
     let slope = c.slope_between-slope.result in
     let items = g.I.Iterable.items c.args.items.now in
     let mark = (c.args.first_val + 0xffff_ffff_0000_0001) % 2 ^ 64 in
-    let least : c.loop-pos.least ≡ fold min 0xffff_ffff_ffff_ffff (distances slope mark items) = sym (ap (λ ps. fold min c.loop-pos.least (distances slope mark ps)) c.in_default.ensures.value.0) ∙ c.loop-pos.invariant.1 in
-    trained_line-passed c.args.first_val c.args.last_val c.args.num_vals slope mark c.loop-pos.least _ items c.if-num_vals-eq1.false c.requires.items c.slope_between-slope.ensures refl least refl
+    let least : c.loop-pos.least ≡ fold min 0xffff_ffff_ffff_ffff (distances slope mark items) =
+    sym (ap (λ ps. fold min c.loop-pos.least (distances slope mark ps)) c.in_default.ensures.value.0)
+    ∙ c.loop-pos.invariant.1 in
+    trained_line-passed c.args.first_val c.args.last_val c.args.num_vals slope mark c.loop-pos.least _ items
+    c.if-num_vals-eq1.false c.requires.items c.slope_between-slope.ensures refl least refl

@@ -9,7 +9,9 @@ use Rattle.col_codecs.proofs.EstimateLemmas.{linear_width, linear_fit, linear_bo
 use Rattle.col_codecs.proofs.linear.estimator.serialize_behind_codec.Goals as goal
 
 pub serialize-requires : goal.serialize-requires
-serialize-requires g c = IsPossible-stats_of (stats_seen c.args.stats.now) (g.I.Iterable.items c.args.vals.now) c.requires.stats (omega arith)
+serialize-requires g c =
+    IsPossible-stats_of (stats_seen c.args.stats.now) (g.I.Iterable.items c.args.vals.now) c.requires.stats
+    (omega arith)
 
 pub returns-in_err-serialize-2 : goal.returns-in_err-serialize-2
 returns-in_err-serialize-2 g c =
@@ -28,5 +30,7 @@ serialize_turned-requires-clause-packable g c = record {
 
 pub returns : goal.returns
 returns g c = serializes-as _ _ _ _ _
-    (serializes-then _ _ _ _ _ _ _ c.in_ok-serialize.ensures.ok (serializes-then _ _ _ _ _ _ _ c.in_ok-serialize-2.ensures c.serialize_turned.ensures))
-    (linear_body-parts (g.I.Iterable.items c.args.vals.now) (stats_seen c.args.stats.now) (params_seen c.args.params) c.requires.stats c.requires.line)
+    (serializes-then _ _ _ _ _ _ _ c.in_ok-serialize.ensures.ok
+    (serializes-then _ _ _ _ _ _ _ c.in_ok-serialize-2.ensures c.serialize_turned.ensures))
+    (linear_body-parts (g.I.Iterable.items c.args.vals.now) (stats_seen c.args.stats.now)
+    (params_seen c.args.params) c.requires.stats c.requires.line)

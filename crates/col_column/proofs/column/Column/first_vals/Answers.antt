@@ -6,4 +6,5 @@ use Rattle.col_column.proofs.column.Column.first_vals.Goals as goal
 pub returns-in-Full : goal.returns-in-Full
 returns-in-Full g c =
     c.get_vals_opt.ensures
-    ∙ full_firsts g.V.ColumnValues.values c.args.self.now (shape_of c.self.inside.index) c.self.inside.values c.args.doc_ids.now c.self.view_is (ap shape_of c.in-Full.is)
+    ∙ full_firsts g.V.ColumnValues.values c.args.self.now (shape_of c.self.inside.index) c.self.inside.values
+    c.args.doc_ids.now c.self.view_is (ap shape_of c.in-Full.is)

@@ -12,12 +12,14 @@ pub returns-in-Some : goal.returns-in-Some
 returns-in-Some g c =
     let column = c.self.inside.column in
     let default = c.self.inside.default_value in
-    value_at default column.shape (g.V.ColumnValues.values column.values) c.args.self.now.values c.args.idx c.first.result (ap (λ s. s.values) c.self.view_is) c.requires c.first.ensures
+    value_at default column.shape (g.V.ColumnValues.values column.values) c.args.self.now.values c.args.idx
+    c.first.result (ap (λ s. s.values) c.self.view_is) c.requires c.first.ensures
     ∙ ap (λ o. Some (unwrap_or o default)) c.in-Some.is
 
 pub returns-in-None : goal.returns-in-None
 returns-in-None g c =
     let column = c.self.inside.column in
     let default = c.self.inside.default_value in
-    value_at default column.shape (g.V.ColumnValues.values column.values) c.args.self.now.values c.args.idx c.first.result (ap (λ s. s.values) c.self.view_is) c.requires c.first.ensures
+    value_at default column.shape (g.V.ColumnValues.values column.values) c.args.self.now.values c.args.idx
+    c.first.result (ap (λ s. s.values) c.self.view_is) c.requires c.first.ensures
     ∙ ap (λ o. Some (unwrap_or o default)) c.in-None.is

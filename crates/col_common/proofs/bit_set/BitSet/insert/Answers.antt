@@ -20,10 +20,14 @@ pub invariant_of-self : goal.invariant_of-self
 invariant_of-self c =
     let s = c.self.inside in
     let long : length c.args.self.now ≡ s.max_value = sym (ap length c.self.view_is) ∙ length-flags s.words.items s.max_value in
-    counts_put s.words.items s.max_value c.from-at.result c.args.el c.index_mut.result.now s.len c.args.self.now c.self.view_is c.from-at.ensures (omega arith) c.index_mut.ensures.value (sym c.if-not-contains.ensures) c.self.invariant
+    counts_put s.words.items s.max_value c.from-at.result c.args.el c.index_mut.result.now s.len c.args.self.now
+    c.self.view_is c.from-at.ensures (omega arith) c.index_mut.ensures.value (sym c.if-not-contains.ensures)
+    c.self.invariant
 
 pub returns-then-not-contains : goal.returns-then-not-contains
 returns-then-not-contains c =
     let s = c.self.inside in
     let long : length c.args.self.now ≡ s.max_value = sym (ap length c.self.view_is) ∙ length-flags s.words.items s.max_value in
-    flags_put s.words.items s.max_value c.from-at.result c.args.el c.index_mut.result.now c.args.self.now c.self.view_is c.from-at.ensures (omega arith) (omega (arith, c.self.invariant.room)) c.index_mut.ensures.value
+    flags_put s.words.items s.max_value c.from-at.result c.args.el c.index_mut.result.now c.args.self.now
+    c.self.view_is c.from-at.ensures (omega arith) (omega (arith, c.self.invariant.room))
+    c.index_mut.ensures.value

@@ -12,7 +12,8 @@ returns-clause-number c =
 pub returns-clause-again : goal.returns-clause-again
 returns-clause-again c octets are same =
     let n : ℕ = c.to_bits.result in
-    let number : number_from_digits 256 (to_be_bytes w128 n) ≡ number_from_digits 256 octets = octets_again n (omega arith) ∙ (c.to_bits.ensures ∙ sym same) in
+    let number : number_from_digits 256 (to_be_bytes w128 n) ≡ number_from_digits 256 octets =
+    octets_again n (omega arith) ∙ (c.to_bits.ensures ∙ sym same) in
     c.to_be_bytes.ensures ∙ octets_closed (to_be_bytes w128 n) octets (sym are.count) (are_octets n) are.each number
 
 pub returns-clause-order : goal.returns-clause-order

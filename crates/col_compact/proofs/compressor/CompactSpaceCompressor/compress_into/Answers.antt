@@ -18,7 +18,11 @@ pub returns-clause-ok : goal.returns-clause-ok
 returns-clause-ok g c =
     serializes-as _ _ _ _ _
     (serializes-then _ _ _ _ _ _ _ c.in_ok-serialize_bytes.ensures c.serialize_with_length.ensures)
-    (coded_bytes-parts _ _ _ _ _ c.self.view_is (c.as_slice.ensures.value ∙ c.in_ok-codes.ensures) (c.as_slice-2.ensures ∙ c.in_ok-footer.ensures))
+    (coded_bytes-parts _ _ _ _ _ c.self.view_is (c.as_slice.ensures.value ∙ c.in_ok-codes.ensures)
+    (c.as_slice-2.ensures ∙ c.in_ok-footer.ensures))
 
 pub returns-clause-again : goal.returns-clause-again
-returns-clause-again g c = on_ok-always _ (coded_bytes-again _ _ _ _ c.self.view_is c.lists_are_read_back.ensures c.requires c.in_ok-footer.ensures (let fits = c.as_slice-2.type_inv in omega (arith, fits.0, ap length c.as_slice-2.ensures)))
+returns-clause-again g c =
+    on_ok-always _ (coded_bytes-again _ _ _ _ c.self.view_is c.lists_are_read_back.ensures c.requires
+    c.in_ok-footer.ensures
+    (let fits = c.as_slice-2.type_inv in omega (arith, fits.0, ap length c.as_slice-2.ensures)))

@@ -5,4 +5,5 @@ use Rattle.col_compact.proofs.header.U128Header.serialize.Goals as goal
 
 pub returns-clause-ok : goal.returns-clause-ok
 returns-clause-ok g c =
-    serializes-as _ _ _ _ _ (serializes-then _ _ _ _ _ _ _ c.in_ok-serialize.ensures.ok c.serialize-2.ensures) (ap (λ n. vint_bytes n ++ 1 ∷ []) c.from.ensures)
+    serializes-as _ _ _ _ _ (serializes-then _ _ _ _ _ _ _ c.in_ok-serialize.ensures.ok c.serialize-2.ensures)
+    (ap (λ n. vint_bytes n ++ 1 ∷ []) c.from.ensures)

@@ -18,11 +18,15 @@ returns c =
     let test = λ (e : Entry). starts_with nat_eq e.key.name q in
     let es = c.as_slice-columns.result.now in
     let same : es ≡ c.self.inside.columns.items = c.as_slice-columns.ensures.value in
-    let keys : are_keys (map (λ e. e.key) (entries_seen es)) ≡ true = ap (λ es. are_keys (map (λ e. e.key) (entries_seen es))) same ∙ c.self.invariant in
+    let keys : are_keys (map (λ e. e.key) (entries_seen es)) ≡ true =
+    ap (λ es. are_keys (map (λ e. e.key) (entries_seen es))) same ∙ c.self.invariant in
     let rises = fronts-rise es keys q in
     let low = c.partition_point-start in
     let high = c.partition_point-end in
-    let starts = low.ensures.partitioned (λ e. is_lt (rank e)) (always_returns_same _ _ _ (λ a r f called. search rules)) (lt-partitioned rank es rises) in
-    let ends = high.ensures.partitioned (λ e. is_le (rank e)) (always_returns_same _ _ _ (λ a r f called. search rules)) (le-partitioned rank es rises) in
+    let starts = low.ensures.partitioned (λ e. is_lt (rank e))
+    (always_returns_same _ _ _ (λ a r f called. search rules)) (lt-partitioned rank es rises) in
+    let ends = high.ensures.partitioned (λ e. is_le (rank e))
+    (always_returns_same _ _ _ (λ a r f called. search rules)) (le-partitioned rank es rises) in
     let found : map entry_of es ≡ c.args.self.now.entries = ap (map entry_of) same ∙ ap (λ k. k.entries) c.self.view_is in
-    subst (λ (xs : List Entry). IsRun test xs low.result high.result) found (run-is rank entry_of test (front-is q) es low.result high.result low.ensures.bound high.ensures.bound starts ends)
+    subst (λ (xs : List Entry). IsRun test xs low.result high.result) found (run-is rank entry_of test (front-is q)
+    es low.result high.result low.ensures.bound high.ensures.bound starts ends)

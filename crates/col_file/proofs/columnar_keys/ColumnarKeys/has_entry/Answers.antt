@@ -13,7 +13,9 @@ returns c =
     let test = λ (e : ColumnEntry). is_at h (entry_of e) in
     let es = c.as_slice-columns.result.now in
     let found = c.in-Some.ensures.lookup in
-    sym (any-at test es c.place.result c.in-Some.entry.now (slice_get_read es (length es) c.place.result c.in-Some.entry.now refl found.3.0 found.1) (sym c.is_of.ensures ∙ c.if-is_of.true))
+    sym (any-at test es c.place.result c.in-Some.entry.now
+    (slice_get_read es (length es) c.place.result c.in-Some.entry.now refl found.3.0 found.1)
+    (sym c.is_of.ensures ∙ c.if-is_of.true))
     ∙ ap (list_any test) c.as_slice-columns.ensures.value
     ∙ sym (any-seen h c.self.inside.columns.items)
     ∙ ap (λ k. is_entry k h) c.self.view_is

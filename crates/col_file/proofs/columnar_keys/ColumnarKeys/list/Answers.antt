@@ -10,5 +10,8 @@ loop-at-preserved c =
     let so_far = c.loop-at.found.items in
     let name = c.in_ok-name.name in
     let h = c.handle_at.result in
-    let more : map named c.push.new.self.items ≡ map named so_far ++ (string_bytes name, h) ∷ [] = rw c.in_ok-push.ensures.items (map_push named so_far (name, h)) in
-    more ∙ listed-next c.args.self.now.entries c.loop-at.at (c.loop-at.at + 1) (string_bytes name) h (map named so_far) refl (c.name_at.ensures ∙ ap Some (sym c.in_ok-name.ensures.ok)) c.handle_at.ensures c.loop-at.invariant
+    let more : map named c.push.new.self.items ≡ map named so_far ++ (string_bytes name, h) ∷ [] =
+    rw c.in_ok-push.ensures.items (map_push named so_far (name, h)) in
+    more ∙ listed-next c.args.self.now.entries c.loop-at.at (c.loop-at.at + 1) (string_bytes name) h
+    (map named so_far) refl (c.name_at.ensures ∙ ap Some (sym c.in_ok-name.ensures.ok)) c.handle_at.ensures
+    c.loop-at.invariant

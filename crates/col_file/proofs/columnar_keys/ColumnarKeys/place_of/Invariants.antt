@@ -5,4 +5,6 @@ use Rattle.col_file.specs.Handles.{entry_typed}
 use Rattle.col_file.proofs.columnar_keys.ColumnarKeys.place_of.Given as goal
 
 abbrev pub invariant-loop-at : goal.invariant-loop-at
-invariant-loop-at l = find (λ e. same_type e.key.column_type (kind_of l.column_type)) (slice_range l.self.entries l.at l.at-end) ≡ entry_typed l.name (kind_of l.column_type) l.self.entries
+invariant-loop-at l =
+    find (λ e. same_type e.key.column_type (kind_of l.column_type)) (slice_range l.self.entries l.at l.at-end)
+    ≡ entry_typed l.name (kind_of l.column_type) l.self.entries

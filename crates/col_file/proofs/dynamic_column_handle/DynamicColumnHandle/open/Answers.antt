@@ -7,4 +7,6 @@ use Rattle.col_file.proofs.dynamic_column_handle.DynamicColumnHandle.open.Goals 
 pub returns-clause-typed : goal.returns-clause-typed
 returns-clause-typed g c =
     let rows = c.num_docs.ensures ∙ ap (λ k. k.row_count) c.in_ok-bytes.ensures.kept.keys in
-    opened-typed c.in_ok-bytes.bytes (kind_of c.column_type.result) (version_number c.format_version.result) c.num_docs.result c.args.self.now.column_type c.args.reader.now.keys.row_count c.open_column.result c.column_type.ensures rows c.open_column.ensures.column c.open_column.ensures.kind
+    opened-typed c.in_ok-bytes.bytes (kind_of c.column_type.result) (version_number c.format_version.result)
+    c.num_docs.result c.args.self.now.column_type c.args.reader.now.keys.row_count c.open_column.result
+    c.column_type.ensures rows c.open_column.ensures.column c.open_column.ensures.kind

@@ -2,7 +2,7 @@ use Rattle.std.proofs.Common.{rules, ◌≡◌, ◌-◌, ◌++◌, get_or, Some,
 use Rattle.col_common.specs.Reading.{only_if}
 use Rattle.col_model.specs.Index.{offset_counts, multivalued_shape}
 use Rattle.col_model.specs.Positions.{rank, values_in}
-use Rattle.col_index.specs.Offsets.{AreOffsets, docs_of, positions_of, run}
+use Rattle.col_index.specs.Offsets.{AreOffsets, found_rows, positions_of, run}
 use Rattle.col_index.specs.Places.{IsPlace}
 use Rattle.col_index.specs.Sets.{holds}
 use Rattle.col_index.proofs.PushLemmas.{pushes-stopped, visited, visited-free, visited-none}
@@ -27,8 +27,12 @@ loop-doc-preserved-in_default c =
     let none = values-free o a doc (only_if-none (holds o.set.rows doc) (rank o.set.rows doc) told) in
     record {
       place = p;
-      docs = visited-free (λ p. p.0) (offset_counts o) c.args.docs.now _ _ c.loop-doc.doc-index c.loop-doc-test.true none c.loop-doc.invariant.docs;
-      rows = visited-free (λ p. p.1) (offset_counts o) c.args.docs.now _ _ c.loop-doc.doc-index c.loop-doc-test.true none c.loop-doc.invariant.rows;
+      docs =
+          visited-free (λ p. p.0) (offset_counts o) c.args.docs.now _ _ c.loop-doc.doc-index c.loop-doc-test.true
+          none c.loop-doc.invariant.docs;
+      rows =
+          visited-free (λ p. p.1) (offset_counts o) c.args.docs.now _ _ c.loop-doc.doc-index c.loop-doc-test.true
+          none c.loop-doc.invariant.rows;
     }
 
 pub range_at-positions-requires : goal.range_at-positions-requires
@@ -55,9 +59,17 @@ loop-doc-preserved c =
     let told : Some c.in-Some.rank ≡ only_if (holds o.set.rows doc) (rank o.set.rows doc) = search rules in
     let held = only_if-some (holds o.set.rows doc) c.in-Some.rank (rank o.set.rows doc) told in
     let range = c.range_at-positions.result in
-    let values : run doc range.start (range.«end» - range.start) ≡ values_in (multivalued_shape (offset_counts o)) doc = values-held o a doc c.in-Some.rank range.start range.«end» held.1 held.0 c.range_at-positions.ensures.start c.range_at-positions.ensures.«end» in
+    let values : run doc range.start (range.«end» - range.start) ≡ values_in (multivalued_shape (offset_counts o))
+    doc = values-held o a doc c.in-Some.rank range.start range.«end» held.1 held.0
+    c.range_at-positions.ensures.start c.range_at-positions.ensures.«end» in
     record {
       place = p;
-      docs = visited (λ p. p.0) (offset_counts o) c.args.docs.now _ _ _ c.loop-doc.doc-index c.loop-doc-test.true c.loop-doc.invariant.docs (c.in_ok-push_run.ensures.docs ∙ ap (λ vs. c.loop-doc.docs_out.items ++ docs_of vs) values);
-      rows = visited (λ p. p.1) (offset_counts o) c.args.docs.now _ _ _ c.loop-doc.doc-index c.loop-doc-test.true c.loop-doc.invariant.rows (c.in_ok-push_run.ensures.rows ∙ ap (λ vs. c.loop-doc.rows_out.items ++ positions_of vs) values);
+      docs =
+          visited (λ p. p.0) (offset_counts o) c.args.docs.now _ _ _ c.loop-doc.doc-index c.loop-doc-test.true
+          c.loop-doc.invariant.docs
+          (c.in_ok-push_run.ensures.docs ∙ ap (λ vs. c.loop-doc.docs_out.items ++ found_rows vs) values);
+      rows =
+          visited (λ p. p.1) (offset_counts o) c.args.docs.now _ _ _ c.loop-doc.doc-index c.loop-doc-test.true
+          c.loop-doc.invariant.rows
+          (c.in_ok-push_run.ensures.rows ∙ ap (λ vs. c.loop-doc.rows_out.items ++ positions_of vs) values);
     }

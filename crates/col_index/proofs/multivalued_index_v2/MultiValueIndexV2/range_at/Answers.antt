@@ -6,12 +6,14 @@ use Rattle.col_index.proofs.multivalued_index_v2.MultiValueIndexV2.range_at.Goal
 
 pub overflow_cast-result : goal.overflow_cast-result
 overflow_cast-result c =
-    let small = start-fits _ (list_of c.self.inside.start_index_column) c.args.rank c.get_pair-start.result.0 c.self.invariant.starts c.get_pair-start.ensures.first in
+    let small = start-fits _ (list_of c.self.inside.start_index_column) c.args.rank c.get_pair-start.result.0
+    c.self.invariant.starts c.get_pair-start.ensures.first in
     search rules
 
 pub overflow_cast-result-2 : goal.overflow_cast-result-2
 overflow_cast-result-2 c =
-    let small = start-fits _ (list_of c.self.inside.start_index_column) (c.args.rank + 1) c.get_pair-start.result.1 c.self.invariant.starts c.get_pair-start.ensures.second in
+    let small = start-fits _ (list_of c.self.inside.start_index_column) (c.args.rank + 1) c.get_pair-start.result.1
+    c.self.invariant.starts c.get_pair-start.ensures.second in
     search rules
 
 pub returns-clause-start : goal.returns-clause-start

@@ -35,10 +35,14 @@ select-requires c =
     let ps = c.args.ranks.now in
     let at = c.loop-at.at in
     let read = selected-read (offset_counts o) ps c.loop-at.ranks c.loop-at.kept at c.loop-at.invariant.selected in
-    let started = window_started o.starts _ c.window_at-window.result c.window_at-window.new.table (get_or c.loop-at.ranks at 0) (get_or ps at 0) (ap (λ (o : RowOffsets). o.starts) c.self.view_is) c.window_at-window.ensures.window c.window_at-window.ensures.from c.window_at-window.ensures.upto read in
+    let started = window_started o.starts _ c.window_at-window.result c.window_at-window.new.table
+    (get_or c.loop-at.ranks at 0) (get_or ps at 0) (ap (λ (o : RowOffsets). o.starts) c.self.view_is)
+    c.window_at-window.ensures.window c.window_at-window.ensures.from c.window_at-window.ensures.upto read in
     let some = started-some o a ps at c.requires.rising c.loop-at-test.true c.requires.below in
     let inside = started-inside o a ps at c.requires.rising c.loop-at-test.true c.requires.below in
-    let fits : get_or c.window_at-window.new.table (get_or c.loop-at.ranks at 0 - c.window_at-window.result.position) 0 - 1 < length o.set.rows = omega (arith, started, some, inside) in
+    let fits : get_or c.window_at-window.new.table
+    (get_or c.loop-at.ranks at 0 - c.window_at-window.result.position) 0 - 1 < length o.set.rows =
+    omega (arith, started, some, inside) in
     search rules
 
 pub loop-at-preserved : goal.loop-at-preserved
@@ -48,12 +52,17 @@ loop-at-preserved c =
     let ps = c.args.ranks.now in
     let at = c.loop-at.at in
     let read = selected-read (offset_counts o) ps c.loop-at.ranks c.loop-at.kept at c.loop-at.invariant.selected in
-    let started = window_started o.starts _ c.window_at-window.result c.window_at-window.new.table (get_or c.loop-at.ranks at 0) (get_or ps at 0) (ap (λ (o : RowOffsets). o.starts) c.self.view_is) c.window_at-window.ensures.window c.window_at-window.ensures.from c.window_at-window.ensures.upto read in
+    let started = window_started o.starts _ c.window_at-window.result c.window_at-window.new.table
+    (get_or c.loop-at.ranks at 0) (get_or ps at 0) (ap (λ (o : RowOffsets). o.starts) c.self.view_is)
+    c.window_at-window.ensures.window c.window_at-window.ensures.from c.window_at-window.ensures.upto read in
     let number = get_or c.window_at-window.new.table (get_or c.loop-at.ranks at 0 - c.window_at-window.result.position) 0 in
     let found : slice_get o.set.rows (number - 1) ≡ Some c.select.result = search rules in
     record {
       window = search rules;
       room = search rules;
       before = started ∙ ap (rank o.starts) (after-more ps at (get_or ps at 0) refl);
-      selected = row-written o a ps at c.requires.rising c.loop-at-test.true c.requires.below c.loop-at.ranks c.loop-at.kept c.loop-at.before number c.select.result c.loop-at.invariant.selected c.loop-at.invariant.before started found c.is_other.result c.is_other.ensures;
+      selected =
+          row-written o a ps at c.requires.rising c.loop-at-test.true c.requires.below c.loop-at.ranks
+          c.loop-at.kept c.loop-at.before number c.select.result c.loop-at.invariant.selected
+          c.loop-at.invariant.before started found c.is_other.result c.is_other.ensures;
     }

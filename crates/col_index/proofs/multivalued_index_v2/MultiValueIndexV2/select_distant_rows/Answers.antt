@@ -19,12 +19,14 @@ loop-at-preserved-then-place-before c =
     let a : AreOffsets o = search rules in
     let ps = c.args.ranks.now in
     let at = c.loop-at.at in
-    let t = turned o ps c.loop-at.ranks c.loop-at.kept at c.from.result c.seek-place.result (search rules) c.seek-place.ensures.target c.from.ensures c.loop-at.invariant.selected in
+    let t = turned o ps c.loop-at.ranks c.loop-at.kept at c.from.result c.seek-place.result (search rules)
+    c.seek-place.ensures.target c.from.ensures c.loop-at.invariant.selected in
     record {
       place = t.place;
       target = t.target ∙ after-more ps at (get_or ps at 0) refl;
       selected = selected-same (offset_counts o) ps c.loop-at.ranks c.loop-at.kept at c.loop-at.invariant.selected
-          (turn-same o a ps at c.requires.rising c.loop-at-test.true c.requires.below c.seek-place.result t c.loop-at.place c.loop-at.invariant.place c.loop-at.invariant.target c.if-place-before.true);
+          (turn-same o a ps at c.requires.rising c.loop-at-test.true c.requires.below c.seek-place.result t
+          c.loop-at.place c.loop-at.invariant.place c.loop-at.invariant.target c.if-place-before.true);
     }
 
 pub overflow_sub-place : goal.overflow_sub-place
@@ -33,7 +35,8 @@ overflow_sub-place c =
     let a : AreOffsets o = search rules in
     let ps = c.args.ranks.now in
     let at = c.loop-at.at in
-    let t = turned o ps c.loop-at.ranks c.loop-at.kept at c.from.result c.seek-place.result (search rules) c.seek-place.ensures.target c.from.ensures c.loop-at.invariant.selected in
+    let t = turned o ps c.loop-at.ranks c.loop-at.kept at c.from.result c.seek-place.result (search rules)
+    c.seek-place.ensures.target c.from.ensures c.loop-at.invariant.selected in
     turn-some o a ps at c.requires.rising c.loop-at-test.true c.requires.below c.seek-place.result t
 
 pub select-requires : goal.select-requires
@@ -42,8 +45,10 @@ select-requires c =
     let a : AreOffsets o = search rules in
     let ps = c.args.ranks.now in
     let at = c.loop-at.at in
-    let t = turned o ps c.loop-at.ranks c.loop-at.kept at c.from.result c.seek-place.result (search rules) c.seek-place.ensures.target c.from.ensures c.loop-at.invariant.selected in
-    let inside : c.seek-place.result.at - 1 < length o.set.rows = turn-inside o a ps at c.requires.rising c.loop-at-test.true c.requires.below c.seek-place.result t in
+    let t = turned o ps c.loop-at.ranks c.loop-at.kept at c.from.result c.seek-place.result (search rules)
+    c.seek-place.ensures.target c.from.ensures c.loop-at.invariant.selected in
+    let inside : c.seek-place.result.at - 1 < length o.set.rows =
+    turn-inside o a ps at c.requires.rising c.loop-at-test.true c.requires.below c.seek-place.result t in
     search rules
 
 pub loop-at-preserved : goal.loop-at-preserved
@@ -52,12 +57,17 @@ loop-at-preserved c =
     let a : AreOffsets o = search rules in
     let ps = c.args.ranks.now in
     let at = c.loop-at.at in
-    let t = turned o ps c.loop-at.ranks c.loop-at.kept at c.from.result c.seek-place.result (search rules) c.seek-place.ensures.target c.from.ensures c.loop-at.invariant.selected in
+    let t = turned o ps c.loop-at.ranks c.loop-at.kept at c.from.result c.seek-place.result (search rules)
+    c.seek-place.ensures.target c.from.ensures c.loop-at.invariant.selected in
     let found : slice_get o.set.rows (c.seek-place.result.at - 1) ≡ Some c.select.result = search rules in
-    let next = turn-next o a ps at c.requires.rising c.loop-at-test.true c.requires.below c.seek-place.result t c.loop-at.place c.loop-at.invariant.place c.loop-at.invariant.target c.if-place-before.false c.select.result found in
+    let next = turn-next o a ps at c.requires.rising c.loop-at-test.true c.requires.below c.seek-place.result t
+    c.loop-at.place c.loop-at.invariant.place c.loop-at.invariant.target c.if-place-before.false c.select.result
+    found in
     let long : at < length c.loop-at.ranks = omega arith in
     record {
       place = t.place;
       target = t.target ∙ after-more ps at (get_or ps at 0) refl;
-      selected = selected-next (offset_counts o) ps c.loop-at.ranks c.loop-at.kept at c.loop-at.invariant.selected c.select.result long next;
+      selected =
+          selected-next (offset_counts o) ps c.loop-at.ranks c.loop-at.kept at c.loop-at.invariant.selected
+          c.select.result long next;
     }

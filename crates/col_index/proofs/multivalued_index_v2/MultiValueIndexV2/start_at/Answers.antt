@@ -6,7 +6,8 @@ use Rattle.col_index.proofs.multivalued_index_v2.MultiValueIndexV2.start_at.Goal
 
 pub overflow_cast-result : goal.overflow_cast-result
 overflow_cast-result c =
-    let small = start-fits _ (list_of c.self.inside.start_index_column) c.args.rank c.get_val.result c.self.invariant.starts c.get_val.ensures in
+    let small = start-fits _ (list_of c.self.inside.start_index_column) c.args.rank c.get_val.result
+    c.self.invariant.starts c.get_val.ensures in
     search rules
 
 pub returns : goal.returns

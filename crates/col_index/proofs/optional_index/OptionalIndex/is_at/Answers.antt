@@ -5,4 +5,5 @@ use Rattle.col_index.proofs.optional_index.OptionalIndex.is_at.Goals as goal
 pub returns : goal.returns
 returns c =
     let p = c.args.place in
-    holds_place c.args.self.now.rows p.at p.next p.target (rows_rise c.args.self.now c.rows_rise.ensures) c.requires.place.count c.requires.place.first c.requires.row
+    holds_place c.args.self.now.rows p.at p.next p.target (rows_rise c.args.self.now c.rows_rise.ensures)
+    c.requires.place.count c.requires.place.first c.requires.row

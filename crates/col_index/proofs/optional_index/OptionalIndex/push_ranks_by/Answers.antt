@@ -11,8 +11,10 @@ returns-in_err-push_pair c =
     let front = take c.loop-doc.doc-index c.args.docs.now in
     let told = c.in_err-push_pair.ensures.err in
     pushes-stopped _ c.from_residual.result c.from_residual.ensures.1
-    (begins_later c.loop-doc.docs_out.items c.push_pair.new.docs_out.items c.args.docs_out.now.items (held rows front) c.loop-doc.invariant.docs told.0)
-    (begins_later c.loop-doc.rows_out.items c.push_pair.new.rows_out.items c.args.rows_out.now.items (held_ranks rows front) c.loop-doc.invariant.rows told.1)
+    (begins_later c.loop-doc.docs_out.items c.push_pair.new.docs_out.items c.args.docs_out.now.items
+    (held rows front) c.loop-doc.invariant.docs told.0)
+    (begins_later c.loop-doc.rows_out.items c.push_pair.new.rows_out.items c.args.rows_out.now.items
+    (held_ranks rows front) c.loop-doc.invariant.rows told.1)
 
 pub loop-doc-preserved : goal.loop-doc-preserved
 loop-doc-preserved c =
@@ -23,5 +25,7 @@ loop-doc-preserved c =
     record {
       place = c.rank_near.ensures.place;
       docs = held-pushed xs docs at c.loop-doc-test.true told.0 _ _ _ c.loop-doc.invariant.docs c.in_ok-push_pair.ensures.docs;
-      rows = rank-pushed xs docs at c.loop-doc-test.true told.0 _ _ _ c.in-Some.rank told.1 c.loop-doc.invariant.rows c.in_ok-push_pair.ensures.rows;
+      rows =
+          rank-pushed xs docs at c.loop-doc-test.true told.0 _ _ _ c.in-Some.rank told.1 c.loop-doc.invariant.rows
+          c.in_ok-push_pair.ensures.rows;
     }

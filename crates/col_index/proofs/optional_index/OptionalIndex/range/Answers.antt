@@ -39,7 +39,8 @@ returns-then-holds_at-clause-end c =
     let s = c.args.self.now in
     let own = subst AreRows c.self.view_is c.self.invariant.rows in
     let count = ap (λ s. s.num_rows) c.self.view_is in
-    ap (λ n. n + 1) c.rank-rank.ensures ∙ sym (range_end-held s c.args.doc_id own (omega arith) (sym c.holds_at.ensures ∙ c.if-holds_at.true))
+    ap (λ n. n + 1) c.rank-rank.ensures
+    ∙ sym (range_end-held s c.args.doc_id own (omega arith) (sym c.holds_at.ensures ∙ c.if-holds_at.true))
 
 pub returns-else-holds_at-clause-start : goal.returns-else-holds_at-clause-start
 returns-else-holds_at-clause-start c =

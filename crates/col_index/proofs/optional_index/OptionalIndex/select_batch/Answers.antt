@@ -4,7 +4,9 @@ use Rattle.col_index.proofs.SelectLemmas.{rank_below, selected_front, selected_r
 use Rattle.col_index.proofs.optional_index.OptionalIndex.select_batch.Goals as goal
 
 pub select-requires : goal.select-requires
-select-requires c = rank_below c.args.self.now.rows c.args.ranks.now c.loop-at.ranks c.loop-at.at c.loop-at-test.true c.loop-at.invariant.rest c.requires
+select-requires c =
+    rank_below c.args.self.now.rows c.args.ranks.now c.loop-at.ranks c.loop-at.at c.loop-at-test.true
+    c.loop-at.invariant.rest c.requires
 
 pub loop-at-preserved : goal.loop-at-preserved
 loop-at-preserved c =

@@ -5,5 +5,6 @@ use Rattle.col_index.proofs.optional_index.OptionalIndexSetRowId.select.Goals as
 
 pub overflow_cast-result : goal.overflow_cast-result
 overflow_cast-result c =
-    let below = row_below (record { num_rows = c.self.inside.num_rows; rows = list_of c.self.inside.rows }) c.args.rank c.get_val.result c.self.invariant.rows c.get_val.ensures in
+    let below = row_below (record { num_rows = c.self.inside.num_rows; rows = list_of c.self.inside.rows })
+    c.args.rank c.get_val.result c.self.invariant.rows c.get_val.ensures in
     omega arith

@@ -14,7 +14,8 @@ sums_before-requires c =
     let n = c.args.num_rows in
     let shift = c.part_shift-shift.result in
     let counts = c.count_rows.new.counts in
-    let same = take_at counts (drop (length counts) c.in_ok-counts.counts.items) c.in_ok-counts.counts.len (c.count_rows.auto.counts ∙ c.deref_mut.ensures.len) in
+    let same = take_at counts (drop (length counts) c.in_ok-counts.counts.items) c.in_ok-counts.counts.len
+    (c.count_rows.auto.counts ∙ c.deref_mut.ensures.len) in
     let own : is_row_list n rows ≡ true = sym c.count_rows.ensures.rows ∙ c.if-not-count_rows.false in
     let few = few_rows n rows own in
     let total = ap sum (c.deref.ensures.value ∙ same) in
@@ -28,10 +29,12 @@ returns-clause-ranks c =
     let shift = c.part_shift-shift.result in
     let counts = c.count_rows.new.counts in
     let before = c.in_ok-before.before.items in
-    let same = take_at counts (drop (length counts) c.in_ok-counts.counts.items) c.in_ok-counts.counts.len (c.count_rows.auto.counts ∙ c.deref_mut.ensures.len) in
+    let same = take_at counts (drop (length counts) c.in_ok-counts.counts.items) c.in_ok-counts.counts.len
+    (c.count_rows.auto.counts ∙ c.deref_mut.ensures.len) in
     let sums = subst (λ cs. AreSums cs before) (c.deref.ensures.value ∙ same) c.in_ok-before.ensures in
     let ranks = sums-counts rows counts (2 ^ shift) (pow_pos shift) (c.count_rows.ensures.counts c.if-not-count_rows.false) before sums in
-    let parts : length counts ≡ n / 2 ^ shift + 1 = omega (arith, c.count_rows.auto.counts, c.deref_mut.ensures.len, c.in_ok-counts.ensures.len) in
+    let parts : length counts ≡ n / 2 ^ shift + 1 =
+    omega (arith, c.count_rows.auto.counts, c.deref_mut.ensures.len, c.in_ok-counts.ensures.len) in
     record {
       short = c.part_shift-shift.ensures;
       room = omega (arith, ranks.long, parts);

@@ -12,7 +12,8 @@ returns-clause-ranks c =
     let n = c.args.num_rows in
     let words = c.set_rows.new.words in
     let before = c.in_ok-before.before.items in
-    let same = take_at words (drop (length words) c.in_ok-words.words.items) c.in_ok-words.words.len (c.set_rows.auto.words ∙ c.deref_mut.ensures.len) in
+    let same = take_at words (drop (length words) c.in_ok-words.words.items) c.in_ok-words.words.len
+    (c.set_rows.auto.words ∙ c.deref_mut.ensures.len) in
     let own : is_row_list n rows ≡ true = sym c.set_rows.ensures.rows ∙ c.if-not-set_rows.false in
     let few = few_rows n rows own in
     let long = ap length (c.deref.ensures.value ∙ same) in
@@ -25,5 +26,6 @@ returns-clause-ranks c =
 pub returns-clause-room : goal.returns-clause-room
 returns-clause-room c =
     let words = c.set_rows.new.words in
-    let same = take_at words (drop (length words) c.in_ok-words.words.items) c.in_ok-words.words.len (c.set_rows.auto.words ∙ c.deref_mut.ensures.len) in
+    let same = take_at words (drop (length words) c.in_ok-words.words.items) c.in_ok-words.words.len
+    (c.set_rows.auto.words ∙ c.deref_mut.ensures.len) in
     omega (arith, ap length same, c.set_rows.auto.words, c.deref_mut.ensures.len, c.in_ok-words.ensures.len, c.div_ceil.ensures)

@@ -7,7 +7,9 @@ pub returns-then-target-self-2-clause-place : goal.returns-then-target-self-2-cl
 returns-then-target-self-2-clause-place c =
     let p = c.args.self in
     record {
-      count = rank_kept (list_of c.args.values.now) p.at p.next p.target c.args.target c.requires.rising c.requires.place.count c.if-target-self.false c.requires.place.first c.if-target-self-2.true;
+      count =
+          rank_kept (list_of c.args.values.now) p.at p.next p.target c.args.target c.requires.rising
+          c.requires.place.count c.if-target-self.false c.requires.place.first c.if-target-self-2.true;
       first = c.requires.place.first;
     }
 
@@ -17,6 +19,8 @@ returns-then-target-behind-clause-place c =
     let on : p.target ≤ c.args.target = omega (arith, c.step-behind.ensures.target, c.if-target-self-2.false) in
     let place = c.step-behind.ensures.place in
     record {
-      count = rank_kept (list_of c.args.values.now) p.at p.next p.target c.args.target c.requires.rising place.count on place.first c.if-target-behind.true;
+      count =
+          rank_kept (list_of c.args.values.now) p.at p.next p.target c.args.target c.requires.rising place.count on
+          place.first c.if-target-behind.true;
       first = place.first;
     }

@@ -11,7 +11,8 @@ has_value_at-requires c =
     let addrs = c.iter_new_to_old_row_addrs-addrs.result.now in
     let counts = inside.order.now.counts in
     let named = ap (λ all. list_all (has_row counts) all) c.iter_new_to_old_row_addrs-addrs.ensures ∙ c.self.invariant.named in
-    segment-there inside.column_indexes.now addrs counts c.loop-at.at.place (record { segment_ord = 0; row_id = 0 }) c.self.invariant.fit named c.loop-at-test.true
+    segment-there inside.column_indexes.now addrs counts c.loop-at.at.place (record { segment_ord = 0; row_id = 0 })
+    c.self.invariant.fit named c.loop-at-test.true
 
 pub returns-then-has_value_at-clause-value : goal.returns-then-has_value_at-clause-value
 returns-then-has_value_at-clause-value c =
@@ -19,8 +20,11 @@ returns-then-has_value_at-clause-value c =
     let indexes = c.self.inside.column_indexes.now in
     let addrs = c.iter_new_to_old_row_addrs-addrs.result.now in
     let k = c.loop-at.at.place in
-    let there = pick-there indexes addrs p k _ (record { segment_ord = 0; row_id = 0 }) (are_of indexes addrs c.self.inside.order.now p c.self.view_is c.iter_new_to_old_row_addrs-addrs.ensures) c.loop-at-test.true refl in
-    let some : get_or (shuffled_counts p) k 0 ≢ 0 = λ e. count-some _ (sym c.if-has_value_at.true ∙ c.has_value_at.ensures) (sym there.1 ∙ e) in
+    let there = pick-there indexes addrs p k _ (record { segment_ord = 0; row_id = 0 })
+    (are_of indexes addrs c.self.inside.order.now p c.self.view_is c.iter_new_to_old_row_addrs-addrs.ensures)
+    c.loop-at-test.true refl in
+    let some : get_or (shuffled_counts p) k 0 ≢ 0 =
+    λ e. count-some _ (sym c.if-has_value_at.true ∙ c.has_value_at.ensures) (sym there.1 ∙ e) in
     sym c.loop-at.invariant.left ∙ picks-some (shuffled_counts p) k there.0 some
 
 pub loop-at-preserved : goal.loop-at-preserved
@@ -29,7 +33,9 @@ loop-at-preserved c =
     let indexes = c.self.inside.column_indexes.now in
     let addrs = c.iter_new_to_old_row_addrs-addrs.result.now in
     let k = c.loop-at.at.place in
-    let there = pick-there indexes addrs p k _ (record { segment_ord = 0; row_id = 0 }) (are_of indexes addrs c.self.inside.order.now p c.self.view_is c.iter_new_to_old_row_addrs-addrs.ensures) c.loop-at-test.true refl in
+    let there = pick-there indexes addrs p k _ (record { segment_ord = 0; row_id = 0 })
+    (are_of indexes addrs c.self.inside.order.now p c.self.view_is c.iter_new_to_old_row_addrs-addrs.ensures)
+    c.loop-at-test.true refl in
     let none : get_or (shuffled_counts p) k 0 ≡ 0 = there.1 ∙ count-none _ (sym c.if-has_value_at.false ∙ c.has_value_at.ensures) in
     record {
       stands = omega (arith, length-shuffled p, there.0);

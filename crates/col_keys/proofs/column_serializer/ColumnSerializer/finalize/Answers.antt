@@ -10,7 +10,9 @@ returns-in_err-serialize_bytes g c =
 pub returns-in_err-list : goal.returns-in_err-list
 returns-in_err-list g c =
     let p = err_from_is_err_and c.from_residual-in_err-list.result c.from_residual-in_err-list.ensures.1 in
-    rw (p.1, p.2) (puts-as _ _ _ _ _ _ _ _ (puts-unlisted _ _ _ _ _ _ _ c.in_ok-serialize_bytes.ensures c.in_err-list.ensures.kept) c.as_slice-bytes.ensures)
+    rw (p.1, p.2) (puts-as _ _ _ _ _ _ _ _
+    (puts-unlisted _ _ _ _ _ _ _ c.in_ok-serialize_bytes.ensures c.in_err-list.ensures.kept)
+    c.as_slice-bytes.ensures)
 
 pub returns : goal.returns
 returns g c =

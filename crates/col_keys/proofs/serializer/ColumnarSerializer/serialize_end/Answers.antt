@@ -1,8 +1,9 @@
 use Rattle.std.proofs.Common.{arith}
 use Rattle.std.proofs.lemmas.Result.{err_from_is_err_and}
 use Rattle.col_common.proofs.SerializingLemmas.{serializes-as, serializes-refused, serializes-then}
-use Rattle.col_keys.specs.Put.{Columns}
-use Rattle.col_keys.proofs.EndLemmas.{end-parts, end-short, always}
+use Rattle.col_keys.specs.Put.{PutColumns}
+use Rattle.col_common.proofs.OnOkLemmas.{on_ok-always}
+use Rattle.col_keys.proofs.EndLemmas.{end-parts, end-short}
 use Rattle.col_keys.proofs.serializer.ColumnarSerializer.serialize_end.Goals as goal
 
 pub returns-in_err-serialize_bytes-clause-ok : goal.returns-in_err-serialize_bytes-clause-ok
@@ -13,12 +14,13 @@ returns-in_err-serialize_bytes-clause-ok g c =
 
 pub returns-clause-ok : goal.returns-clause-ok
 returns-clause-ok g c =
-    let columns : Columns = record { count = c.self.inside.num_columns; table = c.self.inside.table } in
+    let columns : PutColumns = record { count = c.self.inside.num_columns; table = c.self.inside.table } in
     let front = serializes-then _ _ _ _ _ _ _ c.in_ok-serialize.ensures.ok c.in_ok-serialize_bytes.ensures in
     rw (← c.self.view_is) (serializes-as _ _ _ _ _ (serializes-then _ _ _ _ _ _ _ front c.serialize_footer.ensures)
     (end-parts columns c.args.num_rows c.in-Some.table_len c.as_slice-entries.result.now c.as_slice-entries.ensures c.in-Some.ensures))
 
 pub returns-clause-short : goal.returns-clause-short
 returns-clause-short g c =
-    let columns : Columns = record { count = c.self.inside.num_columns; table = c.self.inside.table } in
-    rw (← c.self.view_is) (always c.serialize_footer.result (end-short columns c.in-Some.table_len c.as_slice-entries.result.now c.as_slice-entries.ensures c.in-Some.ensures (omega arith)))
+    let columns : PutColumns = record { count = c.self.inside.num_columns; table = c.self.inside.table } in
+    rw (← c.self.view_is) (on_ok-always c.serialize_footer.result (end-short columns c.in-Some.table_len
+    c.as_slice-entries.result.now c.as_slice-entries.ensures c.in-Some.ensures (omega arith)))

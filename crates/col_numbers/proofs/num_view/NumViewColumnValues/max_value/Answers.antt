@@ -6,14 +6,18 @@ use Rattle.col_numbers.proofs.num_view.NumViewColumnValues.max_value.Goals as go
 
 pub see-requires : goal.see-requires
 see-requires g c =
-    greatest_is_seen g.met.T.MonotonicallyMappableToU64.laws (g.met.M.StrictlyMonotonicFn.laws c.self.inside.mapping) (list_of c.self.inside.values) c.max_value.result c.self.invariant (omega (arith, c.num_vals.ensures, c.if-num_vals-eq0.false)) c.max_value.ensures.value
+    greatest_is_seen g.met.T.MonotonicallyMappableToU64.laws
+    (g.met.M.StrictlyMonotonicFn.laws c.self.inside.mapping) (list_of c.self.inside.values) c.max_value.result
+    c.self.invariant (omega (arith, c.num_vals.ensures, c.if-num_vals-eq0.false)) c.max_value.ensures.value
 
 -- what the greatest number is seen as
 is_greatest : (g : _) (c : goal.After-see g) → IsGreatestOf g.T.PartialOrd.partial_cmp g.T.Default.is_default c.args.self.now c.see.result
 is_greatest g c =
     let some : 0 < length (list_of c.self.inside.values) = omega (arith, c.num_vals.ensures, c.if-num_vals-eq0.false) in
     rw (← c.self.view_is, c.see.ensures)
-    (greatest_seen g.met.T.MonotonicallyMappableToU64.laws (g.met.M.StrictlyMonotonicFn.laws c.self.inside.mapping) g.T.Default.is_default (list_of c.self.inside.values) c.max_value.result c.self.invariant some c.max_value.ensures.value c.max_value.ensures.encloses)
+    (greatest_seen g.met.T.MonotonicallyMappableToU64.laws (g.met.M.StrictlyMonotonicFn.laws c.self.inside.mapping)
+    g.T.Default.is_default (list_of c.self.inside.values) c.max_value.result c.self.invariant some
+    c.max_value.ensures.value c.max_value.ensures.encloses)
 
 pub returns-clause-value : goal.returns-clause-value
 returns-clause-value = is_greatest

@@ -4,5 +4,10 @@ use Rattle.col_script.proofs.draft.Draft.finish.Goals as goal
 
 pub returns : goal.returns
 returns c =
-    ends c.args.self (record { segments = c.add_last.new.segments; required = c.args.self.required; order = c.args.self.order; finds = c.args.self.finds })
+    ends c.args.self (record {
+      segments = c.add_last.new.segments;
+      required = c.args.self.required;
+      order = c.args.self.order;
+      finds = c.args.self.finds;
+    })
     c.in_ok-add_last.ensures refl refl refl

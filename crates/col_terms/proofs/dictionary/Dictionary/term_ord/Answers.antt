@@ -8,7 +8,8 @@ use Rattle.col_terms.proofs.dictionary.Dictionary.term_ord.Goals as goal
 
 pub returns-in-Ok : goal.returns-in-Ok
 returns-in-Ok c =
-    let up = ap (λ bytes. is_ascending (terms_of bytes)) c.as_slice.ensures ∙ table_ascending c.self.inside.bytes c.self.inside.num_terms c.self.invariant in
+    let up = ap (λ bytes. is_ascending (terms_of bytes)) c.as_slice.ensures
+    ∙ table_ascending c.self.inside.bytes c.self.inside.num_terms c.self.invariant in
     ap Some c.from.ensures ∙ sym (ord_of-at (terms_of c.as_slice.result.now) c.args.key.now c.in-Ok.ord up c.in-Ok.ensures.found)
     ∙ ap (λ ts. ord_of ts c.args.key.now) (ap terms_of c.as_slice.ensures ∙ c.self.view_is)
 

@@ -19,8 +19,14 @@ index_mut-requires c =
 pub loop-ord-preserved : goal.loop-ord-preserved
 loop-ord-preserved c = record {
   long = length-set c.loop-ord.ords.items _ _ ∙ c.loop-ord.invariant.long;
-  placed = placed-more c.args.self.now c.args.terms.now c.requires c.loop-ord.ords.items c.loop-ord.ord _ c.loop-ord-test.true c.loop-ord.invariant.long (id-read c.args.self.now c.args.terms.now c.requires c.loop-ord.ord c.loop-ord-test.true) c.loop-ord.invariant.placed;
+  placed =
+      placed-more c.args.self.now c.args.terms.now c.requires c.loop-ord.ords.items c.loop-ord.ord _
+      c.loop-ord-test.true c.loop-ord.invariant.long
+      (id-read c.args.self.now c.args.terms.now c.requires c.loop-ord.ord c.loop-ord-test.true)
+      c.loop-ord.invariant.placed;
 }
 
 pub returns : goal.returns
-returns c = ordinals-are c.args.self.now c.args.terms.now c.requires c.loop-ord.ords.items c.loop-ord.invariant.long (λ k h. c.loop-ord.invariant.placed k (omega (arith, c.loop-ord-test.false)))
+returns c =
+    ordinals-are c.args.self.now c.args.terms.now c.requires c.loop-ord.ords.items c.loop-ord.invariant.long
+    (λ k h. c.loop-ord.invariant.placed k (omega (arith, c.loop-ord-test.false)))

@@ -12,5 +12,7 @@ overflow_mul-ends_len c = omega (arith, c.len.ensures, c.self.invariant.few)
 
 pub returns : goal.returns
 returns c =
-    length-counted c.self.inside.terms c.len.result c.terms_num_bytes.result c.saturating_add.result c.self.invariant.differ c.len.ensures (c.terms_num_bytes.ensures ∙ ap counted_bytes (sym c.self.view_is)) c.saturating_add.ensures
+    length-counted c.self.inside.terms c.len.result c.terms_num_bytes.result c.saturating_add.result
+    c.self.invariant.differ c.len.ensures (c.terms_num_bytes.ensures ∙ ap counted_bytes (sym c.self.view_is))
+    c.saturating_add.ensures
     ∙ ap (λ ts. min (dictionary_length (ordered ts)) (2 ^ 64 - 1)) c.self.view_is

@@ -1,4 +1,4 @@
-use Rattle.std.proofs.Common.{◌≡◌, map, ap, sym, ◌∙◌}
+use Rattle.std.proofs.Common.{map, ap, sym, ◌∙◌}
 use Rattle.col_common.specs.Ascending.{is_ascending}
 use Rattle.col_terms.specs.Streams.{OrdTerm, TermStream}
 use Rattle.col_terms.proofs.WalkLemmas.{walk-ascends}

@@ -15,10 +15,13 @@ index-requires c =
     let count = holds-count a.bytes.items a.ends.items (terms_by a.ends.items a.bytes.items) c.self.invariant in
     omega (arith, count, ap length c.self.view_is, c.requires)
 
-placed : (c : goal.After-row_known-1) → HoldsAt c.self.inside.bytes.items (terms_by c.self.inside.ends.items c.self.inside.bytes.items) c.args.id c.start_of-start.result c.index.result.now
+placed : (c : goal.After-row_known-1)
+    → HoldsAt c.self.inside.bytes.items (terms_by c.self.inside.ends.items c.self.inside.bytes.items) c.args.id
+    c.start_of-start.result c.index.result.now
 placed c =
     let a = c.self.inside in
-    holds-at a.bytes.items a.ends.items (terms_by a.ends.items a.bytes.items) c.args.id c.start_of-start.result c.index.result.now c.self.invariant (omega (arith, ap length c.self.view_is, c.requires))
+    holds-at a.bytes.items a.ends.items (terms_by a.ends.items a.bytes.items) c.args.id c.start_of-start.result
+    c.index.result.now c.self.invariant (omega (arith, ap length c.self.view_is, c.requires))
     (c.start_of-start.ensures ∙ ap (λ es. get_or (0 ∷ es) c.args.id 0) c.deref.ensures.value) c.index.ensures
 
 pub slice_bounds-result-count : goal.slice_bounds-result-count
@@ -34,5 +37,9 @@ pub returns : goal.returns
 returns c =
     let a = c.self.inside in
     let starts = c.start_of-start.ensures ∙ ap (λ es. get_or (0 ∷ es) c.args.id 0) c.deref.ensures.value in
-    let here = holds-at a.bytes.items a.ends.items (terms_by a.ends.items a.bytes.items) c.args.id c.start_of-start.result c.index.result.now c.self.invariant (omega (arith, ap length c.self.view_is, c.requires)) starts c.index.ensures in
-    ap (λ ts. slice_get ts c.args.id) (sym c.self.view_is) ∙ here.is ∙ ap (λ s. Some (take (c.index.result.now - c.start_of-start.result) (drop c.start_of-start.result s))) (sym c.deref-2.ensures.value)
+    let here = holds-at a.bytes.items a.ends.items (terms_by a.ends.items a.bytes.items) c.args.id
+    c.start_of-start.result c.index.result.now c.self.invariant
+    (omega (arith, ap length c.self.view_is, c.requires)) starts c.index.ensures in
+    ap (λ ts. slice_get ts c.args.id) (sym c.self.view_is) ∙ here.is
+    ∙ ap (λ s. Some (take (c.index.result.now - c.start_of-start.result) (drop c.start_of-start.result s)))
+    (sym c.deref-2.ensures.value)

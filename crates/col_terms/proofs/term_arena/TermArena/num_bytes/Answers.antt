@@ -8,4 +8,5 @@ pub returns : goal.returns
 returns c =
     let a = c.self.inside in
     let n : c.len.result ≡ length a.bytes.items = omega (arith, c.len.ensures) in
-    n ∙ holds-counted a.bytes.items a.ends.items (terms_by a.ends.items a.bytes.items) c.self.invariant (omega (arith, c.len.ensures)) ∙ ap counted_bytes c.self.view_is
+    n ∙ holds-counted a.bytes.items a.ends.items (terms_by a.ends.items a.bytes.items) c.self.invariant
+    (omega (arith, c.len.ensures)) ∙ ap counted_bytes c.self.view_is

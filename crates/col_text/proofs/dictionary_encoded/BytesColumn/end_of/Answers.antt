@@ -7,7 +7,8 @@ pub returns-in-Exact : goal.returns-in-Exact
 returns-in-Exact c =
     let key = c.args.key.now in
     let ord = c.in-Exact.ord in
-    subst (λ (t : Texts). EndAt t.terms key (ord + 1)) c.self.view_is (end-at c.self.inside.dictionary key ord c.self.invariant.ascend c.in-Exact.ensures)
+    subst (λ (t : Texts). EndAt t.terms key (ord + 1)) c.self.view_is
+    (end-at c.self.inside.dictionary key ord c.self.invariant.ascend c.in-Exact.ensures)
 
 pub returns-in-Next : goal.returns-in-Next
 returns-in-Next c =

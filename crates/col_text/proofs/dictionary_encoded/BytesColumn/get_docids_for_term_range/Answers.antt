@@ -1,5 +1,5 @@
 use Rattle.std.proofs.Common.{sym, ◌∙◌, subst}
-use Rattle.col_column.specs.Columns.{rows_in}
+use Rattle.col_column.specs.Columns.{rows_of_values}
 use Rattle.col_column.specs.Lookups.{docs_passing}
 use Rattle.col_common.specs.Replacing.{Replaces}
 use Rattle.col_numbers.specs.NumValues.{num_values_of}
@@ -14,7 +14,9 @@ returns-then-end-first-clause-ok c =
     let are = subst (λ (t : Texts). AreOrdinals t.terms t.ords) c.self.view_is c.self.invariant in
     let docs = c.args.selected_docid_range in
     c.clear.ensures.items
-    ∙ sym (no-terms-found c.args.self.now are c.args.low.now c.args.high.now c.first_from-first.result c.end_of-end.result c.first_from-first.ensures c.end_of-end.ensures docs.start docs.«end» c.if-end-first.true)
+    ∙ sym (no-terms-found c.args.self.now are c.args.low.now c.args.high.now c.first_from-first.result
+    c.end_of-end.result c.first_from-first.ensures c.end_of-end.ensures docs.start docs.«end»
+    c.if-end-first.true)
 
 pub returns-clause-ok : goal.returns-clause-ok
 returns-clause-ok c =
@@ -22,6 +24,8 @@ returns-clause-ok c =
     let docs = c.args.selected_docid_range in
     let call = c.get_docids_for_value_range in
     subst (Replaces call.result call.new.doc_ids.items)
-    ((λ i. docs_passing (is_between number_cmp (c.new.ensures.start i) (c.new.ensures.«end» i)) (rows_in num_values_of (c.self.view_is i).ords) docs.start docs.«end»)
-    ∙ terms-found c.args.self.now are c.args.low.now c.args.high.now c.first_from-first.result c.end_of-end.result c.first_from-first.ensures c.end_of-end.ensures docs.start docs.«end» c.if-end-first.false)
+    ((λ i. docs_passing (is_between number_cmp (c.new.ensures.start i) (c.new.ensures.«end» i))
+    (rows_of_values num_values_of (c.self.view_is i).ords) docs.start docs.«end»)
+    ∙ terms-found c.args.self.now are c.args.low.now c.args.high.now c.first_from-first.result c.end_of-end.result
+    c.first_from-first.ensures c.end_of-end.ensures docs.start docs.«end» c.if-end-first.false)
     call.ensures.ok

@@ -11,7 +11,10 @@ loop-row-preserved g c =
     let start = c.loop-start.start in
     let test = is_between g.T.PartialOrd.partial_cmp c.args.low c.args.high in
     record {
-      found = kept_hits test (g.Self.ColumnValues.values c.args.self.now) start (l.row - start) (l.row + 1 - start) l.row c.get_val-value.result b l.block l.found (omega arith) (omega arith) c.get_val-value.ensures c.is_within.ensures (omega arith) l.invariant.found;
+      found =
+          kept_hits test (g.Self.ColumnValues.values c.args.self.now) start (l.row - start) (l.row + 1 - start)
+          l.row c.get_val-value.result b l.block l.found (omega arith) (omega arith) c.get_val-value.ensures
+          c.is_within.ensures (omega arith) l.invariant.found;
       below = omega (arith, kept_within l.found (l.row - start) b (omega arith));
       room = grind (arith, common_steps);
     }
@@ -22,7 +25,8 @@ loop-start-preserved g c =
     let start = c.loop-start.start in
     let row = c.loop-row.row in
     let test = is_between g.T.PartialOrd.partial_cmp c.args.low c.args.high in
-    let joined = hits_joined test (g.Self.ColumnValues.values c.args.self.now) from (start - from) (row - start) start (start + c.min.result - from) (omega arith) (omega arith) in
+    let joined = hits_joined test (g.Self.ColumnValues.values c.args.self.now) from (start - from) (row - start)
+    start (start + c.min.result - from) (omega arith) (omega arith) in
     record {
       found = grind (arith, common_steps, joined, c.loop-row.invariant.found);
       after = omega arith;

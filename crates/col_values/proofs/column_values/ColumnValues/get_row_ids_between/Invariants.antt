@@ -7,7 +7,8 @@ abbrev pub invariant-loop-start : goal.invariant-loop-start
 invariant-loop-start g l =
     let from = l.fn.row_ids.start in
     record {
-      found : l.hits.items ≡ hits (is_between g.T.PartialOrd.partial_cmp l.low l.high) (g.Self.ColumnValues.values l.self) from (l.start - from);
+      found : l.hits.items ≡ hits (is_between g.T.PartialOrd.partial_cmp l.low l.high)
+          (g.Self.ColumnValues.values l.self) from (l.start - from);
       after : from ≤ l.start;
       within : l.start ≤ max from l.end;
       room : length l.block ≡ 1024;
@@ -20,7 +21,9 @@ decreases-loop-start g l = l.end - l.start
 abbrev pub invariant-loop-row : goal.invariant-loop-row
 invariant-loop-row g l =
     record {
-      found : take l.found l.block ≡ hits (is_between g.T.PartialOrd.partial_cmp l.low l.high) (g.Self.ColumnValues.values l.self) l.start (l.row - l.start);
+      found : take l.found l.block
+          ≡ hits (is_between g.T.PartialOrd.partial_cmp l.low l.high) (g.Self.ColumnValues.values l.self) l.start
+          (l.row - l.start);
       below : l.found + l.start ≤ l.row;
       room : length l.block ≡ 1024;
     }

@@ -9,4 +9,4 @@ returns-clause-bytes g c =
     all-counted c.loop-name.bytes _ _ c.loop-name.invariant (ap (named_bytes g.C.RecordBytes.bytes) c.in-None.ensures.steps.0)
 
 pub returns-clause-differ : goal.returns-clause-differ
-returns-clause-differ g c = names-apart c.args.columns.now.entries c.into_iter-name-iterator.ensures.into_iter_gives.4
+returns-clause-differ g c = names-apart c.args.columns.now.columns.entries c.into_iter-name-iterator.ensures.into_iter_gives.4

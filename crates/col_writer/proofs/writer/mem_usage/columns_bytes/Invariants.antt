@@ -6,4 +6,4 @@ use Rattle.col_writer.proofs.writer.mem_usage.columns_bytes.Given as goal
 abbrev pub invariant-loop-name : goal.invariant-loop-name
 invariant-loop-name g l =
     AreCounted l.bytes (named_bytes g.C.RecordBytes.bytes l.name-iterator)
-    (named_bytes g.C.RecordBytes.bytes l.columns.entries)
+    (named_bytes g.C.RecordBytes.bytes l.columns.columns.entries)

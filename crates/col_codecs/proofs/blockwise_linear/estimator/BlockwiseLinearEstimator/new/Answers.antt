@@ -4,4 +4,13 @@ use Rattle.col_codecs.proofs.blockwise_linear.estimator.BlockwiseLinearEstimator
 
 pub returns : goal.returns
 unfolding cut_blocks
-returns c = record { whole = []; count = 0; long = omega arith; split = refl; estimated = refl; room = omega (arith, c.in_ok-vec.ensures.len); short = omega arith }
+returns c =
+    record {
+      whole = [];
+      count = 0;
+      long = omega arith;
+      split = refl;
+      estimated = refl;
+      room = omega (arith, c.in_ok-vec.ensures.len);
+      short = omega arith;
+    }

@@ -19,4 +19,5 @@ returns c =
     let s = stats_seen c.args.stats in
     ap (list_by 2 s) (sym c.as_slice.ensures)
     ∙ c.in_ok-blocks.ensures.list
-    ∙ ap (λ read. Some (items_in s c.in_ok-blocks.blocks.items read)) (ap (take c.in_ok-blocks.len) c.as_slice.ensures ∙ sym c.truncate.ensures)
+    ∙ ap (λ read. Some (items_in s c.in_ok-blocks.blocks.items read))
+    (ap (take c.in_ok-blocks.len) c.as_slice.ensures ∙ sym c.truncate.ensures)

@@ -21,7 +21,8 @@ returns c =
     let r = c.self.inside in
     let s = stats_seen r.stats in
     let n = length c.args.output.now in
-    let within : c.args.start + n ≤ r.stats.num_rows = omega (arith, c.requires, ap length c.self.view_is, length-items_in s r.blocks.items r.data) in
+    let within : c.args.start + n ≤ r.stats.num_rows =
+    omega (arith, c.requires, ap length c.self.view_is, length-items_in s r.blocks.items r.data) in
     rw (← c.self.view_is)
     (c.read.ensures
     ∙ ap (λ (bs : List Block). map (own_item s bs c.as_slice.result.now) (range_with_len c.args.start n)) c.deref.ensures.value

@@ -20,9 +20,14 @@ loop-filled-preserved c =
       room = kept ∙ c.loop-filled.invariant.room;
       within = omega (arith, room, kept);
       held =
-          range-more (stats_seen c.args.self.now.stats) c.args.self.now.blocks.now c.args.self.now.bytes.now b c.args.start filled len _ output part room (omega (arith, c.min-len.ensures))
-          (block-found bs (idx / 512) b (omega arith) (ap (get_or bs (idx / 512)) c.index-self-idx.is)) long c.read_part.auto.output c.read_part.ensures c.loop-filled.invariant.held;
+          range-more (stats_seen c.args.self.now.stats) c.args.self.now.blocks.now c.args.self.now.bytes.now b
+          c.args.start filled len _ output part room (omega (arith, c.min-len.ensures))
+          (block-found bs (idx / 512) b (omega arith) (ap (get_or bs (idx / 512)) c.index-self-idx.is)) long
+          c.read_part.auto.output c.read_part.ensures c.loop-filled.invariant.held;
     }
 
 pub returns : goal.returns
-returns c = range-read (stats_seen c.args.self.now.stats) c.args.self.now.blocks.now c.args.self.now.bytes.now c.args.start c.loop-filled.filled (length c.args.output.now) c.loop-filled.output c.loop-filled.invariant.room (omega (arith, c.loop-filled.invariant.within, c.loop-filled.invariant.room)) c.loop-filled.invariant.held
+returns c =
+    range-read (stats_seen c.args.self.now.stats) c.args.self.now.blocks.now c.args.self.now.bytes.now c.args.start
+    c.loop-filled.filled (length c.args.output.now) c.loop-filled.output c.loop-filled.invariant.room
+    (omega (arith, c.loop-filled.invariant.within, c.loop-filled.invariant.room)) c.loop-filled.invariant.held

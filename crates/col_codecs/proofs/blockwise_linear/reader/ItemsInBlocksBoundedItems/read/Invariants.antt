@@ -10,7 +10,9 @@ invariant-loop-filled l =
     record {
       room : length l.output ≡ length l.fn.output;
       within : l.filled ≤ length l.output;
-      held : take l.filled l.output ≡ map (own_item (stats_seen l.self.stats) l.self.blocks.now l.self.bytes.now) (range_with_len l.start l.filled);
+      held : take l.filled l.output
+          ≡ map (own_item (stats_seen l.self.stats) l.self.blocks.now l.self.bytes.now)
+          (range_with_len l.start l.filled);
     }
 
 abbrev pub decreases-loop-filled : goal.decreases-loop-filled

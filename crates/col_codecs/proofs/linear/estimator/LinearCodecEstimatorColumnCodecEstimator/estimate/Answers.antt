@@ -17,7 +17,17 @@ few_bits c =
     bits-fit c.from.result c.from-2.result (omega (arith, c.from.ensures, h.count)) (omega (arith, c.from-2.ensures, width))
 
 few_bytes : (c : After-div_ceil) → c.num_bytes.result + c.num_bytes-2.result + 1 + c.div_ceil.result < 2 ^ 40
-few_bytes c = omega (arith, few_bits (goal.at.returns c).After-from-2, c.num_bytes.ensures, c.num_bytes-2.ensures, c.div_ceil.ensures, stats_bytes-bound (stats_seen c.args.stats.now), vint_bytes-bound c.args.self.now.linear_params.line.slope, vint_bytes-bound c.args.self.now.linear_params.line.intercept)
+few_bytes c =
+    omega (
+      arith,
+      few_bits (goal.at.returns c).After-from-2,
+      c.num_bytes.ensures,
+      c.num_bytes-2.ensures,
+      c.div_ceil.ensures,
+      stats_bytes-bound (stats_seen c.args.stats.now),
+      vint_bytes-bound c.args.self.now.linear_params.line.slope,
+      vint_bytes-bound c.args.self.now.linear_params.line.intercept,
+    )
 
 pub returns-then-self-lt-BLOCK_LEN : goal.returns-then-self-lt-BLOCK_LEN
 returns-then-self-lt-BLOCK_LEN c = λ xs h e. sym (linear_estimate-few xs (omega (arith, h.count)))
@@ -32,10 +42,26 @@ pub num_bytes-requires-clause-positive : goal.num_bytes-requires-clause-positive
 num_bytes-requires-clause-positive c = (IsPossible-stats_of (stats_seen c.args.stats.now) c.requires.0 c.requires.3 (omega arith)).positive
 
 pub overflow_add-result : goal.overflow_add-result
-overflow_add-result c = omega (arith, c.num_bytes.ensures, c.num_bytes-2.ensures, stats_bytes-bound (stats_seen c.args.stats.now), vint_bytes-bound c.args.self.now.linear_params.line.slope, vint_bytes-bound c.args.self.now.linear_params.line.intercept)
+overflow_add-result c =
+    omega (
+      arith,
+      c.num_bytes.ensures,
+      c.num_bytes-2.ensures,
+      stats_bytes-bound (stats_seen c.args.stats.now),
+      vint_bytes-bound c.args.self.now.linear_params.line.slope,
+      vint_bytes-bound c.args.self.now.linear_params.line.intercept,
+    )
 
 pub overflow_add-result-2 : goal.overflow_add-result-2
-overflow_add-result-2 c = omega (arith, c.num_bytes.ensures, c.num_bytes-2.ensures, stats_bytes-bound (stats_seen c.args.stats.now), vint_bytes-bound c.args.self.now.linear_params.line.slope, vint_bytes-bound c.args.self.now.linear_params.line.intercept)
+overflow_add-result-2 c =
+    omega (
+      arith,
+      c.num_bytes.ensures,
+      c.num_bytes-2.ensures,
+      stats_bytes-bound (stats_seen c.args.stats.now),
+      vint_bytes-bound c.args.self.now.linear_params.line.slope,
+      vint_bytes-bound c.args.self.now.linear_params.line.intercept,
+    )
 
 pub overflow_add-result-3 : goal.overflow_add-result-3
 overflow_add-result-3 c = omega (arith, few_bytes c)
@@ -44,5 +70,8 @@ pub returns : goal.returns
 returns c = λ xs h e.
     let own = params_seen c.args.self.now.linear_params in
     let enough : block_size ≤ length xs = omega (arith, h.count) in
-    linear_estimate-parts xs (stats_seen c.args.stats.now) own c.args.self.now.row_id c.num_bytes.result c.num_bytes-2.result c.div_ceil.result enough h.count e (h.final enough) c.num_bytes.ensures c.num_bytes-2.ensures
-    (c.div_ceil.ensures ∙ ap (λ n. div_ceil (n * c.from-2.result) 8) c.from.ensures ∙ ap (λ w. packed_len c.args.self.now.row_id w) c.from-2.ensures)
+    linear_estimate-parts xs (stats_seen c.args.stats.now) own c.args.self.now.row_id c.num_bytes.result
+    c.num_bytes-2.result c.div_ceil.result enough h.count e (h.final enough) c.num_bytes.ensures
+    c.num_bytes-2.ensures
+    (c.div_ceil.ensures ∙ ap (λ n. div_ceil (n * c.from-2.result) 8) c.from.ensures
+    ∙ ap (λ w. packed_len c.args.self.now.row_id w) c.from-2.ensures)

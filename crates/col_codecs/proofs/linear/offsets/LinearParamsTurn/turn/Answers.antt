@@ -8,4 +8,6 @@ use Rattle.col_codecs.proofs.linear.offsets.LinearParamsTurn.turn.Goals as goal
 pub loop-at-preserved : goal.loop-at-preserved
 loop-at-preserved c =
     let y = slice_index c.loop-at.vals c.loop-at.at in
-    replaced-more (offset_from (params_seen c.args.self.now)) c.args.start c.loop-at.at (less_wrapped y c.eval.result) c.args.vals.now c.loop-at.vals c.loop-at-test.true c.loop-at.invariant (ap (less_wrapped y) c.eval.ensures)
+    replaced-more (offset_from (params_seen c.args.self.now)) c.args.start c.loop-at.at
+    (less_wrapped y c.eval.result) c.args.vals.now c.loop-at.vals c.loop-at-test.true c.loop-at.invariant
+    (ap (less_wrapped y) c.eval.ensures)

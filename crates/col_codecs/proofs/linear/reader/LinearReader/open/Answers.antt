@@ -17,7 +17,8 @@ pub returns-in_err-bounds : goal.returns-in_err-bounds
 returns-in_err-bounds c =
     let p = err_from_is_err_and c.from_residual.result c.from_residual.ensures.1 in
     rw (p.1, p.2) (subst (Refuses c.in_err-bounds.field-0.0)
-    (sym (list_by-cut (stats_seen c.args.stats) c.args.bytes c.in-Some.data c.as_slice.result.now (params_seen c.in-Some.params) (sym c.in-Some.ensures.value) c.as_slice.ensures))
+    (sym (list_by-cut (stats_seen c.args.stats) c.args.bytes c.in-Some.data c.as_slice.result.now
+    (params_seen c.in-Some.params) (sym c.in-Some.ensures.value) c.as_slice.ensures))
     c.in_err-bounds.ensures.list)
 
 pub invariant_of-result : goal.invariant_of-result
@@ -28,9 +29,11 @@ invariant_of-result c =
     let read = c.as_slice.result.now in
     let w = c.new.result in
     let items = linear_items l read s.count in (
-      exact-stats s l bytes read w c.as_slice.ensures c.new.ensures (only_if-some (is_list s l read) items items (sym c.in_ok-bounds.ensures.list)).0,
+      exact-stats s l bytes read w c.as_slice.ensures c.new.ensures
+          (only_if-some (is_list s l read) items items (sym c.in_ok-bounds.ensures.list)).0,
       subst (λ b. Enclose c.in_ok-bounds.bounds.items (linear_item (with_width c.in-Some.params.line w) b) s.count) c.as_slice.ensures
-          (subst (λ v. Enclose c.in_ok-bounds.bounds.items (linear_item (with_width c.in-Some.params.line v) read) s.count) (sym c.new.ensures) c.in_ok-bounds.ensures.bounds),
+          (subst (λ v. Enclose c.in_ok-bounds.bounds.items (linear_item (with_width c.in-Some.params.line v) read)
+          s.count) (sym c.new.ensures) c.in_ok-bounds.ensures.bounds),
     )
 
 pub returns : goal.returns

@@ -20,6 +20,9 @@ pub returns : goal.returns
 returns c =
     let r = c.self.inside in
     let l = with_width r.line r.bit_unpacker in
-    let within : c.args.start + length c.args.output.now ≤ r.stats.num_rows = omega (arith, c.requires, ap length c.self.view_is, length-linear_items l r.data r.stats.num_rows) in
+    let within : c.args.start + length c.args.output.now ≤ r.stats.num_rows =
+    omega (arith, c.requires, ap length c.self.view_is, length-linear_items l r.data r.stats.num_rows) in
     rw (← c.self.view_is)
-    (c.read.ensures ∙ ap (λ b. map (linear_item l b) (range_with_len c.args.start (length c.args.output.now))) c.as_slice.ensures ∙ linear_items-part l r.data r.stats.num_rows c.args.start (length c.args.output.now) within)
+    (c.read.ensures ∙ ap (λ b. map (linear_item l b) (range_with_len c.args.start (length c.args.output.now)))
+    c.as_slice.ensures
+    ∙ linear_items-part l r.data r.stats.num_rows c.args.start (length c.args.output.now) within)

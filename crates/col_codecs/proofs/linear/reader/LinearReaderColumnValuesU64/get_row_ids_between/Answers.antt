@@ -14,5 +14,6 @@ returns c =
     let from = a.row_ids.start in
     subst (Replaces c.find_ids.result c.find_ids.new.hits.items)
     (ap (λ b. ids_by (linear_item l b) a.low a.high from (c.min.result - from)) c.as_slice.ensures
-    ∙ found_values (linear_item l r.data) a.self.now r.stats.num_rows a.low a.high from a.row_ids.«end» c.min.result c.self.view_is c.min.ensures)
+    ∙ found_values (linear_item l r.data) a.self.now r.stats.num_rows a.low a.high from a.row_ids.«end» c.min.result
+    c.self.view_is c.min.ensures)
     c.find_ids.ensures

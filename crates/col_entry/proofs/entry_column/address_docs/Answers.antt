@@ -1,8 +1,0 @@
-use Rattle.std.proofs.Common.{◌∙◌, sym}
-use Rattle.col_model.specs.ColumnType as types
-use Rattle.col_types.specs.Cells.{unsigned_cell}
-use Rattle.col_entry.proofs.PlainLemmas.{docs-in-records}
-use Rattle.col_entry.proofs.entry_column.address_docs.Goals as goal
-
-pub returns : goal.returns
-returns c = c.docs.ensures ∙ sym (docs-in-records types.ip unsigned_cell c.args.column.now.column)

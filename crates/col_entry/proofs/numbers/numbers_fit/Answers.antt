@@ -1,4 +1,0 @@
-use Rattle.col_entry.proofs.numbers.numbers_fit.Goals as goal
-
-pub returns : goal.returns
-returns c k = (c.type_inv.numbers k).fits

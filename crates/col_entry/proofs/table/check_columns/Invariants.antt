@@ -1,5 +1,0 @@
-use Rattle.col_entry.proofs.TableLemmas.{AreChecked}
-use Rattle.col_entry.proofs.table.check_columns.Given as goal
-
-abbrev pub invariant-loop-column : goal.invariant-loop-column
-invariant-loop-column l = AreChecked l.order l.columns l.column-index l.types.items

@@ -1,5 +1,0 @@
-use Rattle.col_join.proofs.TextSlotLemmas.{merged-joined}
-use Rattle.col_join.proofs.laws.merged_content_is_joined.Goals as goal
-
-pub returns : goal.returns
-returns c = merged-joined

@@ -1,5 +1,0 @@
-use Rattle.col_join.proofs.SlotLemmas.{picked-joined}
-use Rattle.col_join.proofs.laws.picked_content_is_joined.Goals as goal
-
-pub returns : goal.returns
-returns g c = picked-joined g.row.T.Denot

@@ -1,0 +1,60 @@
+//! Laws about files that are merged in brackets, each the contract of a call that does nothing.
+ghost use Rattle.col_laws.specs.FileLaws.{
+  FilesMergeInAnyBracketing,
+  FilesOfRunsAreMade,
+  FilesOfRunsMergeToOne,
+  MergedFilesAreWhole,
+  MergingAtOnceIsEnough,
+};
+ghost use Rattle.col_laws.specs.ScriptFiles.{
+  ScriptsStackFiles,
+  SegmentsAreMade,
+  SegmentsMergeToOne,
+};
+
+// ---- Consecutive runs of a writer's documents, written as files and merged in any bracketing.
+
+/// The file that is made in the end stands for the table of writing all documents at once.
+pub fn files_of_runs_merge_to_one()
+    ensures { FilesOfRunsMergeToOne }
+{}
+
+/// Where writing at once refuses nothing, no run and no merge on the way does.
+pub fn files_of_runs_are_made()
+    ensures { FilesOfRunsAreMade }
+{}
+
+// ---- Any files, merged in any bracketing.
+
+/// The file that is made in the end stands for the table of merging all files at once.
+pub fn files_merge_in_any_bracketing()
+    ensures { FilesMergeInAnyBracketing }
+{}
+
+/// Where merging at once refuses nothing, no merge on the way does.
+pub fn merging_at_once_is_enough()
+    ensures { MergingAtOnceIsEnough }
+{}
+
+/// A merge that isn't refused, in any order, has merged files of which each stands for a table.
+pub fn merged_files_are_whole()
+    ensures { MergedFilesAreWhole }
+{}
+
+// ---- Segments and inputs of scripts.
+
+/// The file that is made in the end, of segments that are runs of the documents of one, stands for
+/// the table of that one.
+pub fn segments_merge_to_one()
+    ensures { SegmentsMergeToOne }
+{}
+
+/// Where one segment has a table, no run of its documents and no merge on the way is refused.
+pub fn segments_are_made()
+    ensures { SegmentsAreMade }
+{}
+
+/// A script without required columns and an order merges the inputs and its segments' files.
+pub fn scripts_stack_files()
+    ensures { ScriptsStackFiles }
+{}

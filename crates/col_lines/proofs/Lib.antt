@@ -1,0 +1,4 @@
+mod PartLemmas
+mod WordLemmas
+mod FindLemmas
+mod PlainLemmas

@@ -1,0 +1,32 @@
+use Rattle.std.proofs.Common.{string_bytes, Some, None, sym, ◌∙◌, ap, option_map}
+use Rattle.serde_json.specs.View.{view}
+use Rattle.col_types.specs.Kinds.{kind_of}
+use Rattle.col_lines.specs.Values.{ends_of}
+use Rattle.col_lines.proofs.FindLemmas.{bad_from, bad_to, by_parts}
+use Rattle.col_lines.proofs.line.read_find.Goals as goal
+
+pub returns-in_default-as_u32 : goal.returns-in_default-as_u32
+returns-in_default-as_u32 c =
+    bad_from (view c.args.name.now) (view c.args.column_type.now) (view c.args.lo.now) (view c.args.hi.now)
+    (view c.args.from.now) (view c.args.to.now) c.in_default-as_u32.ensures
+
+pub returns-in_default-as_u32-2 : goal.returns-in_default-as_u32-2
+returns-in_default-as_u32-2 c =
+    bad_to (view c.args.name.now) (view c.args.column_type.now) (view c.args.lo.now) (view c.args.hi.now)
+    (view c.args.from.now) (view c.args.to.now) c.in_default-as_u32-2.ensures
+
+pub returns-in-Some-2 : goal.returns-in-Some-2
+returns-in-Some-2 c =
+    by_parts (view c.args.name.now) (view c.args.column_type.now) (view c.args.lo.now) (view c.args.hi.now)
+    (view c.args.from.now) (view c.args.to.now) (string_bytes c.in-Some.name)
+    (kind_of c.in-Some-as_type.column_type) c.in-Some-as_u32.from c.in-Some-as_u32-2.to
+    (Some (ends_of c.in-Some-2.ends)) c.in-Some.ensures c.in-Some-as_type.ensures c.in-Some-as_u32.ensures
+    c.in-Some-as_u32-2.ensures (ap (option_map ends_of) (sym c.in-Some-2.is) ∙ c.in_ok-ends.ensures)
+
+pub returns-in-None : goal.returns-in-None
+returns-in-None c =
+    by_parts (view c.args.name.now) (view c.args.column_type.now) (view c.args.lo.now) (view c.args.hi.now)
+    (view c.args.from.now) (view c.args.to.now) (string_bytes c.in-Some.name)
+    (kind_of c.in-Some-as_type.column_type) c.in-Some-as_u32.from c.in-Some-as_u32-2.to None c.in-Some.ensures
+    c.in-Some-as_type.ensures c.in-Some-as_u32.ensures c.in-Some-as_u32-2.ensures
+    (ap (option_map ends_of) (sym c.in-None.is) ∙ c.in_ok-ends.ensures)

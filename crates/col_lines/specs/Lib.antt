@@ -1,0 +1,5 @@
+pub mod Finds
+pub mod Parts
+pub mod Values
+pub mod Plain
+pub mod Lines

@@ -1,0 +1,12 @@
+//! What a merge of files begins with: whether an order is one of the files' rows, which types are
+//! required, and the slots of all columns. A slot is a name with a category of types; contracts see
+//! it as the definition has it.
+#![tactic(auto)]
+
+mod required;
+mod row_counts;
+mod slots;
+
+pub use required::required_types;
+pub use row_counts::is_order_of;
+pub use slots::slots_of;

@@ -1,0 +1,13 @@
+pub mod SegmentLemmas
+mod TakenLemmas
+mod CauseLemmas
+mod SlotTypeLemmas
+mod BoundLemmas
+mod ReadLemmas
+mod KeptLemmas
+mod OwnLemmas
+mod PartLemmas
+mod SharedLemmas
+mod JoinedLemmas
+mod TextLemmas
+mod TextPartLemmas

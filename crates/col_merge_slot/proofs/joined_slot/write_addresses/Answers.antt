@@ -1,0 +1,30 @@
+use Rattle.std.proofs.Common.{map, refl, ap₂, false, is_ok, ap}
+use Rattle.std.proofs.lemmas.Result.{err_from_is_err_and}
+use Rattle.col_model.specs.ColumnType as types
+use Rattle.col_order.specs.RowOrders.{order_of}
+use Rattle.col_index.specs.Indexes.{shape_of}
+use Rattle.col_column.specs.IpValues.{ip_values_of}
+use Rattle.col_types.specs.Cells.{unsigned_cell}
+use Rattle.col_merge_values.specs.Merges.{columns_by}
+use Rattle.col_merge_slot.specs.Segments.{where_set}
+use Rattle.col_merge_slot.proofs.TakenLemmas.{takes-still, takes-then}
+use Rattle.col_merge_slot.proofs.JoinedLemmas.{numbers-written}
+use Rattle.col_merge_slot.proofs.joined_slot.write_addresses.Goals as goal
+
+pub returns-clause-written : goal.returns-clause-written
+returns-clause-written g c =
+    let parts = c.in_ok-indexes in
+    numbers-written unsigned_cell types.ip (order_of c.args.merge_row_order.now) (where_set c.args.columns.now c.args.kept.now)
+    (columns_by (map shape_of parts.indexes.items) (map ip_values_of parts.values.items))
+    (columns_by (map shape_of c.deref.result.now) (map ip_values_of c.deref-2.result.now)) _ _
+    c.join_addresses.result
+    (ap₂ (λ is vs. columns_by (map shape_of is) (map ip_values_of vs)) c.deref.ensures.value c.deref-2.ensures.value)
+    c.picked_content_is_joined.ensures (λ x. refl) c.orders_are_picks.ensures parts.ensures.ok c.join_addresses.ensures
+
+pub returns-in_err-indexes-clause-taken : goal.returns-in_err-indexes-clause-taken
+returns-in_err-indexes-clause-taken g c =
+    let p = err_from_is_err_and c.from_residual.result c.from_residual.ensures.1 in
+    takes-still c.args.columns.now c.args.kept.now _ false _ c.in_err-indexes.ensures.taken (ap is_ok p.1)
+
+pub returns-clause-taken : goal.returns-clause-taken
+returns-clause-taken g c = takes-then c.args.columns.now c.args.kept.now _ _ c.in_ok-indexes.ensures.taken

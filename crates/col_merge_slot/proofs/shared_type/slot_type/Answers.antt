@@ -1,0 +1,17 @@
+use Rattle.std.proofs.Common.{◌∙◌, sym, arith}
+use Rattle.col_types.specs.Kinds.{kind_of}
+use Rattle.col_merge_slot.specs.Segments.{where_set, kept_of}
+use Rattle.col_merge_slot.proofs.SlotTypeLemmas.{only-shared, seen-shared}
+use Rattle.col_merge_slot.proofs.shared_type.slot_type.Goals as goal
+
+pub returns-then-not-is_numerical : goal.returns-then-not-is_numerical
+returns-then-not-is_numerical c category name all =
+    sym (only-shared category name (kept_of c.args.columns.now c.args.kept.now) (kind_of c.in_ok-first.first) all
+    (sym c.in_ok-first.ensures) (grind (arith, c.is_numerical.ensures, c.if-not-is_numerical.true)))
+
+pub returns : goal.returns
+returns c category name all =
+    c.numerical_type.ensures
+    ∙ sym (seen-shared category name (where_set c.args.columns.now c.args.kept.now) (kind_of c.in_ok-first.first)
+    c.numbers_seen.result all (sym c.in_ok-first.ensures)
+    (grind (arith, c.is_numerical.ensures, c.if-not-is_numerical.false)) c.numbers_seen.ensures)

@@ -1,0 +1,25 @@
+use Rattle.std.proofs.Common.{length, ap, ◌∙◌, sym, subst, Some}
+use Rattle.std.specs.Prelude.{is_some}
+use Rattle.col_column.specs.Columns.{IsCounted, row_count}
+use Rattle.col_dynamic.specs.Dynamic.{dynamic_shape, value_count}
+use Rattle.col_numbers.specs.NumValues.{num_values_of}
+use Rattle.col_merge_slot.specs.Texts.{IsTextPart}
+use Rattle.col_merge_slot.proofs.TextPartLemmas.{str-none, str-some}
+use Rattle.col_merge_slot.proofs.texts.str_of.Goals as goal
+
+pub returns-in_err-column-clause-read : goal.returns-in_err-column-clause-read
+returns-in_err-column-clause-read c = ap is_some c.from_residual.ensures ∙ sym (str-none c.args.column (sym c.in_err-column.ensures))
+
+pub returns-clause-read : goal.returns-clause-read
+returns-clause-read c =
+    let counted = subst (λ ords. IsCounted ords.shape (length (num_values_of ords.values)))
+    (c.ords.ensures ∙ ap (λ x. x.ords) c.bytes_column.ensures) c.values_are_counted.ensures in
+    sym (str-some c.args.column c.in_ok-column.column (sym c.in_ok-column.ensures) counted).0
+
+pub returns-clause-text : goal.returns-clause-text
+returns-clause-text c =
+    let counted = subst (λ ords. IsCounted ords.shape (length (num_values_of ords.values)))
+    (c.ords.ensures ∙ ap (λ x. x.ords) c.bytes_column.ensures) c.values_are_counted.ensures in
+    let column = c.args.column in
+    subst (IsTextPart (row_count (dynamic_shape column) (value_count column)) (Some column)) (sym c.from.ensures)
+    (str-some column c.in_ok-column.column (sym c.in_ok-column.ensures) counted).1

@@ -1,0 +1,14 @@
+use Rattle.std.proofs.Common.{All, sym, ◌∙◌, subst}
+use Rattle.col_values.specs.Codes.{is_i64}
+use Rattle.col_values.specs.Monotonic.{Passes}
+use Rattle.col_numbers.specs.NumValues.{num_values_of}
+use Rattle.col_dynamic.proofs.CoercionLemmas.{own_i64}
+use Rattle.col_dynamic.specs.declared.dynamic_column.DynamicColumn.TheVariants as columns
+use Rattle.col_merge_slot.proofs.ReadLemmas.{fits-i64}
+use Rattle.col_merge_slot.proofs.told.signed_are_own.Goals as goal
+
+pub returns : goal.returns
+returns c =
+    let column = c.args.column.now in
+    let told = subst (λ v. All (Passes is_i64) (num_values_of v)) c.values.ensures c.values_are_in_type.ensures.values.each in
+    sym (fits-i64 (columns.I64 column)) ∙ own_i64 column.shape (num_values_of column.values) c.values_are_counted.ensures told

@@ -1,0 +1,10 @@
+use Rattle.std.proofs.Common.{true, length}
+use Rattle.col_merge_terms.specs.Numbering.{terms_of, lists_of, AreNumbered}
+use Rattle.col_merge_terms.proofs.merge_dict_column.number_terms.Given as goal
+
+abbrev pub invariant-loop-merger : goal.invariant-loop-merger
+invariant-loop-merger l =
+    AreNumbered (terms_of l.bytes_columns) (λ key. true) l.merger.left l.ord (lists_of l.mapping)
+
+abbrev pub decreases-loop-merger : goal.decreases-loop-merger
+decreases-loop-merger l = length l.merger.left

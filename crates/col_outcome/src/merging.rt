@@ -1,0 +1,197 @@
+//! The merged file of a script and its inputs, and the report on it.
+ghost use Rattle.std.specs.Prelude.{◌≡◌, ◌≤◌, ◌+◌, [], map, length, reverse, vec_len, vec_capacity, Some, Err, IfOk, IfErr, IfSome, option_map};
+ghost use Rattle.std.specs.List.{AllByRecursion};
+ghost use Rattle.col_file.specs.Files.{seen_by};
+ghost use Rattle.col_model.specs.File.{StandsFor, table_of, for_each};
+ghost use Rattle.col_model.specs.Merge.{merged, row_counts};
+ghost use Rattle.col_model.specs.Outcome.{order_over, script_table, segment_table};
+ghost use Rattle.col_model.specs.Refusal.{each_ok};
+ghost use Rattle.col_model.specs.Report.{report_of};
+ghost use Rattle.col_model.specs.Script as model;
+ghost use Rattle.col_lines.specs.Finds.{find_of};
+ghost use Rattle.col_merge_plan.specs.Slots.{required_of};
+ghost use Rattle.col_model.specs.Table.{Table};
+ghost use Rattle.col_order.specs.Orders.{address_of};
+ghost use Rattle.col_order.specs.RowOrders.{order_of};
+ghost use Rattle.col_script.specs.Scripts.{IsScript};
+ghost use Rattle.col_outcome.specs.Making.{MakesIfRead, MergesInputs, MergesReaders, IsMade, IsKnown, SegmentsDecide};
+ghost use Rattle.col_outcome.specs.HandedBack.{HandedBack, SomeRose};
+ghost use Rattle.col_outcome.specs.Parts.{files_in, handed_in, all_files, AllKeep, IsUnfailed};
+
+use crate::inputs::{hand_back, open_file, open_files, open_inputs, row_counts};
+use crate::order::merge_row_order;
+use crate::part::Part;
+use crate::segments::segment_files;
+use bytes::Bytes;
+use col_common::{Buffer, ColumnarError, FileHandle, RowAddr};
+use col_file::{ColumnarReader, files_are_read};
+use col_lines::Find;
+use col_merge::merge_columnar;
+use col_order::MergeRowOrder;
+use col_report::write_report;
+use col_script::Script;
+use col_types::ColumnType;
+use std::alloc::{AllocError, Global};
+
+/// A merged file, and the report on it.
+#[derive(Drop)]
+pub struct FileAndReport {
+    pub file: Bytes,
+    pub report: Vec<u8>,
+}
+
+/// Merges inputs, and behind them the segments of a script, and reports on what the merged file
+/// says. A short report has no rows, and counts what lookups find. The inputs are handed back in
+/// order.
+pub fn merge_and_report<H: FileHandle>(
+    alloc: Global,
+    script: Script,
+    inputs: &mut Vec<H>,
+    short: bool,
+) -> Result<FileAndReport, ColumnarError>
+    ensures made { (s : model.Script) → IsScript s script →
+        IfSome (for_each H.content inputs.old.items) (λ files.
+        MakesIfRead (IsMade short s.finds) result (script_table files s)) }
+    ensures known { (s : model.Script) → IsScript s script → IfErr result IsKnown }
+    ensures segments { (s : model.Script) → IsScript s script →
+        SegmentsDecide (each_ok segment_table s.segments) result }
+    ensures read_fault { (s : model.Script) → IsScript s script
+        → result ≡ Err ColumnarError.ReadFault
+        → SomeRose (map H.faults inputs.old.items) (map H.faults inputs.new.items) }
+    ensures handles { HandedBack H.content H.size H.faults inputs.old.items inputs.new.items }
+    ensures marks { map H.mark inputs.new.items ≡ map H.mark inputs.old.items }
+{
+    let Script {
+        segments,
+        required,
+        order,
+        finds,
+    } = script;
+    let files = segment_files(alloc, &segments)?;
+    drop(segments);
+    merge_inputs(alloc, inputs, &files, &required, order, &finds, short)
+}
+
+// Merges inputs, and files that were made behind them; the inputs come back in order.
+fn merge_inputs<H: FileHandle>(
+    alloc: Global,
+    inputs: &mut Vec<H>,
+    files: &[Bytes],
+    required: &[(String, ColumnType)],
+    rows: Option<Vec<RowAddr>>,
+    finds: &[Find],
+    short: bool,
+) -> Result<FileAndReport, ColumnarError>
+    ensures { MergesInputs (IsMade short (map find_of finds.now))
+        (handed_in (seen_by H.content H.size H.faults H.reads H.mark) inputs.old.items)
+        (handed_in (seen_by H.content H.size H.faults H.reads H.mark) inputs.new.items)
+        files.now (required_of required.now)
+        (option_map (λ v. map address_of v.items) rows) result }
+{
+    let Some(room) = inputs.len().checked_add(files.len()) else {
+        return Err(ColumnarError::OutOfMemory);
+    };
+    let mut readers = Vec::with_capacity(alloc, room)?;
+    inputs.reverse();
+    let made = merge_opened(
+        alloc,
+        inputs,
+        files,
+        &mut readers,
+        required,
+        rows,
+        finds,
+        short,
+    );
+    hand_back(readers, inputs);
+    made
+}
+
+// Moves inputs into readers, the last one first, puts readers of the files behind them, and merges.
+fn merge_opened<H: FileHandle>(
+    alloc: Global,
+    left: &mut Vec<H>,
+    files: &[Bytes],
+    readers: &mut Vec<ColumnarReader<Part<H>>>,
+    required: &[(String, ColumnType)],
+    rows: Option<Vec<RowAddr>>,
+    finds: &[Find],
+    short: bool,
+) -> Result<FileAndReport, ColumnarError>
+    requires none { readers.old.items ≡ [] }
+    requires room { vec_len left.old + length files.now ≤ vec_capacity readers.old }
+    ensures merges { AllByRecursion IsUnfailed (files_in readers.new.items)
+        → MergesInputs (IsMade short (map find_of finds.now))
+        (handed_in (seen_by H.content H.size H.faults H.reads H.mark) (reverse left.old.items))
+        (all_files (seen_by H.content H.size H.faults H.reads H.mark)
+        readers.new.items left.new.items)
+        files.now (required_of required.now)
+        (option_map (λ v. map address_of v.items) rows) result }
+    ensures kept { AllKeep
+        (handed_in (seen_by H.content H.size H.faults H.reads H.mark) (reverse left.old.items))
+        (all_files (seen_by H.content H.size H.faults H.reads H.mark)
+        readers.new.items left.new.items) }
+    ensures room { vec_capacity left.new ≡ vec_capacity left.old }
+{
+    open_inputs(alloc, left, readers)?;
+    open_files(alloc, files, readers)?;
+    merge_readers(alloc, readers, required, rows, finds, short)
+}
+
+// Merges files, and reports on what the merged file says.
+fn merge_readers<F: FileHandle>(
+    alloc: Global,
+    readers: &mut [ColumnarReader<F>],
+    required: &[(String, ColumnType)],
+    rows: Option<Vec<RowAddr>>,
+    finds: &[Find],
+    short: bool,
+) -> Result<FileAndReport, ColumnarError>
+    ensures { MergesReaders (IsMade short (map find_of finds.now)) readers.old readers.new result
+        (λ parts. merged parts (required_of required.now)
+        (order_over (option_map (λ v. map address_of v.items) rows) (row_counts parts))) }
+{
+    files_are_read(readers);
+    let counts = row_counts(alloc, readers)?;
+    let order = merge_row_order(alloc, rows, &counts)?;
+    let file = merged_file(alloc, readers, required, order)?;
+    let report = report_on(alloc, &file, finds, short)?;
+    Ok(FileAndReport { file, report })
+}
+
+// The merged file.
+fn merged_file<F: FileHandle>(
+    alloc: Global,
+    readers: &mut [ColumnarReader<F>],
+    required: &[(String, ColumnType)],
+    order: MergeRowOrder,
+) -> Result<Bytes, ColumnarError>
+    ensures { MergesReaders StandsFor readers.old readers.new result
+        (λ parts. merged parts (required_of required.now) (order_of order)) }
+{
+    let mut file = Buffer::new(alloc);
+    merge_columnar(alloc, readers, required, order, &mut file)?;
+    let bytes = Bytes::from_vec(file.into_bytes())?;
+    Ok(bytes)
+}
+
+// The report on a file.
+fn report_on(
+    alloc: Global,
+    file: &Bytes,
+    finds: &[Find],
+    short: bool,
+) -> Result<Vec<u8>, AllocError>
+    ensures { (t : Table) → table_of file.now ≡ Some t →
+        IfOk result (λ report. report.items ≡ report_of t (map find_of finds.now) short) }
+{
+    let Ok(mut reader) = open_file(alloc, file.clone()?) else {
+        return Err(AllocError);
+    };
+    let mut report = Vec::new(alloc);
+    match write_report(alloc, &mut reader, finds, short, &mut report) {
+        Ok(()) => Ok(report),
+        // The columns of a file that was made are whole, so that memory alone is wanting.
+        Err(_) => Err(AllocError),
+    }
+}

@@ -1,6 +1,0 @@
-use Rattle.std.proofs.Common.{sym}
-use Rattle.col_record.proofs.PostedLemmas.{docs-zip}
-use Rattle.col_record.proofs.column_writer.ColumnWriter.docs.Goals as goal
-
-pub returns : goal.returns
-returns g c = sym (docs-zip c.self.inside.docs c.self.inside.values.items c.args.self.now c.self.view_is c.self.invariant.many)

@@ -1,5 +1,0 @@
-use Rattle.col_record.proofs.SoundLemmas.{addresses-sound}
-use Rattle.col_record.proofs.plain_column_writer.PlainColumnWriter+Ipv6Addr.entry_is_sound.Goals as goal
-
-pub returns : goal.returns
-returns c = addresses-sound c.args.self.now c.values.result.now c.values.ensures.values c.addresses_fit.ensures

@@ -1,5 +1,0 @@
-use Rattle.std.proofs.Common.{arith}
-use Rattle.col_record.proofs.ranges.address_fits.Goals as goal
-
-pub returns : goal.returns
-returns c = omega (arith, c.to_bits-bits.type_inv, c.to_bits-bits.ensures)

@@ -1,6 +1,0 @@
-use Rattle.std.proofs.Common.{◌^◌}
-use Rattle.col_record.proofs.SoundLemmas.{fit-all}
-use Rattle.col_record.proofs.ranges.codes_fit.Goals as goal
-
-pub returns : goal.returns
-returns c = fit-all (2 ^ 64) c.args.codes.now (λ k. (c.type_inv.codes k).fits)

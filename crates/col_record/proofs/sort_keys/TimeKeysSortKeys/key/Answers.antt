@@ -1,6 +1,0 @@
-use Rattle.std.proofs.Common.{arith, ap, length}
-use Rattle.col_record.proofs.KeyLemmas.{length-time_keys}
-use Rattle.col_record.proofs.sort_keys.TimeKeysSortKeys.key.Goals as goal
-
-pub time_key_at-requires : goal.time_key_at-requires
-time_key_at-requires c = omega (arith, c.requires, ap length c.self.view_is, length-time_keys c.self.inside.codes.now)

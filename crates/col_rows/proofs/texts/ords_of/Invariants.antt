@@ -1,6 +1,0 @@
-use Rattle.std.proofs.Common.{◌≡◌, map, take}
-use Rattle.col_rows.specs.Terms.{ord_by}
-use Rattle.col_rows.proofs.texts.ords_of.Given as goal
-
-abbrev pub invariant-loop-id : goal.invariant-loop-id
-invariant-loop-id l = l.ords.items ≡ map (ord_by l.mapping) (take l.id-index l.ids)

@@ -1,5 +1,0 @@
-use Rattle.col_segments.proofs.SegmentLemmas.{files-merge-in-any-bracketing}
-use Rattle.col_segments.proofs.laws.files_merge_in_any_bracketing.Goals as goal
-
-pub returns : goal.returns
-returns c = files-merge-in-any-bracketing

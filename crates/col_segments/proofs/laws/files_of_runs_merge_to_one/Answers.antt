@@ -1,5 +1,0 @@
-use Rattle.col_segments.proofs.SegmentLemmas.{files-of-runs-merge-to-one}
-use Rattle.col_segments.proofs.laws.files_of_runs_merge_to_one.Goals as goal
-
-pub returns : goal.returns
-returns c = files-of-runs-merge-to-one

@@ -1,5 +1,0 @@
-use Rattle.col_segments.proofs.WholeLemmas.{merged-files-are-whole}
-use Rattle.col_segments.proofs.laws.merged_files_are_whole.Goals as goal
-
-pub returns : goal.returns
-returns c = merged-files-are-whole

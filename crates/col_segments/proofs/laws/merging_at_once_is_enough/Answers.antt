@@ -1,5 +1,0 @@
-use Rattle.col_segments.proofs.SegmentLemmas.{merging-at-once-is-enough}
-use Rattle.col_segments.proofs.laws.merging_at_once_is_enough.Goals as goal
-
-pub returns : goal.returns
-returns c = merging-at-once-is-enough

@@ -1,5 +1,0 @@
-use Rattle.col_segments.proofs.ScriptLemmas.{segments-are-made}
-use Rattle.col_segments.proofs.laws.segments_are_made.Goals as goal
-
-pub returns : goal.returns
-returns c = segments-are-made

@@ -1,5 +1,0 @@
-use Rattle.col_segments.proofs.ScriptLemmas.{segments-merge-to-one}
-use Rattle.col_segments.proofs.laws.segments_merge_to_one.Goals as goal
-
-pub returns : goal.returns
-returns c = segments-merge-to-one

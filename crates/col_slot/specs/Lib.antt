@@ -1,5 +1,0 @@
-pub mod Segments
-pub mod SlotTypes
-pub mod Kept
-pub mod Texts
-pub mod JoinedSlots

@@ -1,5 +1,0 @@
-use Rattle.col_term_merge.proofs.ItemLemmas.{numbers-held, row-below}
-use Rattle.col_term_merge.proofs.merge_dict_column.number.Goals as goal
-
-pub returns : goal.returns
-returns c = numbers-held c.args.mapping.now c.args.segment c.args.from c.args.ord c.index-mapping-segment.result c.requires (row-below c.args.mapping.now c.args.segment c.args.from c.requires)

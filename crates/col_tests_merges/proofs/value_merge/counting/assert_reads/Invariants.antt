@@ -1,6 +1,0 @@
-use Rattle.col_value_merge.specs.Merges.{StandsInRun}
-use Rattle.col_tests_merges.proofs.value_merge.counting.assert_reads.Given as goal
-
--- the walk is one of the list
-abbrev pub invariant-loop-item : goal.invariant-loop-item
-invariant-loop-item g l = StandsInRun l.merged.columns l.at

@@ -1,3 +1,0 @@
-//! Files of tables, by examples.
-
-mod tables;

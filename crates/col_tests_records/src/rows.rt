@@ -1,4 +1,0 @@
-//! Columns of rows, by examples.
-
-mod columns;
-mod documents;

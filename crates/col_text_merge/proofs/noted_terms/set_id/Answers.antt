@@ -1,6 +1,0 @@
-use Rattle.std.proofs.Common.{Some}
-use Rattle.col_text_merge.proofs.SetLemmas.{sets-held, row-below}
-use Rattle.col_text_merge.proofs.noted_terms.set_id.Goals as goal
-
-pub returns : goal.returns
-returns c = sets-held c.args.ids.now c.args.segment c.args.ord (Some c.args.id) c.index-ids-segment.result c.requires (row-below c.args.ids.now c.args.segment c.args.ord c.requires)

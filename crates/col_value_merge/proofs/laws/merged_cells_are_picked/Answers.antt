@@ -1,5 +1,0 @@
-use Rattle.col_value_merge.proofs.MergedCellLemmas.{merged-cells}
-use Rattle.col_value_merge.proofs.laws.merged_cells_are_picked.Goals as goal
-
-pub returns : goal.returns
-returns g c = merged-cells g.row.T.Denot

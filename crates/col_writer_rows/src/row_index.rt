@@ -1,0 +1,133 @@
+//! Indexes of rows, on their way into a column.
+ghost use Rattle.std.specs.Prelude.{◌≡◌, ◌<◌, ◌^◌, true, sum, length, IfOk};
+ghost use Rattle.col_common.specs.Ascending.{are_below};
+ghost use Rattle.col_indexer.specs.Spelling as spelled;
+ghost use Rattle.col_indexer.specs.Written.{index_of, set_of};
+ghost use Rattle.col_writer_rows.specs.Counted.{counts_of_rows, CountsRows};
+
+use crate::DocList;
+use crate::row_counts::{row_starts, tightest_cardinality};
+use col_common::RowId;
+use col_index::Cardinality;
+use col_indexer::{
+    RowIds, SerializableColumnIndex, SerializableMultivalueIndex, SerializableOptionalIndex,
+    StartOffsets,
+};
+use std::alloc::{AllocError, Global};
+use std::marker::Model;
+
+/// An index that has its lists. Contracts see the index.
+#[derive(Drop)]
+pub(crate) struct RowIndex {
+    cardinality: Cardinality,
+    num_rows: RowId,
+    rows: Vec<RowId>,
+    starts: Vec<RowId>,
+}
+
+impl Model for RowIndex {
+    ghost use Rattle.col_indexer.specs.Spelling.{Index};
+    ghost use Rattle.col_writer_rows.specs.Counted.{index_by};
+
+    ghost Value = { Index };
+
+    ghost view = { λ i. index_by i.cardinality i.num_rows i.rows.items i.starts.items };
+}
+
+impl RowIndex {
+    /// The index of documents that never fall.
+    pub(crate) fn of_docs(
+        alloc: Global,
+        docs: &DocList,
+        num_rows: RowId,
+    ) -> Result<RowIndex, AllocError>
+        requires below { are_below num_rows docs.now ≡ true }
+        requires few { length docs.now < 2 ^ 32 }
+        ensures { IfOk result (λ i. CountsRows (counts_of_rows num_rows docs.now) i) }
+    {
+        docs.never_fall();
+        if !docs.is_rising() {
+            let counts = docs.counts(alloc, num_rows)?;
+            return RowIndex::of_counts(alloc, &counts);
+        }
+        if docs.len() == u64::from(num_rows) {
+            return Ok(RowIndex::full(alloc, num_rows));
+        }
+        RowIndex::of_rows(alloc, docs, num_rows)
+    }
+
+    /// The index of rows with so many values each.
+    pub(crate) fn of_counts(alloc: Global, counts: &[u32]) -> Result<RowIndex, AllocError>
+        requires rows { length counts.now < 2 ^ 32 }
+        requires values { sum counts.now < 2 ^ 32 }
+        ensures { IfOk result (λ i. CountsRows counts.now i) }
+    {
+        let num_rows = counts.len() as RowId;
+        let cardinality = tightest_cardinality(counts);
+        if let Cardinality::Full = cardinality {
+            return Ok(RowIndex::full(alloc, num_rows));
+        }
+        let (rows, starts) = row_starts(alloc, counts)?;
+        Ok(RowIndex {
+            cardinality,
+            num_rows,
+            rows,
+            starts,
+        })
+    }
+
+    // The index of rows that have one value each.
+    fn full(alloc: Global, num_rows: RowId) -> RowIndex
+        ensures { result ≡ spelled.full_index }
+    {
+        RowIndex {
+            cardinality: Cardinality::Full,
+            num_rows,
+            rows: Vec::new(alloc),
+            starts: Vec::new(alloc),
+        }
+    }
+
+    // The index of documents that are rows with one value each.
+    fn of_rows(alloc: Global, docs: &DocList, num_rows: RowId) -> Result<RowIndex, AllocError>
+        ensures { IfOk result (λ i.
+            i ≡ spelled.optional_index (record { num_rows = num_rows; rows = docs.now })) }
+    {
+        let rows = docs.to_vec(alloc)?;
+        Ok(RowIndex {
+            cardinality: Cardinality::Optional,
+            num_rows,
+            rows,
+            starts: Vec::new(alloc),
+        })
+    }
+
+    /// The same for a call that writes it.
+    pub(crate) fn as_serializable(&self) -> SerializableColumnIndex<'_>
+        ensures { index_of result ≡ self.now }
+    {
+        match self.cardinality {
+            Cardinality::Full => SerializableColumnIndex::Full,
+            Cardinality::Optional => SerializableColumnIndex::Optional(rows_with_value(
+                &self.rows,
+                self.num_rows,
+            )),
+            Cardinality::Multivalued => {
+                SerializableColumnIndex::Multivalued(SerializableMultivalueIndex {
+                    doc_ids_with_values: rows_with_value(&self.rows, self.num_rows),
+                    start_offsets: StartOffsets::Slice(&self.starts),
+                })
+            }
+        }
+    }
+}
+
+// Rows with a value, of so many rows.
+fn rows_with_value(rows: &[RowId], num_rows: RowId) -> SerializableOptionalIndex<'_>
+    ensures { set_of result ≡ record { num_rows = num_rows; rows = rows.now } }
+{
+    SerializableOptionalIndex {
+        non_null_row_ids: RowIds::Slice(rows),
+        num_rows,
+    }
+}
