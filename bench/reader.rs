@@ -42,13 +42,13 @@ fn find(keys: &[Key], name: &str) -> Vec<(u8, u64, u64)> {
     named.map(|key| (key.code, key.start, key.end)).collect()
 }
 
-// Words: a path, how many columns, and 0 to write the file, 1 to measure.
+// Words: a path and how many columns, and `write` behind them where the file is to be written and nothing measured.
 fn main() {
     let words: Vec<String> = std::env::args().skip(1).collect();
-    let [path, count, step] = &words[..] else { panic!("path, count and step") };
+    let [path, count, rest @ ..] = &words[..] else { panic!("path and count") };
     let count: usize = count.parse().unwrap();
     let name = |place: usize| format!("column/{place:08}");
-    if step == "0" {
+    if rest == ["write"] {
         let mut file = File::default();
         for place in 0..count {
             file.put(&name(place), U64, |out| put_numbers(&[0], &[place as u64], 1, out));
