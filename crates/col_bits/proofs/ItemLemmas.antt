@@ -9,6 +9,7 @@ use Rattle.std.proofs.lemmas.List.Elements.{filter-append}
 use mir.Val.{bool_byte}
 use Rattle.col_common.specs.Ascending.{is_rising}
 use Rattle.col_common.proofs.OrderingLemmas.{filtered_rises}
+use Rattle.col_common.proofs.KeptLemmas.{kept_more}
 use Rattle.col_bits.specs.Packed.{item, items, ids_between}
 
 -- one item more is written
@@ -51,18 +52,6 @@ pub ids_one : (bytes : List ℕ) (w low high id : ℕ) (kept : Bool) → kept �
     → ids_between bytes w low high id 1 ≡ cond kept (id ∷ []) []
 unfolding ids_between
 ids_one bytes w low high id kept e = ap (λ b. cond b (id ∷ []) []) (sym e)
-
--- an id is written, and stays where it is kept
-pub kept_more : (out : List ℕ) (kept id : ℕ) (b : Bool) → kept < length out
-    → take (kept + bool_byte b) (set out kept id) ≡ take kept out ++ cond b (id ∷ []) []
-kept_more out kept id true h = take_more_set out kept id h
-kept_more out kept id false h =
-    ap (λ n. take n (set out kept id)) (add-zero kept) ∙ (take-set out kept id ∙ sym (append-nil (take kept out)))
-
--- one item more leaves at most as many kept as were looked at
-pub kept_within : (kept i : ℕ) (b : Bool) → kept ≤ i → kept + bool_byte b ≤ i + 1
-kept_within kept i true h = omega arith
-kept_within kept i false h = omega arith
 
 -- one id more is tested
 pub ids_more : (bytes : List ℕ) (w low high a n m id kept v : ℕ) (front out : List ℕ) (b : Bool) → a + n ≡ id

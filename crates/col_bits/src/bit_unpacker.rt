@@ -9,7 +9,9 @@ ghost use Rattle.col_bits.specs.Packed.{is_width, item, items, ids_between, pack
 ghost use Rattle.col_bits.specs.Places.{IsForBlocks};
 
 use crate::bitpacker::MAX_SMALL_WIDTH;
-use crate::const_width::{BLOCK_LEN, GROUP_LEN, read_groups_by_width, write_ids_by_width};
+use crate::const_width::{
+    AskedBlocks, BLOCK_LEN, GROUP_LEN, read_groups_by_width, write_ids_by_width,
+};
 use crate::words::{WORD_BITS, word_at};
 use col_common::U64_NUM_BYTES;
 use std::alloc::AllocError;
@@ -20,6 +22,15 @@ use std::ops::{Range, RangeInclusive};
 const ID_BLOCK_LEN: u32 = 1024;
 
 const ID_BLOCK_SIZE: usize = ID_BLOCK_LEN as usize;
+
+// Which ids are asked for: those from `start` up to `end` with a number from `low` to `high`.
+#[derive(Clone, Copy)]
+struct Asked {
+    low: u64,
+    high: u64,
+    start: u32,
+    end: u32,
+}
 
 /// Reads numbers of one width.
 #[derive(Clone, Copy)]
@@ -135,92 +146,86 @@ impl BitUnpacker {
             ++ ids_between «data».now self.now low high ids.start (ids.end - ids.start)) }
         ensures kept { OnErr result (positions.new.items ≡ positions.old.items) }
     {
-        let found = self.write_ids(low, high, ids, data, block, 0);
+        let asked = Asked {
+            low,
+            high,
+            start: ids.start,
+            end: ids.end,
+        };
+        let found = self.write_ids(asked, data, block, 0);
         positions.extend_from_slice(&block[..found])
     }
 
-    // Writes them from place `at` on, and says where they end.
-    fn write_ids(
-        &self,
-        low: u64,
-        high: u64,
-        ids: Range<u32>,
-        data: &[u8],
-        output: &mut [u32],
-        at: usize,
-    ) -> usize
-        requires order { ids.start ≤ ids.end }
-        requires room { at + (ids.end - ids.start) ≤ length output.old }
+    // Writes those that are asked for from place `at` on, and says where they end.
+    fn write_ids(&self, asked: Asked, data: &[u8], output: &mut [u32], at: usize) -> usize
+        requires order { asked.start ≤ asked.end }
+        requires room { at + (asked.end - asked.start) ≤ length output.old }
         ensures within { result ≤ length output.old }
-        ensures front { take result output.new ≡ take at output.old
-            ++ ids_between «data».now self.now low high ids.start (ids.end - ids.start) }
+        ensures front { take result output.new ≡ take at output.old ++ ids_between «data».now
+            self.now asked.low asked.high asked.start (asked.end - asked.start) }
     {
-        if !self.is_padded(ids.end as u64, data) {
-            return self.write_ids_by::<false>(low, high, ids, data, output, at);
+        if !self.is_padded(asked.end as u64, data) {
+            return self.write_ids_by::<false>(asked, data, output, at);
         }
-        if self.is_for_blocks(low, high, ids.start) {
-            return self.write_ids_in_blocks(low, high, ids, data, output, at);
+        if self.is_for_blocks(asked.low, asked.high, asked.start) {
+            return self.write_ids_in_blocks(asked, data, output, at);
         }
-        self.write_ids_by::<true>(low, high, ids, data, output, at)
+        self.write_ids_by::<true>(asked, data, output, at)
     }
 
     // The same, by blocks as far as they go.
-    fn write_ids_in_blocks(
-        &self,
-        low: u64,
-        high: u64,
-        ids: Range<u32>,
-        data: &[u8],
-        output: &mut [u32],
-        at: usize,
-    ) -> usize
-        requires blocks { IsForBlocks self.now low high ids.start }
-        requires order { ids.start ≤ ids.end }
-        requires room { at + (ids.end - ids.start) ≤ length output.old }
-        requires padded { ids.end * self.now / 8 + 8 ≤ length «data».now }
+    fn write_ids_in_blocks(&self, asked: Asked, data: &[u8], output: &mut [u32], at: usize) -> usize
+        requires blocks { IsForBlocks self.now asked.low asked.high asked.start }
+        requires order { asked.start ≤ asked.end }
+        requires room { at + (asked.end - asked.start) ≤ length output.old }
+        requires padded { asked.end * self.now / 8 + 8 ≤ length «data».now }
         ensures within { result ≤ length output.old }
-        ensures front { take result output.new ≡ take at output.old
-            ++ ids_between «data».now self.now low high ids.start (ids.end - ids.start) }
+        ensures front { take result output.new ≡ take at output.old ++ ids_between «data».now
+            self.now asked.low asked.high asked.start (asked.end - asked.start) }
     {
-        let count = ids.end - ids.start;
-        let most = high.min(u32::MAX.into());
-        let kept = write_ids_by_width(
-            self.num_bits,
-            low as u32,
-            (most - low) as u32,
-            ids.start,
+        let count = asked.end - asked.start;
+        let most = asked.high.min(u32::MAX.into());
+        let blocks = AskedBlocks {
+            low: asked.low as u32,
+            span: (most - asked.low) as u32,
+            start: asked.start,
             count,
-            data,
-            output,
-            at,
-        );
-        let tested = ids.start + count / BLOCK_LEN * BLOCK_LEN;
-        self.write_ids_by::<true>(low, high, tested..ids.end, data, output, kept)
+        };
+        let kept = write_ids_by_width(self.num_bits, blocks, data, output, at);
+        let rest = Asked {
+            start: asked.start + count / BLOCK_LEN * BLOCK_LEN,
+            ..asked
+        };
+        self.write_ids_by::<true>(rest, data, output, kept)
     }
 
     // The same, with no branch on what a number is.
     fn write_ids_by<const PADDED: bool>(
         &self,
-        low: u64,
-        high: u64,
-        ids: Range<u32>,
+        asked: Asked,
         data: &[u8],
         output: &mut [u32],
         at: usize,
     ) -> usize
-        requires order { ids.start ≤ ids.end }
-        requires room { at + (ids.end - ids.start) ≤ length output.old }
-        requires padded { IsTrue PADDED → ids.end * self.now / 8 + 8 ≤ length «data».now }
+        requires order { asked.start ≤ asked.end }
+        requires room { at + (asked.end - asked.start) ≤ length output.old }
+        requires padded { IsTrue PADDED → asked.end * self.now / 8 + 8 ≤ length «data».now }
         ensures within { result ≤ length output.old }
-        ensures front { take result output.new ≡ take at output.old
-            ++ ids_between «data».now self.now low high ids.start (ids.end - ids.start) }
+        ensures front { take result output.new ≡ take at output.old ++ ids_between «data».now
+            self.now asked.low asked.high asked.start (asked.end - asked.start) }
     {
+        let Asked {
+            low,
+            high,
+            start,
+            end,
+        } = asked;
         if low > high {
             return at;
         }
         let unpacker = *self;
         let mut kept = at;
-        for id in ids.start..ids.end {
+        for id in start..end {
             let value = unpacker.item_at::<PADDED>(id, data);
             output[kept] = id;
             kept += is_within(value, low, high) as usize;

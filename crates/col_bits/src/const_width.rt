@@ -101,27 +101,40 @@ fn write_set_places(bits: u64, base: u32, output: &mut [u32], at: usize) -> usiz
     end
 }
 
-// Writes which ids from `start` on, as many as whole blocks go into `count`, have a number from
-// `low` to `low + span`, from place `at` on, and says where they end.
-pub(crate) fn write_ids_of<const W: usize>(
-    low: u32,
-    span: u32,
-    start: u32,
-    count: u32,
+// Which ids are asked for: those of `count` from `start` on with a number from `low` to
+// `low + span`.
+#[derive(Clone, Copy)]
+pub(crate) struct AskedBlocks {
+    pub low: u32,
+    pub span: u32,
+    pub start: u32,
+    pub count: u32,
+}
+
+// Writes those that are asked for, as many as whole blocks go into the count, from place `at` on,
+// and says where they end.
+fn write_ids_of<const W: usize>(
+    asked: AskedBlocks,
     data: &[u8],
     output: &mut [u32],
     at: usize,
 ) -> usize
     requires width { W ≤ 32 }
-    requires range { low + span < 2 ^ 32 }
-    requires aligned { start % 8 ≡ 0 }
-    requires fits { start + count < 2 ^ 32 }
-    requires padded { (start + count) * W / 8 + 8 ≤ length «data».now }
-    requires room { at + count ≤ length output.old }
-    ensures within { result ≤ at + count / 64 * 64 }
-    ensures front { take result output.new ≡ take at output.old
-        ++ ids_between «data».now W low (low + span) start (count / 64 * 64) }
+    requires range { asked.low + asked.span < 2 ^ 32 }
+    requires aligned { asked.start % 8 ≡ 0 }
+    requires fits { asked.start + asked.count < 2 ^ 32 }
+    requires padded { (asked.start + asked.count) * W / 8 + 8 ≤ length «data».now }
+    requires room { at + asked.count ≤ length output.old }
+    ensures within { result ≤ at + asked.count / 64 * 64 }
+    ensures front { take result output.new ≡ take at output.old ++ ids_between «data».now W
+        asked.low (asked.low + asked.span) asked.start (asked.count / 64 * 64) }
 {
+    let AskedBlocks {
+        low,
+        span,
+        start,
+        count,
+    } = asked;
     let mut block = [0; LANES];
     let mut kept = at;
     for word in 0..count / BLOCK_LEN {
@@ -135,58 +148,55 @@ pub(crate) fn write_ids_of<const W: usize>(
 // The same for a width that is known when it runs.
 pub(crate) fn write_ids_by_width(
     num_bits: u32,
-    low: u32,
-    span: u32,
-    start: u32,
-    count: u32,
+    asked: AskedBlocks,
     data: &[u8],
     output: &mut [u32],
     at: usize,
 ) -> usize
     requires width { num_bits ≤ 32 }
-    requires range { low + span < 2 ^ 32 }
-    requires aligned { start % 8 ≡ 0 }
-    requires fits { start + count < 2 ^ 32 }
-    requires padded { (start + count) * num_bits / 8 + 8 ≤ length «data».now }
-    requires room { at + count ≤ length output.old }
-    ensures within { result ≤ at + count / 64 * 64 }
-    ensures front { take result output.new ≡ take at output.old
-        ++ ids_between «data».now num_bits low (low + span) start (count / 64 * 64) }
+    requires range { asked.low + asked.span < 2 ^ 32 }
+    requires aligned { asked.start % 8 ≡ 0 }
+    requires fits { asked.start + asked.count < 2 ^ 32 }
+    requires padded { (asked.start + asked.count) * num_bits / 8 + 8 ≤ length «data».now }
+    requires room { at + asked.count ≤ length output.old }
+    ensures within { result ≤ at + asked.count / 64 * 64 }
+    ensures front { take result output.new ≡ take at output.old ++ ids_between «data».now num_bits
+        asked.low (asked.low + asked.span) asked.start (asked.count / 64 * 64) }
 {
     match num_bits {
-        0 => write_ids_of::<0>(low, span, start, count, data, output, at),
-        1 => write_ids_of::<1>(low, span, start, count, data, output, at),
-        2 => write_ids_of::<2>(low, span, start, count, data, output, at),
-        3 => write_ids_of::<3>(low, span, start, count, data, output, at),
-        4 => write_ids_of::<4>(low, span, start, count, data, output, at),
-        5 => write_ids_of::<5>(low, span, start, count, data, output, at),
-        6 => write_ids_of::<6>(low, span, start, count, data, output, at),
-        7 => write_ids_of::<7>(low, span, start, count, data, output, at),
-        8 => write_ids_of::<8>(low, span, start, count, data, output, at),
-        9 => write_ids_of::<9>(low, span, start, count, data, output, at),
-        10 => write_ids_of::<10>(low, span, start, count, data, output, at),
-        11 => write_ids_of::<11>(low, span, start, count, data, output, at),
-        12 => write_ids_of::<12>(low, span, start, count, data, output, at),
-        13 => write_ids_of::<13>(low, span, start, count, data, output, at),
-        14 => write_ids_of::<14>(low, span, start, count, data, output, at),
-        15 => write_ids_of::<15>(low, span, start, count, data, output, at),
-        16 => write_ids_of::<16>(low, span, start, count, data, output, at),
-        17 => write_ids_of::<17>(low, span, start, count, data, output, at),
-        18 => write_ids_of::<18>(low, span, start, count, data, output, at),
-        19 => write_ids_of::<19>(low, span, start, count, data, output, at),
-        20 => write_ids_of::<20>(low, span, start, count, data, output, at),
-        21 => write_ids_of::<21>(low, span, start, count, data, output, at),
-        22 => write_ids_of::<22>(low, span, start, count, data, output, at),
-        23 => write_ids_of::<23>(low, span, start, count, data, output, at),
-        24 => write_ids_of::<24>(low, span, start, count, data, output, at),
-        25 => write_ids_of::<25>(low, span, start, count, data, output, at),
-        26 => write_ids_of::<26>(low, span, start, count, data, output, at),
-        27 => write_ids_of::<27>(low, span, start, count, data, output, at),
-        28 => write_ids_of::<28>(low, span, start, count, data, output, at),
-        29 => write_ids_of::<29>(low, span, start, count, data, output, at),
-        30 => write_ids_of::<30>(low, span, start, count, data, output, at),
-        31 => write_ids_of::<31>(low, span, start, count, data, output, at),
-        _ => write_ids_of::<32>(low, span, start, count, data, output, at),
+        0 => write_ids_of::<0>(asked, data, output, at),
+        1 => write_ids_of::<1>(asked, data, output, at),
+        2 => write_ids_of::<2>(asked, data, output, at),
+        3 => write_ids_of::<3>(asked, data, output, at),
+        4 => write_ids_of::<4>(asked, data, output, at),
+        5 => write_ids_of::<5>(asked, data, output, at),
+        6 => write_ids_of::<6>(asked, data, output, at),
+        7 => write_ids_of::<7>(asked, data, output, at),
+        8 => write_ids_of::<8>(asked, data, output, at),
+        9 => write_ids_of::<9>(asked, data, output, at),
+        10 => write_ids_of::<10>(asked, data, output, at),
+        11 => write_ids_of::<11>(asked, data, output, at),
+        12 => write_ids_of::<12>(asked, data, output, at),
+        13 => write_ids_of::<13>(asked, data, output, at),
+        14 => write_ids_of::<14>(asked, data, output, at),
+        15 => write_ids_of::<15>(asked, data, output, at),
+        16 => write_ids_of::<16>(asked, data, output, at),
+        17 => write_ids_of::<17>(asked, data, output, at),
+        18 => write_ids_of::<18>(asked, data, output, at),
+        19 => write_ids_of::<19>(asked, data, output, at),
+        20 => write_ids_of::<20>(asked, data, output, at),
+        21 => write_ids_of::<21>(asked, data, output, at),
+        22 => write_ids_of::<22>(asked, data, output, at),
+        23 => write_ids_of::<23>(asked, data, output, at),
+        24 => write_ids_of::<24>(asked, data, output, at),
+        25 => write_ids_of::<25>(asked, data, output, at),
+        26 => write_ids_of::<26>(asked, data, output, at),
+        27 => write_ids_of::<27>(asked, data, output, at),
+        28 => write_ids_of::<28>(asked, data, output, at),
+        29 => write_ids_of::<29>(asked, data, output, at),
+        30 => write_ids_of::<30>(asked, data, output, at),
+        31 => write_ids_of::<31>(asked, data, output, at),
+        _ => write_ids_of::<32>(asked, data, output, at),
     }
 }
 

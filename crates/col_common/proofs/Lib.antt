@@ -10,3 +10,4 @@ pub mod MemberLemmas
 pub mod OrderingLemmas
 pub mod DecodingLemmas
 pub mod OnOkLemmas
+pub mod KeptLemmas

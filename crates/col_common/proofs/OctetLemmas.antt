@@ -1,6 +1,6 @@
 -- Numbers by their octets, the highest first.
 use Rattle.std.proofs.Common.{◌≡◌, ℕ, zero, suc, ◌+◌, ◌*◌, ◌/◌, ◌%◌, ◌^◌, ◌<◌, List, [], ◌∷◌, length, refl, sym, ◌∙◌, ap, arith, lit<, pow-suc, div-one, div-add-mod'}
-use Rattle.std.proofs.lemmas.Bool.Decides.{nat_tests}
+use Rattle.std.proofs.lemmas.Bool.Decides.{nat_tests, same_from_decides, Decides-like}
 use Rattle.std.proofs.lemmas.Nat.{mod-mul-add, mul-add-lt, mod_below}
 use native.Mathlib.Nat.{pow-zero, mod-one}
 use Rattle.std.specs.Int.{bytes_high_first, byte_at, to_be_bytes, w128}
@@ -10,6 +10,8 @@ use Rattle.std.specs.Cmp.Lexicographic.{slice_cmp}
 use Rattle.std.specs.Ordering.{nat_cmp, ordering_then}
 use Rattle.std.specs.declared.cmp.Ordering.{Ordering}
 use Rattle.std.specs.declared.cmp.Ordering.TheVariants.{Less, Equal, Greater}
+use Rattle.std.proofs.lemmas.Slice.Eq.{bytes_eq-Decides}
+use Rattle.std.specs.Str.{bytes_eq}
 use Rattle.col_common.specs.Ascending.{AreBelow}
 
 -- orders one after another, in either bracketing
@@ -93,7 +95,8 @@ then_equal Less b h = cc
 then_equal Equal b h = (refl, h)
 then_equal Greater b h = cc
 
-cmp_equal : (x y : ℕ) → nat_cmp x y ≡ Equal → x ≡ y
+-- numbers that compare as equal are equal
+pub cmp_equal : (x y : ℕ) → nat_cmp x y ≡ Equal → x ≡ y
 cmp_equal x y h = grind (arith, nat_tests)
 
 same_from_order : (xs ys : List ℕ) → length xs ≡ length ys → slice_cmp nat_cmp xs ys ≡ Equal → xs ≡ ys
@@ -112,3 +115,7 @@ pub octets_closed : (xs ys : List ℕ) → length xs ≡ length ys → AreBelow 
 octets_closed xs ys e p q same =
     let n : ℕ = number_from_digits 256 ys in
     same_from_order xs ys e (octets_ordered xs ys e p q ∙ (ap (λ m. nat_cmp m n) same ∙ tied_itself nat_cmp_total n))
+
+-- bytes are equal either way
+pub bytes_eq-swap : (xs ys : List ℕ) → bytes_eq xs ys ≡ bytes_eq ys xs
+bytes_eq-swap xs ys = same_from_decides _ _ (bytes_eq-Decides xs ys) (Decides-like _ sym sym (bytes_eq-Decides ys xs))

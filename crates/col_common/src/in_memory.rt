@@ -2,7 +2,7 @@
 ghost use Rattle.std.specs.Prelude.{◌≡◌, ◌<◌, ◌↔◌, [], Some, length, IsOk, IfOk};
 ghost use Rattle.std.specs.Io.{ReadsAtMost};
 ghost use Rattle.std.proofs.Common.{refl};
-ghost use Rattle.col_common.specs.Outside.{ReadTakes};
+ghost use Rattle.col_common.specs.Outside.{ReadTakes, told_file};
 
 use crate::{FileHandle, HandleError, Source};
 use bytes::Bytes;
@@ -79,15 +79,7 @@ impl FileInMemory {
 }
 
 impl FileHandle for FileInMemory {
-    ghost content = { λ f. Some f.bytes };
-
-    ghost size = { λ f. length f.bytes };
-
-    ghost faults = { λ f. 0 };
-
-    ghost reads = { λ f. f.reads };
-
-    ghost mark = { λ f. 0 };
+    ghost seen = { λ f. told_file f.bytes 0 f.reads };
 
     ghost told_whole = { λ f. refl };
 

@@ -13,7 +13,7 @@ use Rattle.col_model.proofs.RunLaws.{segmentation-does-not-matter}
 use Rattle.col_model.proofs.SeenLaws.{column_at}
 use Rattle.col_model.proofs.StackSeen.{IsShaped}
 use Rattle.col_model.proofs.StackTables.{stack-gist, stacked-is}
-use Rattle.col_model.proofs.WholeLaws.{CanStack, bracketing-ok, writing-at-once-is-enough}
+use Rattle.col_model.proofs.WholeLaws.{CanStack, bracketing-ok, writing-at-once-is-enough, can-stack}
 use Rattle.col_laws.specs.SegmentFiles.{file_table, parts_in, stacked_files}
 use Rattle.col_laws.specs.FileLaws.{FilesOfRunsMergeToOne, FilesOfRunsAreMade, FilesMergeInAnyBracketing, MergingAtOnceIsEnough}
 use Rattle.col_laws.proofs.PartLemmas.{has-table}
@@ -76,11 +76,6 @@ are-sound (file ∷ files) all whole =
       are = each-one file_table file files t.0 later.tables t.1 later.are;
       leaves = (file-leaf file t.0 all.0 t.1, later.leaves);
     }
-
-can-stack : (ts : List Table) (t : Table) → AllByRecursion IsShaped ts → stacked ts ≡ Ok t → CanStack ts
-can-stack ts t shaped e =
-    let is = stacked-is ts t shaped e in
-    record { few = is.few; joined = λ slot. (column_at slot t, sym (stack-gist slot ts shaped) ∙ is.columns slot) }
 
 -- where merging files at once refuses nothing, no merge in a bracketing does
 pub merging-at-once-is-enough : MergingAtOnceIsEnough

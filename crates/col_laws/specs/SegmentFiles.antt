@@ -44,7 +44,7 @@ pub data AreMade {A : Type 0} (table : A → Result Table Refusal)
       {files : List (List ℕ)} → AreMade table inner own → IsFileOf (stacked_files own) file
       → AreMade table rest files → AreMade table (bracket inner rest) (file ∷ files)
 
--- the merged file of the files made in a bracketing
+-- the merged file of the files made in a bracketing (as made_in_brackets of FileBracketings)
 pub record IsMadeBy {A : Type 0} (table : A → Result Table Refusal) (b : Bracketing A)
     (file : List ℕ) : Type 0 where
   pub files : List (List ℕ)

@@ -7,7 +7,7 @@ use Rattle.std.proofs.lemmas.List.{length-map, length-take, length-drop, take-ap
 use Rattle.std.proofs.lemmas.List.Folds.{flat_map-map}
 use Rattle.col_common.specs.Ascending.{AreBelow}
 use Rattle.col_common.specs.Reading.{◌>>=◌, nothing_left, items}
-use Rattle.col_common.specs.VInt.{group_bytes}
+use Rattle.col_common.specs.VInt.{group_bytes, vint_bytes}
 use Rattle.col_common.proofs.VIntLemmas.{group_bytes-short, group_bytes-long}
 use Rattle.col_bits.specs.Packed.{number_of}
 use Rattle.col_bits.proofs.PackedLemmas.{length-digits}
@@ -91,6 +91,10 @@ length-group_bytes (suc k) n =
       | inl p ↦ rw (group_bytes-short k n p) (omega arith)
       | inr p ↦ rw (group_bytes-long k n p) (omega (arith, length-group_bytes k (n / 128)))
     ]
+
+-- a number is spelled by at most 19 bytes
+pub vint_bytes-most : (n : ℕ) → length (vint_bytes n) ≤ 19
+vint_bytes-most n = length-group_bytes 19 n
 
 length-params_bytes : (l : LinearParams) → length (params_bytes l) ≤ 39
 unfolding params_bytes

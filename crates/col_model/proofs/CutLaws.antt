@@ -1,6 +1,8 @@
 -- For a writer that cuts a list into blocks, one after another.
-use Rattle.std.proofs.Common.{◌≡◌, ℕ, zero, suc, ◌+◌, ◌*◌, ◌≤◌, List, [], ◌∷◌, ◌++◌, length, take, drop, refl, ap, sym, ◌∙◌, arith, append_assoc, append-nil, add-one}
-use Rattle.std.proofs.lemmas.List.{length-drop, drop-drop, take-append-le, drop-append-le}
+use Rattle.std.proofs.Common.{◌≡◌, ℕ, zero, suc, ◌+◌, ◌*◌, ◌≤◌, List, [], ◌∷◌, ◌++◌, length, take, drop, refl, ap, sym, ◌∙◌, arith, append_assoc, append-nil, add-one, map, ap₂}
+use Rattle.std.proofs.lemmas.List.{length-drop, drop-drop, take-append-le, drop-append-le, length-map}
+use Rattle.std.proofs.Math.Seq.{take-append_seam, drop-append_seam}
+use Rattle.col_model.specs.Dictionary.{cut}
 use Rattle.col_model.specs.U64List.{joined_lists}
 use Rattle.col_model.specs.Codecs.{block_size, cut_blocks}
 
@@ -8,6 +10,19 @@ use Rattle.col_model.specs.Codecs.{block_size, cut_blocks}
 pub joined_lists-push : {A : Type 0} (xss : List (List A)) (xs : List A) → joined_lists (xss ++ xs ∷ []) ≡ joined_lists xss ++ xs
 joined_lists-push [] xs = append-nil xs
 joined_lists-push (ys ∷ xss) xs = ap (λ r. ys ++ r) (joined_lists-push xss xs) ∙ sym (append_assoc ys (joined_lists xss) xs)
+
+-- turning their values leaves rows as long as they are
+pub lengths-map : {A B : Type 0} (f : A → B) (xss : List (List A)) → map length (map (map f) xss) ≡ map length xss
+lengths-map f [] = refl
+lengths-map f (xs ∷ xss) = ap₂ (λ n ns. n ∷ ns) (length-map xs f) (lengths-map f xss)
+
+-- lists that are joined are cut apart by their lengths
+pub cut-joined : {A : Type 0} (xss : List (List A)) → cut (map length xss) (joined_lists xss) ≡ xss
+unfolding cut
+cut-joined [] = refl
+cut-joined (xs ∷ xss) =
+    ap₂ (λ a b. a ∷ b) (take-append_seam xs (joined_lists xss))
+    (ap (cut (map length xss)) (drop-append_seam xs (joined_lists xss)) ∙ cut-joined xss)
 
 -- block k of a list
 abbrev pub block_at : ℕ → List ℕ → List ℕ

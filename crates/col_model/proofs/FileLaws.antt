@@ -6,6 +6,7 @@ use Rattle.std.proofs.lemmas.Bool.{eq-eqb, and_from}
 use Rattle.std.proofs.lemmas.List.{length-map}
 use Rattle.std.proofs.lemmas.List.Sums.{sum_by-cons}
 use Rattle.col_common.specs.Reading.{items, le_number}
+use Rattle.std.proofs.Math.Seq.{take-append_seam, drop-append_seam}
 use Rattle.col_model.specs.U64List.{joined_lists}
 use Rattle.col_model.specs.Dictionary.{cut}
 use Rattle.col_model.specs.Index.{Counts, counts}
@@ -17,7 +18,7 @@ use Rattle.col_model.specs.Version.{magic, version_bytes}
 use Rattle.col_model.specs.File.{PartColumn, part_column, parts_of}
 use Rattle.col_model.specs.Spelling.{column_bytes, keyed_length_bytes, key_table_bytes, footer_bytes, keyed_lengths, file_bytes}
 use Rattle.col_common.proofs.VIntLemmas.{vint-vint_bytes}
-use Rattle.col_model.proofs.ReadingLaws.{front-append, back-append, le_number-w64, le_number-w32, parts_by_first-w64, items-flat_map, take-front, drop-front}
+use Rattle.col_model.proofs.ReadingLaws.{front-append, back-append, le_number-w64, le_number-w32, parts_by_first-w64, items-flat_map}
 
 -- ---- columns
 
@@ -127,7 +128,7 @@ total_length-keyed_lengths (p ∷ ps) =
 pub slice-middle : (before part rest : List ℕ) → slice_range (before ++ (part ++ rest)) (length before) (length before + length part) ≡ part
 slice-middle before part rest =
     let m : length before + length part - length before ≡ length part = omega arith in rw
-    (drop-front before (part ++ rest), m) (take-front part rest)
+    (drop-append_seam before (part ++ rest), m) (take-append_seam part rest)
 
 -- a key with its column's bytes, as a part's column
 abbrev pub part_column_of : ℕ → Key × List ℕ → PartColumn

@@ -68,6 +68,16 @@ pub only_if-then : {A B : Type 0} (f : A → B) (b : Bool) (x : A) → (only_if 
 only_if-then f true x = refl
 only_if-then f false x = refl
 
+-- a value that is given under a test says that the test holds, and is that value
+pub only_if-some : {A : Type 0} (b : Bool) (x y : A) → Some x ≡ only_if b y → (b ≡ true) × (x ≡ y)
+only_if-some true x y e = (refl, cc)
+only_if-some false x y e = absurd (cc)
+
+-- a value that isn't given under a test says that the test fails
+pub only_if-none : {A : Type 0} (b : Bool) (x : A) → None ≡ only_if b x → b ≡ false
+only_if-none true x e = absurd (cc)
+only_if-none false x e = refl
+
 -- offsets above a line, place by place
 above-range : (l : LinearParams) (f : ℕ → ℕ) (k n : ℕ)
     → map (above_line l) (enumerate_from k (map f (range_with_len k n)))

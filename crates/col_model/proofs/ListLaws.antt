@@ -1,5 +1,5 @@
 -- Lists: what all items keep, and where items stand.
-use Rattle.std.proofs.Common.{◌≡◌, ℕ, zero, suc, ◌-◌, ◌<◌, ◌≤◌, nat_lt, Bool, true, false, lt-ltb, List, [], ◌∷◌, ◌++◌, map, filter, filter_map, length, get_or, take, drop, slice_get, Some, refl, sym, ◌∙◌, ap, arith, ◌+◌, sum}
+use Rattle.std.proofs.Common.{◌≡◌, ℕ, zero, suc, ◌-◌, ◌<◌, ◌≤◌, nat_lt, Bool, true, false, lt-ltb, List, [], ◌∷◌, ◌++◌, map, filter, filter_map, length, get_or, take, drop, slice_get, Some, refl, sym, ◌∙◌, ap, arith, ◌+◌, sum, cond}
 use Rattle.std.specs.List.{AllByRecursion, range_with_len}
 use Rattle.std.proofs.lemmas.Bool.{true≢false, and_parts}
 use Rattle.std.proofs.lemmas.List.Sums.{sum_by-cons}
@@ -30,6 +30,29 @@ pub all_dropped : (P : ℕ → Type 0) (n : ℕ) (xs : List ℕ) → AllByRecurs
 all_dropped P zero xs all = all
 all_dropped P (suc n) [] all = tt
 all_dropped P (suc n) (x ∷ xs) all = all_dropped P n xs all.1
+
+-- what all items keep, those that pass a test keep
+pub all-filter : {A : Type 0} (P : A → Type 0) (test : A → Bool) (xs : List A) → AllByRecursion P xs → AllByRecursion P (filter test xs)
+all-filter P test [] all = tt
+all-filter P test (x ∷ xs) all = by (test x) (all-filter P test xs all.1)
+  where
+    by : (b : Bool) → AllByRecursion P (filter test xs) → AllByRecursion P (cond b (x ∷ filter test xs) (filter test xs))
+    by true later = (all.0, later)
+    by false later = later
+
+-- there are at most as many items that pass a test as items
+pub filter-few : {A : Type 0} (test : A → Bool) (xs : List A) → length (filter test xs) ≤ length xs
+filter-few test [] = omega arith
+filter-few test (x ∷ xs) = by (test x) (filter-few test xs)
+  where
+    by : (b : Bool) → length (filter test xs) ≤ length xs → length (cond b (x ∷ filter test xs) (filter test xs)) ≤ suc (length xs)
+    by true l = omega arith
+    by false l = omega arith
+
+-- a test that nothing passes keeps nothing
+pub filter-none : {A : Type 0} (test : A → Bool) → ((x : A) → test x ≡ false) → (xs : List A) → filter test xs ≡ []
+filter-none test none [] = refl
+filter-none test none (x ∷ xs) = rw (none x) (filter-none test none xs)
 
 -- the item behind others
 pub slice_get-behind : {A : Type 0} (before : List A) (x : A) (rest : List A) → slice_get (before ++ x ∷ rest) (length before) ≡ Some x

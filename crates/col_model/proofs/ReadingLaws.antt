@@ -5,26 +5,19 @@ use Rattle.std.specs.Int.{w32, w64, to_le_bytes}
 use Rattle.std.proofs.lemmas.Bool.{le-leb}
 use Rattle.std.proofs.lemmas.Nat.{from_le_bytes-to_le_bytes_4, from_le_bytes-to_le_bytes_8}
 use Rattle.col_common.specs.Reading.{front, back, le_number, parts_by_first, parts_by_second, items}
-
--- as many items as the first of two joined lists has are the first
-pub take-front : {A : Type 0} (a b : List A) → take (length a) (a ++ b) ≡ a
-take-front [] b = refl
-take-front (x ∷ a) b = ap (λ r. x ∷ r) (take-front a b)
-
--- after as many items as the first of two joined lists has stands the second
-pub drop-front : {A : Type 0} (a b : List A) → drop (length a) (a ++ b) ≡ b
-drop-front [] b = refl
-drop-front (x ∷ a) b = drop-front a b
+use Rattle.std.proofs.Math.Seq.{take-append_seam, drop-append_seam}
 
 -- two joined byte lists are cut where the first ends
 pub front-append : (n : ℕ) (a b : List ℕ) → n ≡ length a → front n (a ++ b) ≡ Some (a, b)
-front-append n a b e = rw (e, take-front a b, drop-front a b, length-append a b, le-leb (length a) (length a + length b) (omega arith))
+front-append n a b e =
+    let fits = le-leb (length a) (length a + length b) (omega arith) in
+    rw (e, take-append_seam a b, drop-append_seam a b, length-append a b, fits)
 
 -- two joined byte lists are cut, from the back, where the second begins
 pub back-append : (n : ℕ) (a b : List ℕ) → n ≡ length b → back n (a ++ b) ≡ Some (a, b)
 back-append n a b e =
     let cut : length (a ++ b) - n ≡ length a = rw (length-append a b, e) (omega arith) in
-    rw (cut, take-front a b, drop-front a b, length-append a b, e, le-leb (length b) (length a + length b) (omega arith))
+    rw (cut, take-append_seam a b, drop-append_seam a b, length-append a b, e, le-leb (length b) (length a + length b) (omega arith))
 
 -- a number below 2 ^ 64 is read back from its eight bytes, with what follows them
 pub le_number-w64 : (n : ℕ) (rest : List ℕ) → n < 2 ^ 64 → le_number w64 (to_le_bytes w64 n ++ rest) ≡ Some (n, rest)

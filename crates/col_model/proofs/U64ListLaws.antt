@@ -33,7 +33,8 @@ stats_at-stats_bytes s rest a b c d p e =
       e,
     ) refl
 
-least_le-greatest : (xs : List ℕ) → least_of xs ≤ greatest_of xs
+-- the least item is at most the greatest
+pub least_le-greatest : (xs : List ℕ) → least_of xs ≤ greatest_of xs
 least_le-greatest [] = omega arith
 least_le-greatest (x ∷ xs) = omega (arith, (least_of-all (x ∷ xs)).0, (fold-max 0 (x ∷ xs)).1.0)
 

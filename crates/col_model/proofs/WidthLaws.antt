@@ -1,7 +1,8 @@
 -- A width holds its number.
-use Rattle.std.proofs.Common.{◌≡◌, ℕ, zero, suc, ◌+◌, ◌*◌, ◌/◌, ◌^◌, ◌<◌, inl, inr, arith, pow-suc}
+use Rattle.std.proofs.Common.{◌≡◌, ℕ, zero, suc, ◌+◌, ◌*◌, ◌/◌, ◌^◌, ◌<◌, inl, inr, arith, pow-suc, ◌≤◌, true}
 use Rattle.std.proofs.lemmas.Bool.{cases_eq, cases_lt, eq-eqb, ne_eqb, lt-ltb, le-ltb}
-use Rattle.col_bits.specs.Packed.{binary_digits, width}
+use Rattle.col_bits.specs.Packed.{binary_digits, width, is_width}
+use Rattle.std.proofs.lemmas.Bool.Decides.{nat_tests}
 
 -- a number below 2 ^ k is below 2 to its count of binary digits
 pub binary_digits-above : (k n : ℕ) → n < 2 ^ k → n < 2 ^ binary_digits k n
@@ -26,3 +27,7 @@ width-above n h =
       | inl p ↦ rw (lt-ltb n (2 ^ 56) p) (binary_digits-above 56 n p)
       | inr p ↦ rw (le-ltb n (2 ^ 56) p) h
     ]
+
+-- a width that a file may name is at most 64
+pub width-most : (w : ℕ) → is_width w ≡ true → w ≤ 64
+width-most w e = grind (arith, nat_tests)

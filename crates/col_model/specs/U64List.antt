@@ -6,7 +6,6 @@ use Rattle.col_common.specs.Reading.{◌>>=◌, only_if, byte_at, nothing_left, 
 use Rattle.col_bits.specs.Packed.{packed, packed_bytes, width, is_width}
 use Rattle.col_model.specs.Stats.{Stats, stats_of, same_stats, steps_of, stats_at, stats_bytes}
 use Rattle.col_model.specs.Line.{line, line_at}
-use Rattle.col_model.specs.declared.limits.TheConstants.{BLOCK_SIZE}
 
 -- Codec 0, Bitpacked: for each item, how many divisors it lies above the least, at the width of
 -- the greatest such count.
@@ -45,7 +44,7 @@ linear_values s bytes = do
 
 -- how many items a block has, and how many a line is trained on
 abbrev pub block_size : ℕ
-block_size = BLOCK_SIZE
+block_size = 512
 
 -- how many of n items stand in the first block
 abbrev pub block_len : ℕ → ℕ

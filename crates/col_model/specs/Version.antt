@@ -1,7 +1,6 @@
 -- The versions of the format. States docs/FORMAT.md, section 11.
-use Rattle.std.specs.Prelude.{ℕ, ◌==◌, ◌&&◌, Bool, List, ◌++◌, bytes_eq, Option}
+use Rattle.std.specs.Prelude.{ℕ, ◌==◌, ◌&&◌, Bool, List, [], ◌∷◌, ◌++◌, bytes_eq, Option}
 use Rattle.std.specs.Int.{w32, to_le_bytes}
-use Rattle.col_model.specs.declared.limits.TheConstants.{MAGIC_BYTES}
 use Rattle.col_common.specs.Reading.{◌>>=◌, only_if, le_number}
 
 -- the version that is written
@@ -16,7 +15,7 @@ is_version v = v == current_version
 
 -- the last four bytes of a file
 abbrev pub magic : List ℕ
-magic = MAGIC_BYTES
+magic = 0x02 ∷ 0x71 ∷ 0x77 ∷ 0x42 ∷ []
 
 -- the version that the last eight bytes of a file spell: the version, and four fixed bytes
 abbrev pub version_of : List ℕ → Option ℕ

@@ -15,6 +15,7 @@ use Rattle.std.proofs.lemmas.List.Sorted.{All-permutation, IsPermutation-sym, Is
 use Rattle.std.proofs.lemmas.Map.Keys.{IsDistinct-IsPermutation, apart_from_distinct, sorted_from_all_adjacent}
 use Rattle.std.proofs.lemmas.Map.Lookups.{exact_bytes}
 use Rattle.std.specs.List.{enumerate_from}
+use Rattle.col_common.proofs.OctetLemmas.{bytes_eq-swap}
 use Rattle.col_terms.specs.Building.{is_known, id_of, ordered, ordinals, TermRef, ord_term, texts, HasHead, AreNumbered, AreOrdered}
 use Rattle.col_terms.specs.TermTable.{head_of}
 use Rattle.col_terms.specs.Streams.{OrdTerm, numbered}
@@ -27,13 +28,6 @@ use Rattle.col_model.proofs.OrderingLaws.{bytes_eq-true}
 -- a term of no bytes, for places past the end
 abbrev pub nothing : TermRef
 nothing = (0, record { ref_ptr = (0, 0); now = [] }, 0)
-
-flips : (a b : List ℕ) → bytes_eq a b ≡ bytes_eq b a
-flips a b = go (bytes_eq a b) refl
-  where
-    go : (t : Bool) → bytes_eq a b ≡ t → t ≡ bytes_eq b a
-    go true e = sym (same_bytes b a (sym (bytes_eq-true a b e)))
-    go false e = sym (false_from_ne_true (bytes_eq b a) (λ h. true≢false (sym (same_bytes a b (sym (bytes_eq-true b a h))) ∙ e)))
 
 terms_of_refs : (vs : List TermRef) → map (λ (q : OrdTerm). q.1) (map ord_term vs) ≡ texts vs
 terms_of_refs [] = refl
@@ -74,7 +68,7 @@ module _ (ts : List (List ℕ)) (differ : IsDistinct bytes_eq ts) (us vs : List 
   have_heads = All-permutation HasHead us vs moved all.heads
 
   terms_differ : IsDistinct bytes_eq (texts vs)
-  terms_differ = IsDistinct-IsPermutation bytes_eq flips ts (texts vs) (IsPermutation-sym (texts vs) ts same_terms) differ
+  terms_differ = IsDistinct-IsPermutation bytes_eq bytes_eq-swap ts (texts vs) (IsPermutation-sym (texts vs) ts same_terms) differ
 
   text_at : (k : ℕ) → k < length vs → get_or (texts vs) k [] ≡ (get_or vs k nothing).1.now
   text_at k h = get_or-map (λ (p : TermRef). p.1.now) vs k nothing [] h
@@ -153,7 +147,7 @@ module _ (ts : List (List ℕ)) (vs : List TermRef) (a : AreOrdered ts vs) where
   order = permutation-ordered ts a.differ
 
   ordered_differ : IsDistinct bytes_eq (ordered ts)
-  ordered_differ = IsDistinct-IsPermutation bytes_eq flips ts (ordered ts) order a.differ
+  ordered_differ = IsDistinct-IsPermutation bytes_eq bytes_eq-swap ts (ordered ts) order a.differ
 
   long : length (ordered ts) ≡ length vs
   long = ap length (sym a.terms) ∙ length-map vs (λ (p : TermRef). p.1.now)

@@ -54,6 +54,21 @@ impl ColumnType {
         }
     }
 
+    /// The word for it in scripts, reports and messages.
+    pub fn word(self) -> &'static str
+        ensures { result.now ≡ type_name (kind_of self) }
+    {
+        match self {
+            ColumnType::I64 => "i64",
+            ColumnType::U64 => "u64",
+            ColumnType::Bytes => "bytes",
+            ColumnType::Str => "str",
+            ColumnType::Bool => "bool",
+            ColumnType::IpAddr => "ip",
+            ColumnType::DateTime => "datetime",
+        }
+    }
+
     /// Whether its values are points in time.
     pub fn is_date_time(self) -> bool
         ensures { result ≡ same_type (kind_of self) types.datetime }
@@ -93,14 +108,6 @@ impl fmt::Display for ColumnType {
     ghost output = { λ t. Some (type_name (kind_of t)) };
 
     fn fmt<W: fmt::Write>(&self, f: &mut fmt::Formatter<W>) -> fmt::Result {
-        f.write_str(match self {
-            ColumnType::I64 => "i64",
-            ColumnType::U64 => "u64",
-            ColumnType::Bytes => "bytes",
-            ColumnType::Str => "str",
-            ColumnType::Bool => "bool",
-            ColumnType::IpAddr => "ip",
-            ColumnType::DateTime => "datetime",
-        })
+        f.write_str(self.word())
     }
 }

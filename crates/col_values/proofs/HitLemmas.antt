@@ -12,7 +12,8 @@ use Rattle.std.specs.Int.{is_in_range}
 use Rattle.std.proofs.lemmas.Bool.Decides.{nat_tests}
 use Rattle.col_common.specs.Ascending.{is_rising}
 use Rattle.col_common.proofs.OrderingLemmas.{filtered_rises}
-use Rattle.col_model.proofs.ListLaws.{range-more}
+use Rattle.col_model.proofs.ListLaws.{range-more, filter-none}
+use Rattle.col_common.proofs.KeptLemmas.{kept_more}
 use Rattle.col_values.specs.Monotonic.{Passes}
 use Rattle.col_values.specs.Values.{passes, hits, hits_between, is_between, span}
 use Rattle.col_values.specs.Codes.{number_cmp}
@@ -52,13 +53,6 @@ hits_joined test values from n m mid k at all =
     let p = λ (row : ℕ). passes test (slice_get values row) in
     sym (filter-append p (range_with_len from n) (range_with_len mid m)) ∙ ap (filter p) (range_joined from n m mid k at all)
 
-kept_more : (slots : List ℕ) (kept row : ℕ) (b : Bool) → kept < length slots
-    → take (kept + bool_byte b) (set slots kept row) ≡ take kept slots ++ cond b (row ∷ []) []
-kept_more slots kept row true within = take_more_set slots kept row within
-kept_more slots kept row false within =
-    ap (λ n. take n (set slots kept row)) (add-zero kept) ∙ take-set slots kept row
-    ∙ sym (append-nil (take kept slots))
-
 -- A position is written at the next slot, and kept there where its value passes.
 pub kept_hits : {T : Type 0} (test : T → Bool) (values : List T) (from n m row : ℕ) (v : T) (b : Bool)
     (slots : List ℕ) (kept : ℕ) → from + n ≡ row → m ≡ n + 1 → slice_get values row ≡ Some v → b ≡ test v
@@ -67,11 +61,6 @@ pub kept_hits : {T : Type 0} (test : T → Bool) (values : List T) (from n m row
 kept_hits test values from n m row v b slots kept at next value answer within so_far =
     kept_more slots kept row b within ∙ ap (λ rows. rows ++ cond b (row ∷ []) []) so_far
     ∙ sym (hits_more test values from n m row v b at next value (sym answer))
-
--- one item more leaves at most as many kept as could be
-pub kept_within : (kept most : ℕ) (b : Bool) → kept ≤ most → kept + bool_byte b ≤ most + 1
-kept_within kept most true h = omega arith
-kept_within kept most false h = omega arith
 
 -- one value more of a part
 pub part_more : {T : Type 0} (values out : List T) (start i : ℕ) (y : T) → slice_get values (start + i) ≡ Some y
@@ -100,16 +89,12 @@ never : {X : Type 0} (o : Option X) → passes (λ _. false) o ≡ false
 never None = refl
 never (Some x) = refl
 
-nothing_kept : (rows : List ℕ) → filter (λ _. false) rows ≡ []
-nothing_kept [] = refl
-nothing_kept (row ∷ rows) = nothing_kept rows
-
 hits_never : {X : Type 0} (values : List X) (from n : ℕ) → hits (λ _. false) values from n ≡ []
 unfolding hits
 hits_never values from n =
     filter_agree (λ row. passes (λ _. false) (slice_get values row)) (λ _. false)
     (λ row. never (slice_get values row)) (range_with_len from n)
-    ∙ nothing_kept (range_with_len from n)
+    ∙ filter-none (λ _. false) (λ _. refl) (range_with_len from n)
 
 module _ {X Y : Type 0} (is_in : X → Bool) (there : X → Y) (p : Y → Bool) (q : X → Bool) (same : (x : X)
     → Passes is_in x → p (there x) ≡ q x) where

@@ -20,6 +20,12 @@ fn is_within<T: PartialOrd>(low: &T, value: &T, high: &T) -> bool
     *low <= *value && *value <= *high
 }
 
+/// Rows from a first one up to the last.
+pub type Rows = Range<RowId>;
+
+/// What a lookup says once its hits are there, else why there are none.
+pub type Found = Result<(), ColumnarError>;
+
 /// A list of values.
 pub trait ColumnValues<T: PartialOrd + Copy> {
     /// The values, in order.
@@ -86,20 +92,14 @@ pub trait ColumnValues<T: PartialOrd + Copy> {
 
     /// The positions in a range whose values are from the first to the last, ascending.
     #[tactic(auto, using(crate::proofs::HitLemmas::hits_none))]
-    fn get_row_ids_between(
-        &self,
-        low: T,
-        high: T,
-        row_ids: Range<RowId>,
-        hits: &mut Vec<RowId>,
-    ) -> Result<(), ColumnarError>
+    fn get_row_ids_between(&self, low: T, high: T, rows: Rows, hits: &mut Vec<RowId>) -> Found
         ensures { Replaces result hits.new.items
-            (hits_between T.partial_cmp (values self.now) low high row_ids.start row_ids.end) }
+            (hits_between T.partial_cmp (values self.now) low high rows.start rows.end) }
     {
         hits.clear();
         let mut block = [0; BLOCK_LEN as usize];
-        let end = row_ids.end.min(self.num_vals());
-        let mut start = row_ids.start;
+        let end = rows.end.min(self.num_vals());
+        let mut start = rows.start;
         while start < end {
             let next = start + (end - start).min(BLOCK_LEN);
             let mut found = 0;

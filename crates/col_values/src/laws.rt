@@ -11,6 +11,7 @@ use col_common::Iterable;
 pub fn count_items<T: PartialOrd + Copy, V: ColumnValues<T>>(values: &V) -> u64
     ensures { result ≡ length (V.values values.now) }
 {
+    // That there are fewer than 2 ^ 32 values is known of the count.
     let _len = values.num_vals();
     let items = values.iter();
     let mut at = items.walk();

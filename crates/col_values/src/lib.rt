@@ -12,7 +12,7 @@ mod monotonic_mapping_u64;
 mod values_iter;
 mod vec_column;
 
-pub use column_values::ColumnValues;
+pub use column_values::{ColumnValues, Found, Rows};
 pub use empty_column_values::EmptyColumnValues;
 pub use laws::{
     count_items, images_are_told, inverses_lead_back, maps_increase,

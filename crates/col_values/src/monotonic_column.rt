@@ -4,10 +4,9 @@ ghost use Rattle.std.specs.List.{All};
 ghost use Rattle.col_values.specs.Bounds.{IsMappedBound, IsOfValues, AreExact};
 ghost use Rattle.col_values.specs.Monotonic.{AllMapped, Passes};
 
-use crate::{ColumnValues, StrictlyMonotonicFn};
-use col_common::{ColumnarError, Iterable, RowId, Walk};
+use crate::{ColumnValues, Found, Rows, StrictlyMonotonicFn};
+use col_common::{Iterable, RowId, Walk};
 use std::marker::{Model, PhantomData};
-use std::ops::Range;
 
 // So many values are read before they are mapped.
 const BLOCK_LEN: usize = 64;
@@ -141,9 +140,9 @@ where
         &self,
         low: Internal,
         high: Internal,
-        row_ids: Range<RowId>,
+        rows: Rows,
         hits: &mut Vec<RowId>,
-    ) -> Result<(), ColumnarError> {
+    ) -> Found {
         let Some(first) = self.mapping.at_least(low) else {
             hits.clear();
             return Ok(());
@@ -152,7 +151,7 @@ where
             hits.clear();
             return Ok(());
         };
-        self.values.get_row_ids_between(first, last, row_ids, hits)
+        self.values.get_row_ids_between(first, last, rows, hits)
     }
 }
 

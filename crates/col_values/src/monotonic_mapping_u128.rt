@@ -45,6 +45,7 @@ impl MonotonicallyMappableToU128 for u128 {
 
     #[inline(always)]
     fn known(&self) {
+        // That it is below 2 ^ 128 is known of a number that is read.
         let _value = *self;
     }
 
@@ -70,6 +71,7 @@ impl MonotonicallyMappableToU128 for Ipv6Addr {
 
     #[inline(always)]
     fn known(&self) {
+        // That its number has 128 bits is known of an address.
         let _bits = self.to_bits();
     }
 

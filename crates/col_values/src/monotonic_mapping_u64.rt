@@ -70,6 +70,7 @@ impl MonotonicallyMappableToU64 for u64 {
 
     #[inline(always)]
     fn known(&self) {
+        // That it is below 2 ^ 64 is known of a number that is read.
         let _value = *self;
     }
 
@@ -117,6 +118,7 @@ impl MonotonicallyMappableToU64 for u32 {
 
     #[inline(always)]
     fn known(&self) {
+        // That it is below 2 ^ 32 is known of a number that is read.
         let _value = *self;
     }
 
@@ -215,6 +217,7 @@ impl MonotonicallyMappableToU64 for i64 {
 
     #[inline(always)]
     fn known(&self) {
+        // That it has 64 bits, one of them its sign, is known of a number that is read.
         let _value = *self;
     }
 
@@ -262,6 +265,7 @@ impl MonotonicallyMappableToU64 for DateTime {
 
     #[inline(always)]
     fn known(&self) {
+        // That the nanoseconds have 64 bits is known of a moment.
         let _nanoseconds = self.into_timestamp_nanos();
     }
 
@@ -276,13 +280,13 @@ impl MonotonicallyMappableToU64 for DateTime {
     }
 
     #[inline(always)]
-    fn is_image(_val: u64) -> bool {
-        true
+    fn is_image(val: u64) -> bool {
+        i64::is_image(val)
     }
 
     #[inline(always)]
     fn images_reach_down() -> bool {
-        true
+        i64::images_reach_down()
     }
 
     #[inline(always)]

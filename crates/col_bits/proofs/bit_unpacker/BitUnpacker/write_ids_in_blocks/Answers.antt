@@ -5,9 +5,9 @@ use Rattle.col_bits.proofs.bit_unpacker.BitUnpacker.write_ids_in_blocks.Goals as
 pub returns-clause-front : goal.returns-clause-front
 returns-clause-front c =
     let a = c.args in
-    let count : ℕ = a.ids.«end» - a.ids.start in
-    let tested : ℕ = a.ids.start + count / 64 * 64 in
-    blocks_and_rest a.«data».now c.self.inside.num_bits a.self.now a.low a.high
-    (a.low + (c.min-most.result - a.low)) a.ids.start (count / 64 * 64) (a.ids.«end» - tested) tested count
+    let count : ℕ = a.asked.«end» - a.asked.start in
+    let tested : ℕ = a.asked.start + count / 64 * 64 in
+    blocks_and_rest a.«data».now c.self.inside.num_bits a.self.now a.asked.low a.asked.high
+    (a.asked.low + (c.min-most.result - a.asked.low)) a.asked.start (count / 64 * 64) (a.asked.«end» - tested) tested count
     (take a.at a.output.now) _ _ c.self.view_is c.requires.blocks.narrow (omega arith) refl (omega arith)
     c.write_ids_by_width-kept.ensures.front c.write_ids_by.ensures.front

@@ -1,7 +1,8 @@
 use Rattle.std.proofs.Common.{◌+◌, ◌-◌, arith}
 use Rattle.std.proofs.lemmas.Grind.{common_steps}
+use Rattle.col_common.proofs.KeptLemmas.{kept_within}
 use Rattle.col_values.specs.Values.{is_between}
-use Rattle.col_values.proofs.HitLemmas.{hits_joined, kept_hits, kept_within}
+use Rattle.col_values.proofs.HitLemmas.{hits_joined, kept_hits}
 use Rattle.col_values.proofs.column_values.ColumnValues.get_row_ids_between.Goals as goal
 
 pub loop-row-preserved : goal.loop-row-preserved
@@ -21,7 +22,7 @@ loop-row-preserved g c =
 
 pub loop-start-preserved : goal.loop-start-preserved
 loop-start-preserved g c =
-    let from = c.args.row_ids.start in
+    let from = c.args.rows.start in
     let start = c.loop-start.start in
     let row = c.loop-row.row in
     let test = is_between g.T.PartialOrd.partial_cmp c.args.low c.args.high in

@@ -5,7 +5,7 @@ use Rattle.col_values.proofs.column_values.ColumnValues.get_row_ids_between.Give
 -- what is found are the hits so far; with reversed ends nothing moves
 abbrev pub invariant-loop-start : goal.invariant-loop-start
 invariant-loop-start g l =
-    let from = l.fn.row_ids.start in
+    let from = l.fn.rows.start in
     record {
       found : l.hits.items ≡ hits (is_between g.T.PartialOrd.partial_cmp l.low l.high)
           (g.Self.ColumnValues.values l.self) from (l.start - from);
