@@ -11,9 +11,9 @@ use Rattle.col_model.specs.Stats.{Stats, stats_of, stats_bytes, greatest_of}
 use Rattle.col_model.specs.Training.{line_of}
 use Rattle.col_model.specs.U64List.{LinearParams}
 use Rattle.col_model.specs.Codecs.{block_size, block_estimate, block_line, cut_blocks, blocks_of, block_count, line_len, offsets_from, log2, blockwise_estimate, blockwise_body, blocks_bytes, steps_above}
-use Rattle.col_model.proofs.ReadingLaws.{drop-front}
 use Rattle.col_model.proofs.CutLaws.{block_at, cut_blocks-more, cut_blocks-append}
-use Rattle.col_codecs.proofs.LineLemmas.{vint_bytes-bound}
+use Rattle.col_model.proofs.BlockLaws.{vint_bytes-most}
+use Rattle.std.proofs.Math.Seq.{drop-append_seam}
 use Rattle.col_codecs.proofs.WidthLemmas.{width-bound}
 
 -- the binary logarithm by leading zeros
@@ -43,7 +43,7 @@ pub block_estimate-bound : (b : List ℕ) → length b ≤ block_size → block_
 block_estimate-bound b h =
     let l = block_line b in
     let bits : length b * l.offset_width ≤ length b * 64 = mul-le-mul_left (length b) (block_line-width b) in
-    omega (arith, bits, vint_bytes-bound l.slope, vint_bytes-bound l.intercept)
+    omega (arith, bits, vint_bytes-most l.slope, vint_bytes-most l.intercept)
 
 -- ---- blocks
 
@@ -53,7 +53,7 @@ cut_blocks-push : (k : ℕ) (xs ys : List ℕ) → length xs ≡ k * block_size 
 cut_blocks-push k xs ys e h =
     let whole : length xs ≡ 512 * k = omega arith in
     let last : block_at k (xs ++ ys) ≡ ys = ap (λ n. take block_size (drop n (xs ++ ys))) (sym whole)
-    ∙ ap (take block_size) (drop-front xs ys) ∙ take_all block_size ys h in
+    ∙ ap (take block_size) (drop-append_seam xs ys) ∙ take_all block_size ys h in
     cut_blocks-more k (xs ++ ys)
     ∙ ap (λ bs. bs ++ block_at k (xs ++ ys) ∷ []) (cut_blocks-append k xs ys (omega arith))
     ∙ ap (λ b. cut_blocks k xs ++ b ∷ []) last

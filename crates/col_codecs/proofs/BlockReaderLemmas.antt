@@ -5,7 +5,7 @@ use Rattle.std.specs.List.{range_with_len}
 use Rattle.std.proofs.lemmas.List.{get_or-map, length-map, take-take, length-take-le}
 use Rattle.std.proofs.lemmas.List.FromFn.{length-map-range_with_len, get_or-map-range_with_len}
 use Rattle.std.proofs.lemmas.Option.{option_and_then_some, cond_some, slice_get-get_or}
-use Rattle.col_common.specs.Reading.{◌>>=◌, only_if, back, items, nothing_left, parts_by_second}
+use Rattle.col_common.specs.Reading.{only_if, back, items, nothing_left, parts_by_second}
 use Rattle.col_common.specs.Decoding.{Refuses}
 use Rattle.col_common.specs.declared.error.ColumnarError.{ColumnarError}
 use Rattle.col_common.specs.declared.error.ColumnarError.TheVariants.{OutOfMemory, InvalidData}
@@ -13,15 +13,15 @@ use Rattle.col_model.specs.Stats.{Stats, stats_of, same_stats}
 use Rattle.col_model.specs.U64List.{LinearParams, params_at}
 use Rattle.col_model.specs.Items.{linear_item, are_blocks, no_line, blockwise_item, blockwise_items}
 use Rattle.col_model.specs.Codecs.{block_count}
-use Rattle.col_model.proofs.ReadingLaws.{take-front}
 use Rattle.col_model.proofs.StatsLaws.{map-map}
 use Rattle.col_model.proofs.BlockItemLaws.{length-items, blockwise_values-some, blockwise_values-no_parts, blockwise_values-no_lines}
+use Rattle.std.proofs.Math.Seq.{take-append_seam}
 use Rattle.col_codecs.specs.declared.blockwise_linear.block.Block.{Block}
 use Rattle.col_codecs.specs.Header.{list_by}
 use Rattle.col_codecs.specs.Blocks.{block_params, block_of, no_block, step_in, step_of, steps_in, item_of, items_in, lines_of, AreWithin, ArePlaced, IsReader}
 use Rattle.col_codecs.specs.declared.block_bounds.Bounds.{Bounds}
 use Rattle.col_codecs.specs.BlockBounds.{Enclose}
-use Rattle.col_codecs.proofs.LinearReaderLemmas.{filled_from}
+use Rattle.col_codecs.proofs.LinearReaderLemmas.{checked-both, filled_from}
 use Rattle.col_model.proofs.OneFormLaws.{same_stats-equal}
 use Rattle.col_codecs.proofs.BlockStepsLemmas.{block-found}
 
@@ -95,13 +95,7 @@ list_by-lines : (s : Stats) (bytes body footer : List ℕ) (n : ℕ) (ls : List 
 unfolding list_by
 list_by-lines s bytes body footer n ls count e q =
     rw (blockwise_values-some s bytes body footer ls e (ap (λ m. lines_of m footer) (sym count) ∙ q))
-    (both (are_blocks s.count ls body) (blockwise_items s ls body))
-  where
-    both : (b : Bool) (xs : List ℕ)
-        → (only_if b xs >>= λ ys. only_if (same_stats (stats_of ys) s) ys)
-        ≡ only_if (b && same_stats (stats_of xs) s) xs
-    both true xs = refl
-    both false xs = refl
+    (checked-both s (are_blocks s.count ls body) (blockwise_items s ls body))
 
 -- so many lines
 pub length-lines_of : (n : ℕ) (footer : List ℕ) (ls : List LinearParams) → lines_of n footer ≡ Some ls → length ls ≡ n
@@ -171,7 +165,7 @@ module _ (s : Stats) (bytes body footer : List ℕ) (n : ℕ) (bs : List Block) 
         held-new : held ≡ new
         held-new =
             refilled ∙ ap (λ m. take m (new ++ drop (length new) bs)) (all ∙ ap length (sym e) ∙ sym long)
-            ∙ take-front new (drop (length new) bs)
+            ∙ take-append_seam new (drop (length new) bs)
 
         pub held-count : length held ≡ block_count s.count
         held-count =

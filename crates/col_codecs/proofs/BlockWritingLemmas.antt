@@ -1,7 +1,6 @@
 -- Blocks that are written one after another.
 use Rattle.std.proofs.Common.{◌≡◌, ℕ, ◌+◌, ◌-◌, ◌*◌, ◌/◌, ◌^◌, ◌<◌, ◌≤◌, min, List, [], ◌∷◌, ◌++◌, length, take, drop, map, flat_map, refl, sym, ◌∙◌, ap, arith, inl, inr, append-nil}
 use Rattle.std.specs.Int.{w64, to_le_bytes, div_ceil}
-use Rattle.std.specs.List.{AllByRecursion}
 use Rattle.std.proofs.lemmas.List.{take_all, drop_all, drop-drop, take-map, drop-map, map-append, length-drop, length-map, length-take-le}
 use Rattle.std.proofs.lemmas.Grind.{flat_map-append}
 use Rattle.std.proofs.lemmas.Bool.{cases_lt}
@@ -77,6 +76,11 @@ least-is s xs e = rw e refl
 divisor-above : (s : Stats) (xs : List ℕ) → s ≡ stats_of xs → 0 < s.divisor
 unfolding stats_of
 divisor-above s xs e = rw e (omega arith)
+
+-- as many as a block has room for are taken of those that are left
+pub taken-count : (xs block left : List ℕ) (k n : ℕ) → n ≡ min (length block) (length left) → length block ≡ 512
+    → left ≡ drop (512 * k) xs → n ≡ min block_size (length (drop (512 * k) xs))
+taken-count xs block left k n e room rest = omega (arith, e, room, ap length rest)
 
 -- the values that are taken are a block
 pub IsBlock-taken : (s : Stats) (xs part : List ℕ) (blocks k n : ℕ) → s ≡ stats_of xs

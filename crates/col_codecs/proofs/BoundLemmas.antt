@@ -1,8 +1,9 @@
 -- Bounds of blocks, and lookups by them.
 use Rattle.std.proofs.Common.{◌≡◌, ℕ, zero, suc, ◌^◌, ◌+◌, ◌-◌, ◌*◌, ◌/◌, ◌<◌, ◌≤◌, inl, inr, List, [], ◌∷◌, ◌++◌, length, map, fold, min, max, take, set, get_or, refl, sym, ◌∙◌, ap, subst, arith, append_assoc, append-nil}
-use Rattle.std.specs.List.{AllByRecursion, range_with_len}
+use Rattle.std.specs.List.{range_with_len}
 use Rattle.std.proofs.lemmas.Bool.{cases_lt}
 use Rattle.std.proofs.lemmas.List.{take_more, take_more_set, take_all, get_or_append_left}
+use Rattle.std.proofs.lemmas.List.Sums.{fold_more}
 use Rattle.std.proofs.lemmas.List.Elements.{All-get_or, All-from_recursion}
 use Rattle.std.proofs.lemmas.List.FromFn.{get_or-map-range_with_len, length-map-range_with_len}
 use Rattle.col_common.specs.Ascending.{AreBelow}
@@ -27,6 +28,21 @@ max_from a b [] = refl
 max_from a b (x ∷ xs) =
     let e : max (max a b) x ≡ max a (max b x) = omega arith in
     ap (λ m. fold max m xs) e ∙ max_from a (max b x) xs
+
+-- the bounds of the first number and of those so far
+pub record AreSoFar (xs : List ℕ) (n low high : ℕ) : Type 0 where
+  pub least : low ≡ fold min (get_or xs 0 0) (take n xs)
+  pub greatest : high ≡ fold max (get_or xs 0 0) (take n xs)
+
+-- they are widened by one number more
+pub so_far-more : (xs : List ℕ) (n least greatest low high : ℕ) → n < length xs → AreSoFar xs n least greatest
+    → low ≡ min least (get_or xs n 0) → high ≡ max greatest (get_or xs n 0) → AreSoFar xs (n + 1) low high
+so_far-more xs n least greatest low high within so l h =
+    let first = get_or xs 0 0 in
+    record {
+      least = l ∙ ap (λ m. min m (get_or xs n 0)) so.least ∙ sym (fold_more min first xs n 0 within);
+      greatest = h ∙ ap (λ m. max m (get_or xs n 0)) so.greatest ∙ sym (fold_more max first xs n 0 within);
+    }
 
 -- with another number in front
 pub least-with : (a : ℕ) (xs : List ℕ) → 0 < length xs → min a (least_of xs) ≡ fold min a xs

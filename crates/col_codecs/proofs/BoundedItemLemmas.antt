@@ -8,8 +8,9 @@ use Rattle.std.proofs.lemmas.List.FromFn.{get_or-map-range_with_len}
 use mir.Val.{bool_byte}
 use Rattle.col_common.specs.Ascending.{is_rising}
 use Rattle.col_common.proofs.OrderingLemmas.{filtered_rises}
-use Rattle.col_bits.proofs.ItemLemmas.{range_parts, kept_more}
+use Rattle.col_bits.proofs.ItemLemmas.{range_parts}
 use Rattle.col_values.proofs.HitLemmas.{rows_same}
+use Rattle.col_common.proofs.KeptLemmas.{kept_more}
 use Rattle.col_codecs.specs.declared.block_bounds.Bounds.{Bounds}
 use Rattle.col_codecs.specs.BlockBounds.{LiesIn, Enclose}
 use Rattle.col_codecs.specs.BoundedItems.{ids_by}

@@ -1,6 +1,5 @@
 -- The estimate of Linear, and the parts of its bytes.
 use Rattle.std.proofs.Common.{◌≡◌, ℕ, ◌+◌, ◌*◌, ◌^◌, ◌<◌, ◌≤◌, ◌==◌, nat_le, inl, inr, List, ◌++◌, length, Some, None, true, refl, sym, ap, ◌∙◌, subst, arith, length-append}
-use Rattle.std.specs.List.{AllByRecursion}
 use Rattle.std.proofs.lemmas.Bool.{lt-ltb, le-ltb, or_cases, leb-true, eqb-true}
 use Rattle.std.proofs.Math.Nat.{mul-le-mul_left}
 use Rattle.col_common.specs.Ascending.{AreBelow}
@@ -10,7 +9,8 @@ use Rattle.col_model.specs.Stats.{Stats, stats_of, steps_of, stats_bytes}
 use Rattle.col_model.specs.U64List.{LinearParams as LineAndWidth}
 use Rattle.col_model.specs.Codecs.{block_size, line_len, packed_len, params_bytes, offsets_from, packed_offsets, linear_line, linear_estimate, linear_body}
 use Rattle.col_model.proofs.CodecLaws.{linear_line-writable, linear_offsets-fit}
-use Rattle.col_codecs.proofs.LineLemmas.{vint_bytes-bound}
+use Rattle.col_model.proofs.WidthLaws.{width-most}
+use Rattle.col_model.proofs.BlockLaws.{vint_bytes-most}
 
 -- statistics take few bytes
 pub stats_bytes-bound : (s : Stats) → length (stats_bytes s) ≤ 76
@@ -24,18 +24,11 @@ stats_bytes-bound s =
       length-append a (b ++ (c ++ d)),
       length-append b (c ++ d),
       length-append c d,
-      vint_bytes-bound s.least,
-      vint_bytes-bound s.divisor,
-      vint_bytes-bound (steps_of s),
-      vint_bytes-bound s.count,
+      vint_bytes-most s.least,
+      vint_bytes-most s.divisor,
+      vint_bytes-most (steps_of s),
+      vint_bytes-most s.count,
     )
-
--- a width that a file may name
-width-most : (w : ℕ) → is_width w ≡ true → w ≤ 64
-width-most w e = elim (or_cases (nat_le w 56) (w == 64) e) [
-  | inl t ↦ omega (arith, leb-true w 56 t)
-  | inr t ↦ omega (arith, eqb-true w 64 t)
-]
 
 -- the line of a list has a width of at most 64
 pub linear_width : (l : LineAndWidth) (xs : List ℕ) → l ≡ linear_line xs → l.offset_width ≤ 64

@@ -1,5 +1,5 @@
 -- Lookups on packed steps.
-use Rattle.std.proofs.Common.{◌≡◌, ℕ, ◌+◌, ◌-◌, ◌*◌, ◌/◌, ◌<◌, ◌≤◌, ◌&&◌, ◌^◌, true, List, [], ◌∷◌, length, map, filter, min, slice_get, get_or, Some, Result, Ok, Err, refl, sym, ◌∙◌, ap, ap₂, subst, inl, inr, arith}
+use Rattle.std.proofs.Common.{◌≡◌, ℕ, ◌+◌, ◌-◌, ◌*◌, ◌/◌, ◌<◌, ◌≤◌, ◌&&◌, ◌^◌, true, List, [], ◌∷◌, length, map, filter, min, slice_get, get_or, Some, Result, Ok, Err, refl, sym, ◌∙◌, ap, ap₂, inl, inr, arith}
 use Rattle.std.specs.Prelude.{nat_le}
 use Rattle.std.specs.Int.{is_in_range, div_ceil}
 use Rattle.std.specs.List.{AllByRecursion, range_with_len}

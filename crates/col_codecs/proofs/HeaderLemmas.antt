@@ -4,19 +4,9 @@ use Rattle.std.proofs.lemmas.Option.{same_Some}
 use Rattle.col_common.specs.Reading.{IsBytes, only_if}
 use Rattle.col_model.specs.Stats.{Stats, stats_at, stats_bytes}
 use Rattle.col_model.specs.U64List.{values64}
-use Rattle.col_model.proofs.ReadingLaws.{drop-front}
 use Rattle.col_model.proofs.OneFormLaws.{stats_bytes-stats_at}
+use Rattle.std.proofs.Math.Seq.{drop-append_seam}
 use Rattle.col_codecs.specs.Header.{list_by}
-
--- a test and a value that were found, or weren't
-pub only_if-some : {A : Type 0} (b : Bool) (x y : A) → Some y ≡ only_if b x → (b ≡ true) × (y ≡ x)
-only_if-some true x y e = (refl, same_Some y x e)
-only_if-some false x y e = absurd (cc)
-
--- a value that isn't given under a test says that the test fails
-pub only_if-none : {A : Type 0} (b : Bool) (x : A) → None ≡ only_if b x → b ≡ false
-only_if-none true x e = absurd (cc)
-only_if-none false x e = refl
 
 -- what stands behind the statistics ends with the bytes
 pub stats_at-behind : (bytes rest : List ℕ) (s : Stats) → IsBytes bytes → stats_at bytes ≡ Some (s, rest)
@@ -25,7 +15,7 @@ stats_at-behind bytes rest s b e =
     let spelled = (stats_bytes-stats_at bytes s rest b e).0 in
     let long : length bytes ≡ length (stats_bytes s) + length rest = ap length spelled ∙ length-append (stats_bytes s) rest in
     let start : length bytes - length rest ≡ length (stats_bytes s) = omega (arith, long) in
-    (omega (arith, long), ap (λ n. drop n bytes) start ∙ ap (drop (length (stats_bytes s))) spelled ∙ drop-front (stats_bytes s) rest)
+    (omega (arith, long), ap (λ n. drop n bytes) start ∙ ap (drop (length (stats_bytes s))) spelled ∙ drop-append_seam (stats_bytes s) rest)
 
 -- a list by its statistics, and what is behind them
 pub values64-some : (codec : ℕ) (bytes : List ℕ) (s : Stats) (rest : List ℕ) → stats_at bytes ≡ Some (s, rest)

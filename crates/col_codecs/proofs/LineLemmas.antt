@@ -1,5 +1,5 @@
 -- Lines: their values, their bytes, and their training in one pass.
-use Rattle.std.proofs.Common.{◌≡◌, ◌≢◌, ℕ, zero, suc, ◌+◌, ◌-◌, ◌/◌, ◌%◌, ◌^◌, ◌<◌, ◌≤◌, inl, inr, min, List, [], ◌∷◌, ◌++◌, map, fold, length, drop, get_or, slice_get, Some, refl, sym, ap, ◌∙◌, arith, append_assoc, w32, w64, ℤ, to_z, of_z}
+use Rattle.std.proofs.Common.{◌≡◌, ◌≢◌, ℕ, ◌+◌, ◌-◌, ◌%◌, ◌^◌, ◌<◌, ◌≤◌, inl, inr, min, List, [], ◌∷◌, ◌++◌, map, fold, length, drop, get_or, slice_get, Some, refl, sym, ap, ◌∙◌, arith, append_assoc, w32, w64, ℤ, to_z, of_z}
 use Rattle.std.specs.List.{enumerate_from}
 use Rattle.std.proofs.lemmas.Int.{of_z-to_z}
 use Rattle.std.proofs.lemmas.Option.{get_or_from_slice_get}
@@ -35,10 +35,6 @@ extended_by_casts h r a b p e f g =
     g ∙ ap (λ n. of_z w64 (to_z w64 n)) wide ∙ of_z-to_z w64 (signed_32 h) k.1
 
 -- ---- bytes
-
--- a number takes few bytes
-pub vint_bytes-bound : (n : ℕ) → length (vint_bytes n) ≤ 19
-vint_bytes-bound n = length-group_bytes 19 n
 
 -- slope and intercept are read back, whatever follows
 pub line_at-bytes : (slope intercept : ℕ) (rest : List ℕ) → slope < 2 ^ 64 → intercept < 2 ^ 64

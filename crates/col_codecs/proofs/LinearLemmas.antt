@@ -9,6 +9,7 @@ use Rattle.col_model.specs.U64List.{LinearParams as LineAndWidth}
 use Rattle.col_model.specs.Codecs.{block_size, half_space, deviation, deviations, linear_line}
 use Rattle.col_bits.specs.Packed.{width}
 use Rattle.col_model.proofs.StatsLaws.{least_of-all, fold-max}
+use Rattle.col_model.proofs.U64ListLaws.{least_le-greatest}
 use Rattle.col_codecs.proofs.TurningLemmas.{by_position-append}
 use Rattle.col_codecs.specs.Line.{line_seen}
 use Rattle.col_codecs.specs.Linear.{first_line, IsTrained, IsCollected, IsFinalized}
@@ -121,16 +122,12 @@ collected-full e f xs items x h full is b n t =
       trained = λ more. subst (λ ys. IsTrained f ys) whole t;
     }
 
-bounds-ordered : (ds : List ℕ) → least_of ds ≤ greatest_of ds
-bounds-ordered [] = omega arith
-bounds-ordered (d ∷ ds) = omega (arith, (least_of-all (d ∷ ds)).0, (fold-max 0 (d ∷ ds)).1.0)
-
 -- the bounds stand in their order
 pub collected-ordered : (e : LinearCodecEstimator) (xs : List ℕ) → IsCollected e xs → block_size ≤ e.row_id
     → e.min_deviation ≤ e.max_deviation
 collected-ordered e xs h enough =
     let t = h.trained (omega (arith, h.count, enough)) in
-    omega (arith, t.lowest, t.highest, bounds-ordered (deviations (first_line xs) xs))
+    omega (arith, t.lowest, t.highest, least_le-greatest (deviations (first_line xs) xs))
 
 same_slope : (a b c d w v : ℕ) → a ≡ b → c ≡ d → w ≡ v
     → let left : LineAndWidth = record { slope = a; intercept = c; offset_width = w } in let right : LineAndWidth =

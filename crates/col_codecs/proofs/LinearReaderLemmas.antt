@@ -13,9 +13,9 @@ use Rattle.col_model.specs.Stats.{Stats, stats_of, same_stats}
 use Rattle.col_model.specs.Line.{line_at}
 use Rattle.col_model.specs.U64List.{LinearParams as LineAndWidth, width_at, params_at}
 use Rattle.col_model.specs.Items.{linear_item, linear_items}
-use Rattle.col_model.proofs.ReadingLaws.{drop-front}
 use Rattle.col_model.proofs.OneFormLaws.{IsBytes-behind, same_stats-equal}
 use Rattle.col_model.proofs.ItemLaws.{linear_values-some, linear_values-none, length-linear_items, linear_items-at}
+use Rattle.std.proofs.Math.Seq.{drop-append_seam}
 use Rattle.col_codecs.specs.Header.{list_by}
 use Rattle.col_codecs.proofs.ListLemmas.{range-part}
 
@@ -78,7 +78,7 @@ params_at-behind bytes rest l b e =
     let f = params_at-front bytes rest l b e in
     let long : length bytes ≡ length f.0 + length rest = ap length f.1 ∙ length-append f.0 rest in
     let start : length bytes - length rest ≡ length f.0 = omega (arith, long) in
-    (omega (arith, long), ap (λ n. drop n bytes) start ∙ ap (drop (length f.0)) f.1 ∙ drop-front f.0 rest)
+    (omega (arith, long), ap (λ n. drop n bytes) start ∙ ap (drop (length f.0)) f.1 ∙ drop-append_seam f.0 rest)
 
 -- ---- the list behind statistics
 
@@ -91,18 +91,19 @@ list_by-no_line s bytes e = rw (linear_values-none s bytes e) refl
 abbrev pub is_list : Stats → LineAndWidth → List ℕ → Bool
 is_list s l rest = is_packed rest (s.count * l.offset_width) && same_stats (stats_of (linear_items l rest s.count)) s
 
+-- a list that passes a test, and then that of its statistics, passes both
+pub checked-both : (s : Stats) (b : Bool) (xs : List ℕ)
+    → (only_if b xs >>= λ ys. only_if (same_stats (stats_of ys) s) ys)
+    ≡ only_if (b && same_stats (stats_of xs) s) xs
+checked-both s true xs = refl
+checked-both s false xs = refl
+
 pub list_by-line : (s : Stats) (bytes rest : List ℕ) (l : LineAndWidth) → params_at bytes ≡ Some (l, rest)
     → list_by 1 s bytes ≡ only_if (is_list s l rest) (linear_items l rest s.count)
 unfolding list_by
 list_by-line s bytes rest l e =
     rw (linear_values-some s bytes l rest e)
-    (both (is_packed rest (s.count * l.offset_width)) (linear_items l rest s.count))
-  where
-    both : (b : Bool) (xs : List ℕ)
-        → (only_if b xs >>= λ ys. only_if (same_stats (stats_of ys) s) ys)
-        ≡ only_if (b && same_stats (stats_of xs) s) xs
-    both true xs = refl
-    both false xs = refl
+    (checked-both s (is_packed rest (s.count * l.offset_width)) (linear_items l rest s.count))
 
 -- the same by a cut of the bytes
 pub list_by-cut : (s : Stats) (bytes rest read : List ℕ) (l : LineAndWidth) → params_at bytes ≡ Some (l, rest)

@@ -1,11 +1,9 @@
 -- Statistics that a list may have.
-use Rattle.std.proofs.Common.{◌≡◌, ℕ, ◌+◌, ◌-◌, ◌*◌, ◌/◌, ◌^◌, ◌<◌, ◌≤◌, ◌==◌, ◌||◌, ◌&&◌, nat_le, nat_lt, inl, inr, List, [], ◌∷◌, ◌++◌, length, true, Option, Some, refl, ◌∙◌, ap, arith, subst, mul_comm, mul-div_cancel, mul-zero, div-le_self}
-use Rattle.std.specs.List.{AllByRecursion}
+use Rattle.std.proofs.Common.{◌≡◌, ℕ, ◌+◌, ◌-◌, ◌*◌, ◌/◌, ◌^◌, ◌<◌, ◌≤◌, ◌==◌, ◌||◌, ◌&&◌, nat_le, nat_lt, inl, inr, List, [], ◌∷◌, ◌++◌, length, true, Some, refl, ◌∙◌, ap, arith, subst, mul_comm, mul-div_cancel, mul-zero, div-le_self}
 use native.Mathlib.Nat.{mul-pos}
 use Rattle.std.proofs.lemmas.Bool.{and_parts, and_from, or_cases, or_left, or_right, leb-true, le-leb, eqb-true, eq-eqb, lt-ltb, cases_eq}
 use Rattle.std.proofs.lemmas.Option.{option_and_then_some, cond_some}
 use Rattle.col_common.specs.Ascending.{AreBelow}
-use Rattle.col_common.specs.Reading.{◌>>=◌, only_if}
 use Rattle.col_common.specs.VInt.{vint}
 use Rattle.col_model.specs.Stats.{Stats, stats_of, stats_at, stats_bytes, steps_of, are_possible, greatest_of}
 use Rattle.col_model.proofs.StatsLaws.{fold-max, all_by}

@@ -29,7 +29,7 @@ use crate::turning::{Turn, serialize_turned};
 use bytes::Bytes;
 use col_bits::{BitUnpacker, compute_num_bits, is_packed};
 use col_common::{BYTE_BITS, ColumnarError, Iterable, RowId, Sink, Steps, Walk};
-use col_values::ColumnValues;
+use col_values::{ColumnValues, Found, Rows};
 use std::alloc::{AllocError, Global};
 use std::marker::{Brand, Model};
 use std::ops::{Range, RangeInclusive};
@@ -106,7 +106,7 @@ impl BitpackedReader {
             bit_unpacker: self.bit_unpacker,
             bytes: self.data.as_slice(),
         };
-        let codes = CountedCodes::new(self.stats);
+        let codes = CountedCodes::<L>::new(self.stats);
         find_values(&items, &self.bounds, &codes, low, high, ids, hits, steps)
     }
 
@@ -148,41 +148,26 @@ impl ColumnValues<u64> for BitpackedReader {
         self.stats.max_value
     }
 
+    fn get_vals(&self, indexes: &[u32], output: &mut [u64]) {
+        let bytes = self.data.as_slice();
+        read_vals(&self.stats, self.bit_unpacker, bytes, indexes, output);
+    }
+
+    fn get_vals_opt(&self, indexes: &[u32], output: &mut [Option<u64>]) {
+        let bytes = self.data.as_slice();
+        find_vals(&self.stats, self.bit_unpacker, bytes, indexes, output);
+    }
+
     fn get_range(&self, start: u64, output: &mut [u64]) {
+        // That there are fewer than 2 ^ 32 values is known of the count.
         let _count = self.stats.num_rows;
         self.bit_unpacker
             .get_range(start as u32, self.data.as_slice(), output);
         take_values(&self.stats, output);
     }
 
-    fn get_vals(&self, indexes: &[u32], output: &mut [u64]) {
-        read_vals(
-            &self.stats,
-            self.bit_unpacker,
-            self.data.as_slice(),
-            indexes,
-            output,
-        );
-    }
-
-    fn get_vals_opt(&self, indexes: &[u32], output: &mut [Option<u64>]) {
-        find_vals(
-            &self.stats,
-            self.bit_unpacker,
-            self.data.as_slice(),
-            indexes,
-            output,
-        );
-    }
-
-    fn get_row_ids_between(
-        &self,
-        low: u64,
-        high: u64,
-        row_ids: Range<RowId>,
-        hits: &mut Vec<RowId>,
-    ) -> Result<(), ColumnarError> {
-        find_row_ids::<Brand>(self, low..=high, row_ids, hits, Blank::new(1))
+    fn get_row_ids_between(&self, low: u64, high: u64, rows: Rows, hits: &mut Vec<RowId>) -> Found {
+        find_row_ids::<Brand>(self, low..=high, rows, hits, Blank::new(1))
     }
 }
 
@@ -348,6 +333,7 @@ impl ColumnCodecEstimator for BitpackedCodecEstimator {
         vals: &I,
         sink: &mut K,
     ) -> Result<(), ColumnarError> {
+        // That the greatest value has 64 bits is known where it is read.
         let _greatest = stats.max_value;
         stats.serialize(sink)?;
         let num_bits = compute_num_bits(stats.steps());

@@ -18,7 +18,8 @@ pub fn take_stats(bytes: Bytes) -> Option<(ColumnStats, Bytes)>
 
 // The statistics at the front, and how many bytes are behind them.
 fn read_stats(bytes: &[u8]) -> Option<(ColumnStats, usize)>
-    ensures value { option_map (λ r. (stats_seen r.0, drop (length bytes.now - r.1) bytes.now)) result
+    ensures value { option_map
+        (λ r. (stats_seen r.0, drop (length bytes.now - r.1) bytes.now)) result
         ≡ stats_at bytes.now }
     ensures within { IfSome result (λ r. r.1 ≤ length bytes.now) }
     ensures possible { IfSome result (λ r. IsPossible (stats_seen r.0)) }

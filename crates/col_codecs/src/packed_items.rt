@@ -53,11 +53,11 @@ impl BoundedItems for PackedItems<'_> {
 }
 
 /// Puts there which of the ids have a value from `low` to `high`. Only `codes` turns values into
-/// codes or codes into values, and each turn is a step.
+/// codes, and each turn is a step of `steps`: no other ledger is its own.
 pub fn find_values<L: Ledger>(
     items: &PackedItems<'_>,
     bounds: &[Bounds],
-    codes: &CountedCodes,
+    codes: &CountedCodes<L>,
     low: u64,
     high: u64,
     ids: Range<u32>,

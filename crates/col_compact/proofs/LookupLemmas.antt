@@ -83,15 +83,22 @@ items_at bytes w n i h =
     slice_get-get_or (items bytes w 0 n) i 0 (rw (length_items bytes w n) h)
     ∙ ap Some (get_or-map-range_with_len (item bytes w) 0 n i i 0 h (omega arith))
 
+-- what a reader reads are codes of its ranges
+codes_read : (f : AddressFooter) (bytes : List ℕ) → IsReader f bytes
+    → list_all (is_in_range 1 (code_count f.ranges)) (items bytes f.code_width 0 f.count) ≡ true
+codes_read f bytes reader =
+    let codes = items bytes f.code_width 0 f.count in
+    (and_parts (list_all (is_in_range 1 (code_count f.ranges)) codes)
+    (least_of (map (coded_number f.ranges) codes) == f.least) (and_parts (
+    list_all (is_in_range 1 (code_count f.ranges)) codes
+    && (least_of (map (coded_number f.ranges) codes) == f.least))
+    (greatest_of (map (coded_number f.ranges) codes) == f.greatest) reader.coded).0).0
+
 in_reader : (f : AddressFooter) (bytes : List ℕ) (idx : ℕ) → IsReader f bytes → idx < f.count
     → IsReadAt (coded_in f bytes) idx (item bytes f.code_width idx)
 in_reader f bytes idx reader h =
     let codes = items bytes f.code_width 0 f.count in
-    let each = (and_parts (list_all (is_in_range 1 (code_count f.ranges)) codes)
-    (least_of (map (coded_number f.ranges) codes) == f.least) (and_parts (
-    list_all (is_in_range 1 (code_count f.ranges)) codes
-    && (least_of (map (coded_number f.ranges) codes) == f.least))
-    (greatest_of (map (coded_number f.ranges) codes) == f.greatest) reader.coded).0).0 in
+    let each = codes_read f bytes reader in
     let here = All-get_or (λ x. (1 ≤ x) × (x ≤ code_count f.ranges)) codes idx 0
     (rw (length_items bytes f.code_width f.count) h) (All-from_recursion
     (λ x. (1 ≤ x) × (x ≤ code_count f.ranges)) codes (all_codes (code_count f.ranges) codes each)) in
@@ -175,17 +182,11 @@ found-by-numbers rs codes first last low high from to all tells =
     in_between first last x ∙ sym (tells x within.0 within.1) ∙ sym (in_between low high (g x)))
     ∙ ap (λ n. hits (is_between number_cmp low high) (map g codes) from (span n from to)) long
 
--- what a reader reads are codes of its ranges
+-- the same of the list that a contract sees
 pub all-coded : (f : AddressFooter) (bytes : List ℕ) (d : Coded) → coded_in f bytes ≡ d → IsReader f bytes
     → list_all (is_in_range 1 (code_count d.ranges)) d.codes ≡ true
 all-coded f bytes d view reader =
-    let codes = items bytes f.code_width 0 f.count in
-    let each = (and_parts (list_all (is_in_range 1 (code_count f.ranges)) codes)
-    (least_of (map (coded_number f.ranges) codes) == f.least) (and_parts (
-    list_all (is_in_range 1 (code_count f.ranges)) codes
-    && (least_of (map (coded_number f.ranges) codes) == f.least))
-    (greatest_of (map (coded_number f.ranges) codes) == f.greatest) reader.coded).0).0 in
-    subst (λ (x : Coded). list_all (is_in_range 1 (code_count x.ranges)) x.codes ≡ true) view each
+    subst (λ (x : Coded). list_all (is_in_range 1 (code_count x.ranges)) x.codes ≡ true) view (codes_read f bytes reader)
 
 -- ---- counts and bounds
 

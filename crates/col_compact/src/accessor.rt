@@ -10,10 +10,9 @@ use crate::compact_space::CompactHit;
 use crate::decompressor::CompactSpaceDecompressor;
 use bytes::Bytes;
 use col_common::{ColumnarError, Iterable, RowId, Walk};
-use col_values::ColumnValues;
+use col_values::{ColumnValues, Found, Rows};
 use std::alloc::Global;
 use std::marker::Model;
-use std::ops::Range;
 
 /// A list of numbers, seen as its codes.
 #[derive(Drop)]
@@ -89,14 +88,8 @@ impl ColumnValues<u64> for CompactSpaceU64Accessor {
         u64::from(greatest)
     }
 
-    fn get_row_ids_between(
-        &self,
-        low: u64,
-        high: u64,
-        row_ids: Range<RowId>,
-        hits: &mut Vec<RowId>,
-    ) -> Result<(), ColumnarError> {
-        self.list.get_row_ids_by_codes(low..=high, row_ids, hits)
+    fn get_row_ids_between(&self, low: u64, high: u64, rows: Rows, hits: &mut Vec<RowId>) -> Found {
+        self.list.get_row_ids_by_codes(low..=high, rows, hits)
     }
 }
 

@@ -16,6 +16,7 @@ use col_bits::{BitUnpacker, compute_num_bits};
 use col_common::{ColumnarError, read_vint_u128};
 use std::alloc::Global;
 use std::marker::Model;
+use std::sync::ledger::Ledger;
 
 // The bytes of the flags, which are all 0.
 const FLAGS_NUM_BYTES: usize = 8;
@@ -94,6 +95,7 @@ impl IPCodecParams {
             (least_of codes ≡ 1) × (greatest_of codes ≡ code_count self.now.ranges) }
     {
         self.compact_space.codes_end_as_ranges_do();
+        // That codes have the width of their count, and that it has 32 bits, is known of both.
         let _width = &self.bit_unpacker;
         let _count = self.compact_space.amplitude_compact_space();
     }
@@ -109,7 +111,7 @@ impl IPCodecParams {
     }
 
     // The codes of the ranges, each turn of which is a step.
-    pub(crate) fn counted_codes(&self) -> CountedCodes<'_>
+    pub(crate) fn counted_codes<L: Ledger>(&self) -> CountedCodes<'_, L>
         ensures { result ≡ self.now.ranges }
     {
         CountedCodes::new(&self.compact_space)

@@ -131,6 +131,7 @@ impl CompactSpace {
             && (greatest_of (map (coded_number self.now) codes) == last_end self.now)) ≡ true →
             (least_of codes ≡ 1) × (greatest_of codes ≡ code_count self.now) }
     {
+        // That the ranges stand apart, in order, is known of a space.
         let _ranges = &self.ranges_mapping;
     }
 
@@ -143,6 +144,7 @@ impl CompactSpace {
             && (least_of (map (coded_number self.now) codes) == first_start self.now)
             && (greatest_of (map (coded_number self.now) codes) == last_end self.now)) }
     {
+        // That the ranges stand apart, in order, is known of a space.
         let _ranges = &self.ranges_mapping;
         let last = u64::from(self.amplitude_compact_space());
         is_same_pair(least, greatest, 1, last)

@@ -6,17 +6,18 @@ ghost use Rattle.col_model.specs.AddressList.{code_count, coded_number};
 
 use crate::compact_space::CompactSpace;
 use col_common::Steps;
-use std::marker::Model;
+use std::marker::{Model, PhantomData};
 use std::ops::RangeInclusive;
 use std::sync::ledger::Ledger;
 
-/// The codes of ranges. They are seen through calls that take steps alone.
+/// The codes of ranges. They are seen through calls that take steps alone, all of one ledger.
 #[derive(Drop)]
-pub(crate) struct CountedCodes<'a> {
+pub(crate) struct CountedCodes<'a, L: Ledger> {
     space: &'a CompactSpace,
+    ledger: PhantomData<L>,
 }
 
-impl<'a> Model for CountedCodes<'a> {
+impl<'a, L: Ledger> Model for CountedCodes<'a, L> {
     ghost use Rattle.std.specs.Prelude.{List, ℕ};
 
     ghost Value = { List (ℕ × ℕ) };
@@ -24,16 +25,19 @@ impl<'a> Model for CountedCodes<'a> {
     ghost view = { λ c. c.space.now };
 }
 
-impl<'a> CountedCodes<'a> {
+impl<'a, L: Ledger> CountedCodes<'a, L> {
     /// The codes of a space.
-    pub(crate) fn new(space: &'a CompactSpace) -> CountedCodes<'a>
+    pub(crate) fn new(space: &'a CompactSpace) -> CountedCodes<'a, L>
         ensures { result ≡ space.now }
     {
-        CountedCodes { space }
+        CountedCodes {
+            space,
+            ledger: PhantomData,
+        }
     }
 
     /// The first and the last code of the numbers from `low` to `high`: a step for each end.
-    pub(crate) fn codes_between<L: Ledger>(
+    pub(crate) fn codes_between(
         &self,
         low: u128,
         high: u128,
@@ -52,7 +56,7 @@ impl<'a> CountedCodes<'a> {
     }
 
     /// The number that a code stands for, if it is one of the ranges': a step.
-    pub(crate) fn number_of<L: Ledger>(&self, code: u64, steps: &mut Steps<L>) -> Option<u128>
+    pub(crate) fn number_of(&self, code: u64, steps: &mut Steps<L>) -> Option<u128>
         ensures value { 1 ≤ code → code ≤ code_count self.now →
             result ≡ Some (coded_number self.now code) }
         ensures steps { steps.new ≡ steps.old + 1 }

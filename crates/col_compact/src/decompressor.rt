@@ -19,7 +19,7 @@ use crate::compact_space::CompactHit;
 use crate::packed_codes::{PackedCodes, find_numbers};
 use bytes::Bytes;
 use col_common::{ColumnarError, Iterable, RowId, Steps, Walk};
-use col_values::ColumnValues;
+use col_values::{ColumnValues, Found, Rows};
 use std::alloc::Global;
 use std::marker::{Brand, Model};
 use std::ops::{Range, RangeInclusive};
@@ -149,7 +149,7 @@ impl CompactSpaceDecompressor {
         ensures steps { steps.new ≤ steps.old + 2 }
     {
         let (low, high) = value_range.into_inner();
-        let codes = self.params.counted_codes();
+        let codes = self.params.counted_codes::<L>();
         find_numbers(
             &self.packed_codes(),
             &codes,
@@ -237,10 +237,10 @@ impl ColumnValues<u128> for CompactSpaceDecompressor {
         &self,
         low: u128,
         high: u128,
-        row_ids: Range<RowId>,
+        rows: Rows,
         hits: &mut Vec<RowId>,
-    ) -> Result<(), ColumnarError> {
-        find_row_ids::<Brand>(self, low..=high, row_ids, hits, Blank::new(1))
+    ) -> Found {
+        find_row_ids::<Brand>(self, low..=high, rows, hits, Blank::new(1))
     }
 }
 

@@ -93,29 +93,6 @@ pub(crate) fn serialize_footer<K: Sink>(
     })) }
 {
     serialize_bytes(sink, &[0; FLAGS_LEN])?;
-    serialize_bounds(
-        compact_space,
-        min_value,
-        max_value,
-        num_vals,
-        num_bits,
-        sink,
-    )
-}
-
-// What follows the bytes that are 0.
-fn serialize_bounds<K: Sink>(
-    compact_space: &CompactSpace,
-    min_value: u128,
-    max_value: u128,
-    num_vals: u32,
-    num_bits: u8,
-    sink: &mut K,
-) -> Result<(), ColumnarError>
-    ensures { Serializes (K.seen sink.old) (K.seen sink.new) result
-        (vint_bytes min_value ++ (vint_bytes max_value ++ (vint_bytes num_vals
-        ++ (num_bits ∷ ranges_bytes compact_space.now)))) }
-{
     serialize_pair(min_value, max_value, sink)?;
     serialize_counts(compact_space, num_vals, num_bits, sink)
 }

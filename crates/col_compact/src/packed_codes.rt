@@ -13,6 +13,7 @@ ghost use Rattle.col_values.specs.Values.{hits_between};
 use crate::counted_codes::CountedCodes;
 use col_bits::BitUnpacker;
 use col_common::{ColumnarError, RowId, Steps};
+use col_values::{Found, Rows};
 use std::marker::Model;
 use std::ops::{Range, RangeInclusive};
 use std::sync::ledger::Ledger;
@@ -47,18 +48,13 @@ impl<'a> PackedCodes<'a> {
     }
 
     /// The positions in a range whose codes are from the first to the last, ascending.
-    pub(crate) fn find(
-        &self,
-        codes: RangeInclusive<u64>,
-        row_ids: Range<RowId>,
-        hits: &mut Vec<RowId>,
-    ) -> Result<(), ColumnarError>
+    pub fn find(&self, codes: RangeInclusive<u64>, rows: Rows, hits: &mut Vec<RowId>) -> Found
         ensures ok { Replaces result hits.new.items
             (hits_between number_cmp self.now (range_inclusive_start codes)
-            (range_inclusive_end codes) row_ids.start row_ids.end) }
+            (range_inclusive_end codes) rows.start rows.end) }
         ensures rises { is_rising hits.new.items ≡ true }
     {
-        let ids = row_ids.start..row_ids.end.min(self.count);
+        let ids = rows.start..rows.end.min(self.count);
         let found = self
             .bit_unpacker
             .get_ids_for_value_range(codes, ids, self.bytes, hits);
@@ -70,10 +66,11 @@ impl<'a> PackedCodes<'a> {
 }
 
 /// The positions in a range whose numbers are from `low` to `high`, ascending. Only `codes` turns
-/// numbers into codes or codes into numbers, and each turn is a step.
+/// numbers into codes or codes into numbers, and each turn is a step of `steps`: no other ledger is
+/// its own.
 pub(crate) fn find_numbers<L: Ledger>(
     packed: &PackedCodes<'_>,
-    codes: &CountedCodes<'_>,
+    codes: &CountedCodes<'_, L>,
     low: u128,
     high: u128,
     row_ids: Range<RowId>,

@@ -40,15 +40,11 @@ impl<'a, T: MonotonicallyMappableToU128, I: Iterable<T>> Iterable<u128> for Numb
 }
 
 /// Writes a list of values by the codes of their numbers.
-pub fn serialize_column_values_u128<T, I, K>(
+pub fn serialize_column_values_u128<T: MonotonicallyMappableToU128, I: Iterable<T>, K: Sink>(
     alloc: Global,
     vals: &I,
     sink: &mut K,
 ) -> Result<(), ColumnarError>
-where
-    T: MonotonicallyMappableToU128,
-    I: Iterable<T>,
-    K: Sink,
     ensures ok { least_codes (map T.code (I.items vals.now)) < 2 ^ 32 →
         length (I.items vals.now) < 2 ^ 32 →
         SerializesList (K.seen sink.old) (K.seen sink.new) result (map T.code (I.items vals.now)) }

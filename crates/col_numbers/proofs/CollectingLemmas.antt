@@ -1,6 +1,5 @@
 -- A list that is collected by a walk.
 use Rattle.std.proofs.Common.{◌≡◌, ℕ, ◌+◌, ◌-◌, ◌<◌, ◌≤◌, ◌^◌, List, [], ◌∷◌, ◌++◌, length, sym, ◌∙◌, ap, arith, append_assoc, append-nil, length-append, subst}
-use Rattle.std.specs.List.{AllByRecursion}
 use Rattle.col_common.specs.Ascending.{AreBelow}
 use Rattle.col_model.specs.Stats.{stats_of}
 use Rattle.col_model.proofs.StatsLaws.{all_by, fold-max}

@@ -1,14 +1,15 @@
 -- Values at positions of a list of numbers, seen a block at a time.
-use Rattle.std.proofs.Common.{◌≡◌, ℕ, ◌+◌, ◌-◌, ◌<◌, ◌≤◌, List, [], ◌∷◌, ◌++◌, map, length, take, drop, get_or, slice_get, Option, Some, None, refl, sym, ◌∙◌, ap, subst, arith}
+use Rattle.std.proofs.Common.{◌≡◌, ℕ, ◌+◌, ◌-◌, ◌<◌, ◌≤◌, min, List, [], ◌∷◌, ◌++◌, map, length, take, drop, get_or, slice_get, Option, Some, None, refl, sym, ◌∙◌, ap, subst, arith}
 use Rattle.std.specs.Prelude.{option_map}
 use Rattle.std.specs.List.{All, AllByRecursion}
-use Rattle.std.proofs.lemmas.List.{take_at, map-append}
+use Rattle.std.proofs.lemmas.List.{take_at, map-append, length-take-le, length-drop}
 use Rattle.std.proofs.lemmas.List.Elements.{All-get_or, All-from_recursion}
 use Rattle.std.proofs.lemmas.Option.{get_or_from_slice_get, slice_get-map, slice_get_within}
 use Rattle.std.proofs.lemmas.Slice.{take-put_mid}
 use Rattle.std.proofs.Math.Seq.{take-add}
 use borrow.Rule.Slice.PartMut.{put_mid}
 use Rattle.col_model.proofs.StatsLaws.{map-map}
+use Rattle.col_values.proofs.PartLemmas.{room_kept}
 
 -- ---- what holds of all values holds of those that were found
 
@@ -61,6 +62,39 @@ seen_block f values at m part read rest long mapped is =
     found_block f values at m (map Some part) read rest long (ap (map Some) mapped ∙ map-map f Some (take m (read ++ rest))) is
 
 -- ---- a block more
+
+-- a front of an output is written: the output is as long as before, and a block has room
+abbrev pub IsFilled : {X Y : Type 0} → List X → List X → List Y → ℕ → Type 0 → Type 0
+IsFilled old output block done Filled = record {
+  room : length output ≡ length old;
+  block : 0 < length block;
+  within : done ≤ length output;
+  filled : Filled;
+}
+
+-- a block that is read and its part of the output are as long as was asked
+pub record FitsBlock {X Y : Type 0} (done len : ℕ) (output part : List Y) (read : List X) : Type 0 where
+  pub room : done + len ≤ length output
+  pub read_long : length read ≡ len
+  pub long : length part ≡ len
+  pub kept : length (put_mid done (done + len - done) output part) ≡ length output
+
+pub block_fits : {X Y : Type 0} (done len : ℕ) (output part : List Y) (block read : List X)
+    → len ≡ min (length output - done) (length block) → done ≤ length output
+    → length read ≡ length (take len block)
+    → length part ≡ length (take (done + len - done) (drop done output)) → FitsBlock done len output part read
+block_fits done len output part block read least within is_read is_part =
+    let room : done + len ≤ length output = omega (arith, least) in
+    let long : length part ≡ len =
+    is_part
+    ∙ length-take-le (done + len - done) (drop done output) (omega (arith, room, length-drop done output))
+    ∙ omega arith in
+    record {
+      room = room;
+      read_long = is_read ∙ length-take-le len block (omega (arith, least));
+      long = long;
+      kept = room_kept done len output part room long;
+    }
 
 behind : {Y : Type 0} (g : ℕ → Option Y) (indexes : List ℕ) (done m k : ℕ) (front part : List (Option Y)) → k ≡ m
     → front ≡ map g (take done indexes) → part ≡ map g (take k (drop done indexes))

@@ -1,11 +1,13 @@
 -- What is written of a list, and why none is.
-use Rattle.std.specs.Prelude.{◌≡◌, ◌^◌, ℕ, List, [], ◌∷◌, length, nat_le, Option, Some, None, Result, Ok, Err, MatchOption, if◌then◌else◌}
+use Rattle.std.specs.Prelude.{◌≡◌, ◌^◌, ℕ, List, [], ◌∷◌, length, map, nat_le, Option, Some, None, Result, Ok, Err, MatchOption, if◌then◌else◌}
 use Rattle.col_common.specs.Outside.{SeenSink, Appends}
 use Rattle.col_common.specs.declared.error.ColumnarError.{ColumnarError}
 use Rattle.col_common.specs.declared.error.ColumnarError.TheVariants.{NoCodec, TooLarge}
 use Rattle.col_model.specs.U64List.{values64}
 use Rattle.col_model.specs.Codecs.{chosen_codec, estimate}
 use Rattle.col_numbers.specs.declared.serialize.Candidate.{Candidate}
+use Rattle.col_numbers.specs.declared.codec_type.CodecType.{CodecType}
+use Rattle.col_numbers.specs.CodecTypes.{code_of}
 use Rattle.col_numbers.specs.Estimators.{estimator_code, HasFinalized}
 
 -- bytes were added that stand for the list
@@ -21,6 +23,10 @@ done (Err e) = Err e
 abbrev pub no_codec_of : Option ℕ → Option ColumnarError
 no_codec_of None = Some NoCodec
 no_codec_of (Some codec) = None
+
+-- the codec that is chosen of those that are offered
+abbrev pub chosen_of : List ℕ → List CodecType → Option ℕ
+chosen_of xs offered = chosen_codec xs (map code_of offered)
 
 -- The refusal of a list, before its first byte: no codec is offered; more than 2 ^ 32 - 1 values;
 -- no codec applies.

@@ -15,10 +15,10 @@ use bytes::Bytes;
 use col_codecs::{BitpackedCodec, BlockwiseLinearCodec, ColumnCodec, LinearCodec};
 use col_common::{ColumnarError, Iterable, RowId, Walk};
 use col_values::{
-    ColumnValues, EmptyColumnValues, MonotonicallyMappableToU64, StrictlyMonotonicMappingToInternal,
+    ColumnValues, EmptyColumnValues, Found, MonotonicallyMappableToU64, Rows,
+    StrictlyMonotonicMappingToInternal,
 };
 use std::alloc::Global;
-use std::ops::Range;
 
 /// Values of a type: those whose numbers are read, numbers of the other numerical type, or none.
 #[derive(Drop)]
@@ -113,17 +113,11 @@ impl<T: MonotonicallyMappableToU64 + Default> ColumnValues<T> for NumValues<T> {
         }
     }
 
-    fn get_row_ids_between(
-        &self,
-        low: T,
-        high: T,
-        row_ids: Range<RowId>,
-        hits: &mut Vec<RowId>,
-    ) -> Result<(), ColumnarError> {
+    fn get_row_ids_between(&self, low: T, high: T, rows: Rows, hits: &mut Vec<RowId>) -> Found {
         match self {
-            NumValues::Read(values) => values.get_row_ids_between(low, high, row_ids, hits),
-            NumValues::Coerced(values) => values.get_row_ids_between(low, high, row_ids, hits),
-            NumValues::Empty(values) => values.get_row_ids_between(low, high, row_ids, hits),
+            NumValues::Read(values) => values.get_row_ids_between(low, high, rows, hits),
+            NumValues::Coerced(values) => values.get_row_ids_between(low, high, rows, hits),
+            NumValues::Empty(values) => values.get_row_ids_between(low, high, rows, hits),
         }
     }
 }

@@ -7,10 +7,9 @@ ghost use Rattle.col_numbers.specs.Views.{is_seen, IsLeastOf, IsGreatestOf};
 ghost use Rattle.col_numbers.specs.Readers.{list_of};
 
 use crate::U64Values;
-use col_common::{ColumnarError, Iterable, RowId, Walk};
-use col_values::{ColumnValues, MonotonicallyMappableToU64, StrictlyMonotonicFn};
+use col_common::{Iterable, RowId, Walk};
+use col_values::{ColumnValues, Found, MonotonicallyMappableToU64, Rows, StrictlyMonotonicFn};
 use std::marker::{Model, PhantomData};
-use std::ops::Range;
 
 // So many numbers are read before they are seen as values.
 const BLOCK_LEN: usize = 512;
@@ -81,6 +80,7 @@ where
     pub fn values_are_in_type(&self)
         ensures { All (Passes T.in_type) self.now }
     {
+        // That its values are of the type is known of a view.
         let _mapping = &self.mapping;
     }
 }
@@ -149,13 +149,7 @@ where
         }
     }
 
-    fn get_row_ids_between(
-        &self,
-        low: T,
-        high: T,
-        row_ids: Range<RowId>,
-        hits: &mut Vec<RowId>,
-    ) -> Result<(), ColumnarError> {
+    fn get_row_ids_between(&self, low: T, high: T, rows: Rows, hits: &mut Vec<RowId>) -> Found {
         low.known();
         high.known();
         let Some(first) = self.mapping.at_least(low.to_u64()) else {
@@ -166,7 +160,7 @@ where
             hits.clear();
             return Ok(());
         };
-        self.values.get_row_ids_between(first, last, row_ids, hits)
+        self.values.get_row_ids_between(first, last, rows, hits)
     }
 }
 
@@ -183,10 +177,13 @@ where
 }
 
 // The values that the numbers from a position on are seen as, a block at a time.
-fn see_range<T, M>(values: &U64Values, mapping: &M, start: u64, block: &mut [u64], output: &mut [T])
-where
-    T: MonotonicallyMappableToU64,
-    M: StrictlyMonotonicFn<u64, u64>,
+fn see_range<T: MonotonicallyMappableToU64, M: StrictlyMonotonicFn<u64, u64>>(
+    values: &U64Values,
+    mapping: &M,
+    start: u64,
+    block: &mut [u64],
+    output: &mut [T],
+)
     requires seen { All (Passes (is_seen (M.is_in mapping.now) (M.there mapping.now) T.is_code))
         (list_of values.now) }
     requires within { start + length output.old ≤ length (list_of values.now) }
@@ -206,16 +203,13 @@ where
 }
 
 // The values that the numbers at positions are seen as, a block at a time.
-fn see_vals<T, M>(
+fn see_vals<T: MonotonicallyMappableToU64, M: StrictlyMonotonicFn<u64, u64>>(
     values: &U64Values,
     mapping: &M,
     indexes: &[u32],
     block: &mut [u64],
     output: &mut [T],
 )
-where
-    T: MonotonicallyMappableToU64,
-    M: StrictlyMonotonicFn<u64, u64>,
     requires seen { All (Passes (is_seen (M.is_in mapping.now) (M.there mapping.now) T.is_code))
         (list_of values.now) }
     requires below { AreBelow (length (list_of values.now)) indexes.now }
@@ -234,16 +228,13 @@ where
 }
 
 // The same, each found.
-fn find_vals<T, M>(
+fn find_vals<T: MonotonicallyMappableToU64, M: StrictlyMonotonicFn<u64, u64>>(
     values: &U64Values,
     mapping: &M,
     indexes: &[u32],
     block: &mut [u64],
     output: &mut [Option<T>],
 )
-where
-    T: MonotonicallyMappableToU64,
-    M: StrictlyMonotonicFn<u64, u64>,
     requires seen { All (Passes (is_seen (M.is_in mapping.now) (M.there mapping.now) T.is_code))
         (list_of values.now) }
     requires below { AreBelow (length (list_of values.now)) indexes.now }
@@ -262,10 +253,11 @@ where
 }
 
 // The values that the numbers of a block are seen as.
-fn see_block<T, M>(mapping: &M, block: &[u64], output: &mut [T])
-where
-    T: MonotonicallyMappableToU64,
-    M: StrictlyMonotonicFn<u64, u64>,
+fn see_block<T: MonotonicallyMappableToU64, M: StrictlyMonotonicFn<u64, u64>>(
+    mapping: &M,
+    block: &[u64],
+    output: &mut [T],
+)
     requires seen { All (Passes (is_seen (M.is_in mapping.now) (M.there mapping.now) T.is_code))
         block.now }
     requires alike { length block.now ≡ length output.old }
@@ -277,10 +269,11 @@ where
 }
 
 // The same, each found.
-fn find_block<T, M>(mapping: &M, block: &[u64], output: &mut [Option<T>])
-where
-    T: MonotonicallyMappableToU64,
-    M: StrictlyMonotonicFn<u64, u64>,
+fn find_block<T: MonotonicallyMappableToU64, M: StrictlyMonotonicFn<u64, u64>>(
+    mapping: &M,
+    block: &[u64],
+    output: &mut [Option<T>],
+)
     requires seen { All (Passes (is_seen (M.is_in mapping.now) (M.there mapping.now) T.is_code))
         block.now }
     requires alike { length block.now ≡ length output.old }

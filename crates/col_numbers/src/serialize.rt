@@ -8,10 +8,10 @@ ghost use Rattle.col_numbers.specs.Readers.{list_of};
 ghost use Rattle.col_common.specs.Serializing.{Serializes, Stopped};
 ghost use Rattle.col_model.specs.Stats.{stats_of};
 ghost use Rattle.col_model.specs.U64List.{values64};
-ghost use Rattle.col_model.specs.Codecs.{chosen_codec, codec_bytes, estimate};
+ghost use Rattle.col_model.specs.Codecs.{codec_bytes, estimate};
 ghost use Rattle.col_codecs.specs.ColumnStats.{stats_seen};
 ghost use Rattle.col_numbers.specs.CodecTypes.{code_of};
-ghost use Rattle.col_numbers.specs.Written.{done, list_refusal, AppendsList, HasBest};
+ghost use Rattle.col_numbers.specs.Written.{done, chosen_of, list_refusal, AppendsList, HasBest};
 ghost use Rattle.col_numbers.specs.Estimators.{estimator_code, HasFinalized};
 ghost use Rattle.col_common.specs.declared.error.ColumnarError.TheVariants as refusals;
 
@@ -70,6 +70,7 @@ pub fn collect_stats<I: Iterable<u64>>(vals: &I) -> Option<ColumnStats>
         collector.collect(value);
     }
     let stats = collector.stats();
+    // That the greatest value has 64 bits is known where it is read.
     let _greatest = stats.max_value;
     Some(stats)
 }
@@ -131,21 +132,16 @@ fn choose<I: Iterable<u64>>(
 }
 
 /// Writes a list of values under the first of the offered codecs that has the least estimate.
-pub fn serialize_u64_based_column_values<T, I, K>(
+pub fn serialize_u64_based_column_values<T: MonotonicallyMappableToU64, I: Iterable<T>, K: Sink>(
     alloc: Global,
     vals: &I,
     codec_types: &[CodecType],
     sink: &mut K,
 ) -> Result<(), ColumnarError>
-where
-    T: MonotonicallyMappableToU64,
-    I: Iterable<T>,
-    K: Sink,
     // What is added stands for the list, and is its form under the codec that is chosen.
     ensures list { OnOk result
         (AppendsList (K.seen sink.old) (K.seen sink.new) (map T.code (I.items vals.now))) }
-    ensures ok { IfSome
-        (chosen_codec (map T.code (I.items vals.now)) (map code_of codec_types.now))
+    ensures ok { IfSome (chosen_of (map T.code (I.items vals.now)) codec_types.now)
         (λ codec. length (I.items vals.now) < 2 ^ 32 →
         Serializes (K.seen sink.old) (K.seen sink.new)
         result (codec_bytes codec (map T.code (I.items vals.now)))) }
@@ -161,25 +157,20 @@ where
 }
 
 /// Does the same, and tells the estimate.
-pub fn serialize_estimated_values<T, I, K>(
+pub fn serialize_estimated_values<T: MonotonicallyMappableToU64, I: Iterable<T>, K: Sink>(
     alloc: Global,
     vals: &I,
     codec_types: &[CodecType],
     sink: &mut K,
 ) -> Result<u64, ColumnarError>
-where
-    T: MonotonicallyMappableToU64,
-    I: Iterable<T>,
-    K: Sink,
     ensures list { OnOk result
         (AppendsList (K.seen sink.old) (K.seen sink.new) (map T.code (I.items vals.now))) }
-    ensures ok { IfSome
-        (chosen_codec (map T.code (I.items vals.now)) (map code_of codec_types.now))
+    ensures ok { IfSome (chosen_of (map T.code (I.items vals.now)) codec_types.now)
         (λ codec. length (I.items vals.now) < 2 ^ 32 →
         Serializes (K.seen sink.old) (K.seen sink.new)
         (done result) (codec_bytes codec (map T.code (I.items vals.now)))) }
     ensures estimate { IfOk result (λ n. IfSome
-        (chosen_codec (map T.code (I.items vals.now)) (map code_of codec_types.now))
+        (chosen_of (map T.code (I.items vals.now)) codec_types.now)
         (λ codec. estimate (map T.code (I.items vals.now)) codec ≡ Some n)) }
     ensures refused { IfSome
         (list_refusal (map T.code (I.items vals.now)) (map code_of codec_types.now))

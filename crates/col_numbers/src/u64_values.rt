@@ -4,10 +4,9 @@ ghost use Rattle.std.specs.Prelude.{IfOk};
 ghost use Rattle.col_model.specs.Stats.{least_of, greatest_of};
 
 use col_codecs::{BitpackedReader, BlockwiseLinearReader, LinearReader};
-use col_common::{ColumnarError, Iterable, RowId, Walk};
-use col_values::ColumnValues;
+use col_common::{Iterable, RowId, Walk};
+use col_values::{ColumnValues, Found, Rows};
 use std::alloc::{AllocError, Global};
-use std::ops::Range;
 
 /// A list of u64 under any codec, read in place.
 #[derive(Drop)]
@@ -55,7 +54,7 @@ fn pair_of<V: ColumnValues<u64>>(values: &V, idx: u32) -> (u64, u64)
     ensures first { slice_get (V.values values.now) idx ≡ Some result.0 }
     ensures second { slice_get (V.values values.now) (idx + 1) ≡ Some result.1 }
 {
-    // There are fewer numbers than 2 ^ 32.
+    // That there are fewer than 2 ^ 32 values is known of the count.
     let _count = values.num_vals();
     (values.get_val(idx), values.get_val(idx + 1))
 }
@@ -126,18 +125,12 @@ impl ColumnValues<u64> for U64Values {
         }
     }
 
-    fn get_row_ids_between(
-        &self,
-        low: u64,
-        high: u64,
-        row_ids: Range<RowId>,
-        hits: &mut Vec<RowId>,
-    ) -> Result<(), ColumnarError> {
+    fn get_row_ids_between(&self, low: u64, high: u64, rows: Rows, hits: &mut Vec<RowId>) -> Found {
         match self {
-            U64Values::Bitpacked(values) => values.get_row_ids_between(low, high, row_ids, hits),
-            U64Values::Linear(values) => values.get_row_ids_between(low, high, row_ids, hits),
+            U64Values::Bitpacked(values) => values.get_row_ids_between(low, high, rows, hits),
+            U64Values::Linear(values) => values.get_row_ids_between(low, high, rows, hits),
             U64Values::BlockwiseLinear(values) => {
-                values.get_row_ids_between(low, high, row_ids, hits)
+                values.get_row_ids_between(low, high, rows, hits)
             }
         }
     }

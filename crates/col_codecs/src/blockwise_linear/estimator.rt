@@ -1,12 +1,9 @@
 //! How long a list's bytes are under BlockwiseLinear.
 ghost use Rattle.std.specs.Prelude.{◌≡◌, ◌<◌, ◌≤◌, length, IfOk, []};
-ghost use Rattle.col_common.specs.Serializing.{Serializes};
-ghost use Rattle.col_model.specs.Stats.{stats_of};
-ghost use Rattle.col_model.specs.Codecs.{block_size, block_estimate, blockwise_body, log2};
-ghost use Rattle.col_codecs.specs.ColumnStats.{stats_seen};
+ghost use Rattle.col_model.specs.Codecs.{block_size, block_estimate, log2};
 
 use super::offsets::train_offsets;
-use super::writer::serialize_blocks;
+use super::writer::serialize_behind_codec;
 use crate::codec::ColumnCodecEstimator;
 use crate::column_stats::ColumnStats;
 use col_common::{BYTE_BITS, ColumnarError, Iterable, Sink, U64_NUM_BYTES};
@@ -119,21 +116,4 @@ impl ColumnCodecEstimator for BlockwiseLinearEstimator {
     ) -> Result<(), ColumnarError> {
         serialize_behind_codec(alloc, stats, vals, sink)
     }
-}
-
-// Adds statistics and blocks.
-#[tactic(auto, unfolding(col_model::specs::Codecs::blockwise_body))]
-fn serialize_behind_codec<I: Iterable<u64>, K: Sink>(
-    alloc: Global,
-    stats: &ColumnStats,
-    vals: &I,
-    sink: &mut K,
-) -> Result<(), ColumnarError>
-    requires { stats_seen stats.now ≡ stats_of (I.items vals.now) }
-    ensures { Serializes (K.seen sink.old) (K.seen sink.new) result
-        (blockwise_body (I.items vals.now)) }
-{
-    let _greatest = stats.max_value;
-    stats.serialize(sink)?;
-    serialize_blocks(alloc, stats, vals, sink)
 }

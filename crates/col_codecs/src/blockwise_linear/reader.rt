@@ -15,10 +15,9 @@ use crate::column_stats::ColumnStats;
 use crate::packing::BLOCK_LEN;
 use bytes::Bytes;
 use col_common::{ColumnarError, Iterable, RowId, Walk, split_by_second};
-use col_values::ColumnValues;
+use col_values::{ColumnValues, Found, Rows};
 use std::alloc::{AllocError, Global};
 use std::marker::Model;
-use std::ops::Range;
 
 /// A list in blocks that is read in place.
 #[derive(Drop)]
@@ -147,6 +146,7 @@ impl ColumnValues<u64> for BlockwiseLinearReader {
     }
 
     fn get_range(&self, start: u64, output: &mut [u64]) {
+        // That there are fewer than 2 ^ 32 values is known of the count.
         let _count = self.stats.num_rows;
         let items = ItemsInBlocks {
             stats: self.stats,
@@ -156,14 +156,8 @@ impl ColumnValues<u64> for BlockwiseLinearReader {
         items.read(start as u32, output);
     }
 
-    fn get_row_ids_between(
-        &self,
-        low: u64,
-        high: u64,
-        row_ids: Range<RowId>,
-        hits: &mut Vec<RowId>,
-    ) -> Result<(), ColumnarError> {
-        let ids = row_ids.start..row_ids.end.min(self.stats.num_rows);
+    fn get_row_ids_between(&self, low: u64, high: u64, rows: Rows, hits: &mut Vec<RowId>) -> Found {
+        let ids = rows.start..rows.end.min(self.stats.num_rows);
         let items = ItemsInBlocks {
             stats: self.stats,
             blocks: &self.blocks,

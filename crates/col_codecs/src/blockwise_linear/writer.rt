@@ -6,7 +6,7 @@ ghost use Rattle.col_model.specs.Stats.{stats_of};
 ghost use Rattle.col_model.specs.U64List.{joined_lists};
 ghost use Rattle.col_model.specs.Codecs.{
   blocks_of,
-  blocks_bytes,
+  blockwise_body,
   lines_bytes,
   packed_block,
   params_bytes,
@@ -23,8 +23,9 @@ use col_common::{Buffer, ColumnarError, Iterable, Sink, serialize_bytes};
 use col_model::BLOCK_SIZE;
 use std::alloc::Global;
 
-/// Adds a list's blocks, their lines, and the length of the lines.
-pub fn serialize_blocks<I: Iterable<u64>, K: Sink>(
+/// Adds statistics, the list's blocks, their lines, and the length of the lines.
+#[tactic(auto, unfolding(col_model::specs::Codecs::blockwise_body))]
+pub fn serialize_behind_codec<I: Iterable<u64>, K: Sink>(
     alloc: Global,
     stats: &ColumnStats,
     vals: &I,
@@ -32,8 +33,11 @@ pub fn serialize_blocks<I: Iterable<u64>, K: Sink>(
 ) -> Result<(), ColumnarError>
     requires { stats_seen stats.now ≡ stats_of (I.items vals.now) }
     ensures { Serializes (K.seen sink.old) (K.seen sink.new) result
-        (blocks_bytes (blocks_of (steps_above (stats_seen stats.now) (I.items vals.now)))) }
+        (blockwise_body (I.items vals.now)) }
 {
+    // That the greatest value has 64 bits is known where it is read.
+    let _greatest = stats.max_value;
+    stats.serialize(sink)?;
     let mut lines = Buffer::new(alloc);
     serialize_packed(alloc, stats, vals, &mut lines, sink)?;
     serialize_lines(lines.as_slice(), sink)

@@ -169,6 +169,7 @@ fn serialize_behind_codec<I: Iterable<u64>, K: Sink>(
     ensures { Serializes (K.seen sink.old) (K.seen sink.new) result
         (linear_body (I.items vals.now)) }
 {
+    // That the greatest value has 64 bits is known where it is read.
     let _greatest = stats.max_value;
     stats.serialize(sink)?;
     params.serialize(sink)?;

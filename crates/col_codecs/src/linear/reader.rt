@@ -20,10 +20,9 @@ use crate::linear_params::LinearParams;
 use bytes::Bytes;
 use col_bits::{BitUnpacker, is_packed};
 use col_common::{ColumnarError, Iterable, RowId, Walk, cut_rest};
-use col_values::ColumnValues;
+use col_values::{ColumnValues, Found, Rows};
 use std::alloc::{AllocError, Global};
 use std::marker::Model;
-use std::ops::Range;
 
 /// A list that is read in place.
 #[derive(Drop)]
@@ -120,6 +119,7 @@ impl ColumnValues<u64> for LinearReader {
     }
 
     fn get_range(&self, start: u64, output: &mut [u64]) {
+        // That there are fewer than 2 ^ 32 values is known of the count.
         let _count = self.stats.num_rows;
         let items = LinearItems {
             line: self.line,
@@ -129,14 +129,8 @@ impl ColumnValues<u64> for LinearReader {
         items.read(start as u32, output);
     }
 
-    fn get_row_ids_between(
-        &self,
-        low: u64,
-        high: u64,
-        row_ids: Range<RowId>,
-        hits: &mut Vec<RowId>,
-    ) -> Result<(), ColumnarError> {
-        let ids = row_ids.start..row_ids.end.min(self.stats.num_rows);
+    fn get_row_ids_between(&self, low: u64, high: u64, rows: Rows, hits: &mut Vec<RowId>) -> Found {
+        let ids = rows.start..rows.end.min(self.stats.num_rows);
         let items = LinearItems {
             line: self.line,
             bit_unpacker: self.bit_unpacker,
@@ -199,7 +193,8 @@ fn take_params(bytes: Bytes) -> Option<(LinearParams, Bytes)>
 
 // The line and the width byte at the front, and how many bytes are behind them.
 fn read_params(bytes: &[u8]) -> Option<(LinearParams, usize)>
-    ensures value { option_map (λ r. (params_seen r.0, drop (length bytes.now - r.1) bytes.now)) result
+    ensures value { option_map
+        (λ r. (params_seen r.0, drop (length bytes.now - r.1) bytes.now)) result
         ≡ params_at bytes.now }
     ensures within { IfSome result (λ r. r.1 ≤ length bytes.now) }
     ensures width { IfSome result (λ r. IsTrue (is_width r.0.offset_width)) }

@@ -1,5 +1,4 @@
-use Rattle.std.proofs.Common.{◌<◌, ◌^◌, length, sym, subst}
-use Rattle.std.specs.List.{AllByRecursion}
+use Rattle.std.proofs.Common.{◌^◌, length, sym, subst}
 use Rattle.col_common.specs.Ascending.{AreBelow}
 use Rattle.col_codecs.proofs.BoundLemmas.{all_small}
 use Rattle.col_codecs.proofs.bounded_items.bounds_read.Goals as goal

@@ -1,7 +1,7 @@
 use Rattle.std.proofs.Common.{◌≡◌, ◌+◌, ◌-◌, ◌∙◌, ap, sym, get_or, arith}
 use Rattle.std.specs.Int.{is_in_range}
 use Rattle.std.proofs.lemmas.Grind.{common_steps}
-use Rattle.col_bits.proofs.ItemLemmas.{kept_within}
+use Rattle.col_common.proofs.KeptLemmas.{kept_within}
 use Rattle.col_codecs.proofs.BoundedItemLemmas.{ids_by-none, ids_by-more}
 use Rattle.col_codecs.proofs.bounded_items.push_within.Goals as goal
 

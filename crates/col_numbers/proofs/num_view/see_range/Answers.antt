@@ -26,10 +26,10 @@ loop-done-preserved g c =
       room = kept ∙ c.loop-done.invariant.room;
       block = omega (arith, c.loop-done.invariant.block, read_long, length-append read rest);
       within = omega (arith, room, kept);
-      seen = part_mapped there values c.args.start done len output part room long next c.loop-done.invariant.seen;
+      filled = part_mapped there values c.args.start done len output part room long next c.loop-done.invariant.filled;
     }
 
 pub returns : goal.returns
 returns g c =
     whole_mapped _ _ c.args.start c.loop-done.done _ c.loop-done.output c.loop-done.invariant.room
-    (omega (arith, c.loop-done.invariant.within, c.loop-done.invariant.room)) c.loop-done.invariant.seen
+    (omega (arith, c.loop-done.invariant.within, c.loop-done.invariant.room)) c.loop-done.invariant.filled

@@ -4,12 +4,12 @@ use Rattle.col_common.specs.Decoding.{Refuses}
 use Rattle.col_bits.specs.Packed.{item, width, is_packed}
 use Rattle.col_model.specs.Stats.{Stats, same_stats, stats_of, steps_of}
 use Rattle.col_model.proofs.CodecLaws.{is_width-width}
+use Rattle.col_model.proofs.ItemLaws.{only_if-some}
 use Rattle.col_codecs.specs.Bitpacked.{bitpacked_items}
 use Rattle.col_codecs.specs.BlockBounds.{Enclose}
 use Rattle.col_codecs.specs.ColumnStats.{stats_seen}
 use Rattle.col_codecs.specs.Header.{checked, list_by}
 use Rattle.col_codecs.proofs.BitpackedLemmas.{list_by-other, list_by-packed, IsReader-same}
-use Rattle.col_codecs.proofs.HeaderLemmas.{only_if-some}
 use Rattle.col_codecs.proofs.bitpacked.BitpackedReader.open.Goals as goal
 
 tested : (s : Stats) (bytes read : List ℕ) (w k : ℕ) (b test : Bool) → read ≡ bytes → w ≡ width k → k ≡ steps_of s

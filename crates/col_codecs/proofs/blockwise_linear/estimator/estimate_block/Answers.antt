@@ -1,7 +1,7 @@
 use Rattle.std.proofs.Common.{◌≤◌, ◌+◌, ◌*◌, arith}
 use Rattle.col_model.specs.Codecs.{block_size}
+use Rattle.col_model.proofs.BlockLaws.{vint_bytes-most}
 use Rattle.col_codecs.specs.LinearParams.{params_seen}
-use Rattle.col_codecs.proofs.LineLemmas.{vint_bytes-bound}
 use Rattle.col_codecs.proofs.BlockEstimateLemmas.{block_estimate-parts, block_estimate-bound}
 use Rattle.col_codecs.proofs.blockwise_linear.estimator.estimate_block.Goals as goal
 
@@ -17,7 +17,7 @@ small c = omega (arith, returns c, block_estimate-bound c.args.vals.now c.requir
 pub overflow_add-result : goal.overflow_add-result
 overflow_add-result c =
     let line = c.train_offsets-params.result.line in
-    omega (arith, c.num_bytes.ensures, vint_bytes-bound line.slope, vint_bytes-bound line.intercept)
+    omega (arith, c.num_bytes.ensures, vint_bytes-most line.slope, vint_bytes-most line.intercept)
 
 pub overflow_add-result-2 : goal.overflow_add-result-2
 overflow_add-result-2 c = omega (arith, small c)

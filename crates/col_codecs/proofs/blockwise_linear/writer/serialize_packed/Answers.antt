@@ -1,11 +1,11 @@
-use Rattle.std.proofs.Common.{◌≡◌, ◌*◌, ◌++◌, ◌∙◌, ap, sym, arith, drop, take, length, min, refl, length-append}
+use Rattle.std.proofs.Common.{◌≡◌, ◌++◌, ◌∙◌, ap, sym, arith, drop, take, refl, length-append}
 use Rattle.std.proofs.lemmas.List.{length-take, length-drop}
 use Rattle.std.proofs.lemmas.Result.{err_from_is_err_and}
 use Rattle.col_common.proofs.SerializingLemmas.{serializes-as, serializes-nothing, serializes-stopped, serializes-then}
-use Rattle.col_model.specs.Codecs.{block_size, cut_blocks, steps_above, packed_block, block_line, params_bytes}
+use Rattle.col_model.specs.Codecs.{cut_blocks, steps_above, packed_block, block_line, params_bytes}
 use Rattle.col_model.proofs.CutLaws.{block_at}
 use Rattle.col_codecs.specs.ColumnStats.{stats_seen}
-use Rattle.col_codecs.proofs.BlockWritingLemmas.{packed_so_far, lines_so_far, packed_so_far-more, lines_so_far-more, steps_above-block, IsBlock-taken, all_blocks, left-next}
+use Rattle.col_codecs.proofs.BlockWritingLemmas.{taken-count, packed_so_far, lines_so_far, packed_so_far-more, lines_so_far-more, steps_above-block, IsBlock-taken, all_blocks, left-next}
 use Rattle.col_codecs.proofs.blockwise_linear.writer.serialize_packed.Goals as goal
 
 pub loop-block_id-init : goal.loop-block_id-init
@@ -24,13 +24,8 @@ serialize_block-requires g c =
     let k = c.loop-block_id._block_id in
     let xs = g.I.Iterable.items c.args.vals.now in
     let n = c.take_block-taken.result in
-    let count : n ≡ min block_size (length (drop (512 * k) xs)) =
-    omega (
-      arith,
-      c.take_block-taken.ensures.count,
-      c.loop-block_id.invariant.room,
-      ap length c.loop-block_id.invariant.left,
-    ) in
+    let inv = c.loop-block_id.invariant in
+    let count = taken-count xs c.loop-block_id.block _ k n c.take_block-taken.ensures.count inv.room inv.left in
     IsBlock-taken (stats_seen c.args.stats.now) xs (take n c.take_block-taken.new.block)
     c.div_ceil-block_id-end.result k n c.requires.stats c.div_ceil-block_id-end.ensures
     c.loop-block_id-test.true count
@@ -50,13 +45,8 @@ loop-block_id-preserved g c =
     let steps = steps_above s xs in
     let n = c.take_block-taken.result in
     let part = take n c.take_block-taken.new.block in
-    let count : n ≡ min block_size (length (drop (512 * k) xs)) =
-    omega (
-      arith,
-      c.take_block-taken.ensures.count,
-      c.loop-block_id.invariant.room,
-      ap length c.loop-block_id.invariant.left,
-    ) in
+    let inv = c.loop-block_id.invariant in
+    let count = taken-count xs c.loop-block_id.block _ k n c.take_block-taken.ensures.count inv.room inv.left in
     let block : steps_above s part ≡ block_at k steps =
     steps_above-block s xs part k n count
     (c.take_block-taken.ensures.taken ∙ ap (take n) c.loop-block_id.invariant.left) in

@@ -1,5 +1,5 @@
 use Rattle.std.proofs.Common.{arith}
-use Rattle.col_codecs.proofs.LineLemmas.{vint_bytes-bound}
+use Rattle.col_model.proofs.BlockLaws.{vint_bytes-most}
 use Rattle.col_codecs.proofs.line.Line.num_bytes.Goals as goal
 
 pub overflow_add-result : goal.overflow_add-result
@@ -8,6 +8,6 @@ overflow_add-result c =
       arith,
       c.num_bytes.ensures,
       c.num_bytes-2.ensures,
-      vint_bytes-bound c.args.self.now.slope,
-      vint_bytes-bound c.args.self.now.intercept,
+      vint_bytes-most c.args.self.now.slope,
+      vint_bytes-most c.args.self.now.intercept,
     )

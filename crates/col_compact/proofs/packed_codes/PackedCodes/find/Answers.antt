@@ -9,4 +9,4 @@ returns-in-Ok-clause-ok c =
     let codes = c.args.codes in
     c.in-Ok.ensures.ok
     ∙ found-by-codes p.bytes.now c.args.self.now p.bit_unpacker (range_inclusive_start codes) (range_inclusive_end codes)
-    c.args.row_ids.start c.args.row_ids.end c.min.result p.count c.self.view_is c.min.ensures
+    c.args.rows.start c.args.rows.end c.min.result p.count c.self.view_is c.min.ensures

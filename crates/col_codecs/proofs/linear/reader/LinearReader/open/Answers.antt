@@ -2,11 +2,11 @@ use Rattle.std.proofs.Common.{Some, sym, ap, subst, ◌∙◌}
 use Rattle.std.proofs.lemmas.Result.{err_from_is_err_and}
 use Rattle.col_common.specs.Decoding.{Refuses}
 use Rattle.col_model.specs.Items.{linear_item, linear_items}
+use Rattle.col_model.proofs.ItemLaws.{only_if-some}
 use Rattle.col_codecs.specs.BlockBounds.{Enclose}
 use Rattle.col_codecs.specs.ColumnStats.{stats_seen}
 use Rattle.col_codecs.specs.Line.{with_width}
 use Rattle.col_codecs.specs.LinearParams.{params_seen}
-use Rattle.col_codecs.proofs.HeaderLemmas.{only_if-some}
 use Rattle.col_codecs.proofs.LinearReaderLemmas.{is_list, list_by-no_line, list_by-cut, exact-stats}
 use Rattle.col_codecs.proofs.linear.reader.LinearReader.open.Goals as goal
 

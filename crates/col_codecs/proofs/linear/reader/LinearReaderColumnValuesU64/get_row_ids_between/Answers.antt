@@ -11,9 +11,9 @@ returns c =
     let a = c.args in
     let r = c.self.inside in
     let l = with_width r.line r.bit_unpacker in
-    let from = a.row_ids.start in
+    let from = a.rows.start in
     subst (Replaces c.find_ids.result c.find_ids.new.hits.items)
     (ap (λ b. ids_by (linear_item l b) a.low a.high from (c.min.result - from)) c.as_slice.ensures
-    ∙ found_values (linear_item l r.data) a.self.now r.stats.num_rows a.low a.high from a.row_ids.«end» c.min.result
+    ∙ found_values (linear_item l r.data) a.self.now r.stats.num_rows a.low a.high from a.rows.«end» c.min.result
     c.self.view_is c.min.ensures)
     c.find_ids.ensures
