@@ -15,6 +15,7 @@ use Rattle.col_model.specs.Positions.{start_of, start_in, is_in_row, rows_at, ro
 use Rattle.col_index.specs.Offsets.{AreInside}
 use Rattle.col_values.specs.Values.{passes, hits, span}
 use Rattle.col_values.proofs.HitLemmas.{front_value}
+use Rattle.col_model.proofs.ListLaws.{filter-none}
 use Rattle.col_column.specs.Columns.{IsCounted, rows_by, row_at}
 use Rattle.col_column.specs.Lookups.{docs_passing}
 use Rattle.col_column.proofs.RowLemmas.{one, single, row-empty, row_at-cut, length-cut, start-next, start-monotone, start-within, end-within}
@@ -189,11 +190,6 @@ module _ {T : Type 0} (test : T → Bool) (xs : List T) where
 
 -- ---- the same by the shape
 
--- nothing passes
-none-kept : (test : ℕ → Bool) → ((x : ℕ) → test x ≡ false) → (xs : List ℕ) → filter test xs ≡ []
-none-kept test none [] = refl
-none-kept test none (x ∷ xs) = rw (none x) (none-kept test none xs)
-
 fails : (b c : Bool) → (b && c && false) ≡ false
 fails true true = refl
 fails true false = refl
@@ -203,7 +199,7 @@ module _ {T : Type 0} (test : T → Bool) (xs : List T) (from to : ℕ) where
   empty_lookup : (m : ℕ) → [] ≡ docs_passing test (cut (replicate m 0) xs) from to
   unfolding docs_passing
   empty_lookup m =
-      sym (none-kept _ (λ d. ap (λ xs. nat_le from d && nat_lt d to && list_any test xs) (row-empty m xs d)
+      sym (filter-none _ (λ d. ap (λ xs. nat_le from d && nat_lt d to && list_any test xs) (row-empty m xs d)
       ∙ fails (nat_le from d) (nat_lt d to)) (range_with_len 0 (length (cut (replicate m 0) xs))))
 
   full_lookup : found test xs from (max from to) ≡ docs_passing test (cut (replicate (length xs) 1) xs) from to

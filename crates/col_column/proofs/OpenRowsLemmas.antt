@@ -7,6 +7,7 @@ use Rattle.col_model.specs.Column.{is_stored, stored_numbers, number_rows}
 use Rattle.col_model.specs.ColumnType.{ColumnType}
 use Rattle.col_model.specs.Dictionary.{cut}
 use Rattle.col_model.specs.Index.{Counts, Shape, counts, counts_over, shape}
+use Rattle.col_model.proofs.ItemLaws.{only_if-then}
 use Rattle.col_column.specs.Columns.{counts_seen, rows_by}
 use Rattle.col_column.specs.Opened.{counts_exactly, counted_rows}
 use Rattle.col_column.proofs.OpenCountLemmas.{counts_exactly-seen}
@@ -53,11 +54,6 @@ made_of-read make list bytes version rows a b xs e f =
 
 -- ---- what is made, as something else
 
--- of tests
-mapped-test : {R S : Type 0} (f : R → S) (t : Bool) (x : R) → (only_if t x >>= λ y. Some (f y)) ≡ only_if t (f x)
-mapped-test f true x = refl
-mapped-test f false x = refl
-
 -- turning what bytes make is making it turned
 pub mapped-made_of : {R S : Type 0} (f : R → S) (make : Shape → List ℕ → R) (list : List ℕ → Option (List ℕ))
     (bytes : List ℕ) (version rows : ℕ)
@@ -68,7 +64,7 @@ mapped-made_of f make list bytes version rows = by_parts (parts_by_first w64 byt
     by_shape : (xs : List ℕ) (found : Option Shape)
         → ((found >>= made make rows xs) >>= λ y. Some (f y)) ≡ (found >>= made (λ s ys. f (make s ys)) rows xs)
     by_shape xs None = refl
-    by_shape xs (Some s) = mapped-test f (is_some (counts_exactly rows (length xs) s)) (make s xs)
+    by_shape xs (Some s) = only_if-then f (is_some (counts_exactly rows (length xs) s)) (make s xs)
 
     by_list : (found : Option Shape) (o : Option (List ℕ))
         → ((o >>= made_behind make rows found) >>= λ y. Some (f y))

@@ -19,7 +19,7 @@ use Rattle.col_indexer.specs.Spelling.{Index, index_bytes, index_shape}
 use Rattle.col_column.proofs.SerializeNumberLemmas.{numbers-read}
 
 -- a shape counts its own rows
-counts_over-seen : (s : Shape) (n : ℕ) → counts_over (row_count s n) s ≡ Some (counts_seen s n)
+pub counts_over-seen : (s : Shape) (n : ℕ) → counts_over (row_count s n) s ≡ Some (counts_seen s n)
 counts_over-seen (empty_shape m) n = rw (eq-eqb m m refl) refl
 counts_over-seen full_shape n = refl
 counts_over-seen (optional_shape cs) n = rw (eq-eqb (length cs) (length cs) refl) refl

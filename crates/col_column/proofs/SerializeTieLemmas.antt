@@ -47,13 +47,18 @@ int_range_len-more start n =
     let e : (start +ℤ pos n) -ℤ start ≡ pos n = omega (arith, ints) in
     ap above_zero e
 
+-- the numbers from a start up to the one n further are n that rise by 1 from the start on
+pub ties-are : (start low high : ℤ) (n : ℕ) → low ≡ start → high ≡ start +ℤ pos n
+    → int_range low (int_range_len low high) ≡ int_range start n
+ties-are start low high n e f =
+    ap₂ (λ a b. int_range a (int_range_len a b)) e f ∙ ap (int_range start) (int_range_len-more start n)
+
 -- numbers that rise by 1 up to fewer than 2 ^ 32 further are fewer than 2 ^ 32
 pub ties-few : (start low high : ℤ) (n : ℕ) → low ≡ start → high ≡ start +ℤ pos n → n < 2 ^ 32
     → length (int_range low (int_range_len low high)) < 2 ^ 32
 ties-few start low high n e f few =
     let long : length (int_range low (int_range_len low high)) ≡ n =
-    ap₂ (λ a b. length (int_range a (int_range_len a b))) e f
-    ∙ length-int_range start (int_range_len start (start +ℤ pos n)) ∙ int_range_len-more start n in
+    ap length (ties-are start low high n e f) ∙ length-int_range start n in
     omega arith
 
 -- they are signed numbers of 32 bits

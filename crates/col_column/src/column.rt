@@ -93,6 +93,7 @@ where
     pub fn values_are_counted(&self)
         ensures { IsCounted self.now.shape (length (V.values self.now.values)) }
     {
+        // That the index counts the values is known of a column whose field is read.
         let _ = &self.values;
     }
 

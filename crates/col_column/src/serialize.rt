@@ -54,51 +54,18 @@ where
         (map T.code (I.items column_values.now)))
         (index_shape (index_of column_index.entry)) (map T.code (I.items column_values.now))) }
 {
-    serialize_numbers(alloc, column_index, column_values, &CODEC_TYPES, sink)
-}
-
-// Writes an index, numbers under the best of these codecs, and the index's length.
-fn serialize_numbers<T, I, K>(
-    alloc: Global,
-    column_index: SerializableColumnIndex<'_>,
-    column_values: &I,
-    codec_types: &[CodecType],
-    sink: &mut K,
-) -> Result<(), ColumnarError>
-where
-    T: MonotonicallyMappableToU64,
-    I: Iterable<T>,
-    K: Sink,
-    requires index { IsIndex (index_of column_index) }
-    requires limit { is_past_limit (index_of column_index) ≡ false }
-    requires counted { IsCounted (index_shape (index_of column_index))
-        (length (I.items column_values.now)) }
-    requires few { length (I.items column_values.now) < 2 ^ 32 }
-    requires bitpacked { slice_get (map code_of codec_types.now) 0 ≡ Some 0 }
-    ensures ok { Serializes (K.seen sink.old) (K.seen sink.new) result
-        (number_column_bytes (map code_of codec_types.now) (index_of column_index.entry)
-        (map T.code (I.items column_values.now))) }
-    ensures again { OnOk result (StandForRows
-        (number_column_bytes (map code_of codec_types.now) (index_of column_index.entry)
-        (map T.code (I.items column_values.now)))
-        (index_shape (index_of column_index.entry)) (map T.code (I.items column_values.now))) }
-{
     let index_len = serialize_column_index(alloc, column_index, sink)?;
-    serialize_numbers_behind(alloc, column_values, codec_types, index_len, sink)
+    serialize_numbers_behind(alloc, column_values, &CODEC_TYPES, index_len, sink)
 }
 
 // Writes numbers under the best of these codecs, and the length of the index in front of them.
-fn serialize_numbers_behind<T, I, K>(
+fn serialize_numbers_behind<T: MonotonicallyMappableToU64, I: Iterable<T>, K: Sink>(
     alloc: Global,
     column_values: &I,
     codec_types: &[CodecType],
     index_len: u64,
     sink: &mut K,
 ) -> Result<(), ColumnarError>
-where
-    T: MonotonicallyMappableToU64,
-    I: Iterable<T>,
-    K: Sink,
     requires few { length (I.items column_values.now) < 2 ^ 32 }
     requires bitpacked { slice_get (map code_of codec_types.now) 0 ≡ Some 0 }
     ensures ok { Serializes (K.seen sink.old) (K.seen sink.new) result
@@ -141,16 +108,12 @@ where
 }
 
 // Writes numbers by their codes, and the length of the index in front of them.
-fn serialize_addresses_behind<T, I, K>(
+fn serialize_addresses_behind<T: MonotonicallyMappableToU128, I: Iterable<T>, K: Sink>(
     alloc: Global,
     column_values: &I,
     index_len: u64,
     sink: &mut K,
 ) -> Result<(), ColumnarError>
-where
-    T: MonotonicallyMappableToU128,
-    I: Iterable<T>,
-    K: Sink,
     ensures ok { least_codes (map T.code (I.items column_values.now)) < 2 ^ 32 →
         length (I.items column_values.now) < 2 ^ 32 →
         SerializesBehind (K.seen sink.old) (K.seen sink.new) result
@@ -183,15 +146,9 @@ pub fn serialize_generated_tie_breaker_column<K: Sink>(
     if is_past_ties(start, num_docs) {
         return Err(ColumnarError::TieBreakerStart);
     }
+    let index_len = serialize_column_index(alloc, SerializableColumnIndex::Full, sink)?;
     let values = start..start + i64::from(num_docs);
-    let codec_types = &ALL_U64_CODEC_TYPES;
-    serialize_numbers(
-        alloc,
-        SerializableColumnIndex::Full,
-        &values,
-        codec_types,
-        sink,
-    )
+    serialize_numbers_behind(alloc, &values, &ALL_U64_CODEC_TYPES, index_len, sink)
 }
 
 // Whether so many numbers from a start on leave the signed numbers of 32 bits.

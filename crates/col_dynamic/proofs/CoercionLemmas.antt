@@ -1,5 +1,5 @@
 -- Cells of columns whose numbers are seen as those of another type.
-use Rattle.std.proofs.Common.{◌≡◌, ◌∙◌, ℕ, ℤ, zero, suc, ◌+◌, ◌-◌, ◌<◌, ◌≤◌, ◌&&◌, ◌^◌, pos, negsuc, nat_abs, nat_lt, int_le, int_lt, Bool, true, false, List, [], ◌∷◌, ◌++◌, length, take, drop, sum, map, replicate, Option, Some, None, is_some, option_map, IfSome, refl, sym, ap, ap₂, subst, arith}
+use Rattle.std.proofs.Common.{◌≡◌, ◌∙◌, ℕ, ℤ, ◌&&◌, ◌^◌, pos, negsuc, nat_abs, Bool, true, false, List, [], ◌∷◌, ◌++◌, length, take, drop, sum, map, Option, Some, None, is_some, option_map, IfSome, refl, sym, ap, ap₂, subst, arith}
 use Rattle.std.specs.List.{All, list_all}
 use Rattle.std.proofs.lemmas.Bool.{and_parts}
 use Rattle.std.proofs.lemmas.Bool.Decides.{nat_tests}

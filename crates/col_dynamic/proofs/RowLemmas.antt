@@ -1,10 +1,9 @@
 -- The rows of a column of any type.
-use Rattle.std.proofs.Common.{◌≡◌, ◌∙◌, List, map, length, Bool}
+use Rattle.std.proofs.Common.{◌≡◌, ◌∙◌, List, map, length}
 use Rattle.std.proofs.lemmas.List.{length-map}
 use Rattle.col_model.specs.Index.{Shape}
 use Rattle.col_model.specs.Table.{Cell, number}
 use Rattle.col_model.specs.Column.{term_cell}
-use Rattle.col_model.specs.Dictionary.{terms}
 use Rattle.col_types.specs.Cells.{unsigned_cell, bool_cell}
 use Rattle.col_numbers.specs.NumValues.{num_values_of}
 use Rattle.col_column.specs.Columns.{row_count, rows_by}

@@ -1,5 +1,5 @@
 -- Columns of any type.
-use Rattle.std.specs.Prelude.{ℕ, ℤ, Option, Some, None, ◌^◌, ◌&&◌, pos, negsuc, ◌-◌, int_le, int_lt, Bool, false, List, [], length}
+use Rattle.std.specs.Prelude.{ℕ, ℤ, Option, Some, None, ◌^◌, ◌&&◌, pos, negsuc, ◌-◌, int_le, int_lt, Bool, false, [], length}
 use Rattle.std.specs.List.{list_all}
 use Rattle.col_model.specs.ColumnType.{ColumnType, is_numerical}
 use Rattle.col_model.specs.ColumnType as types

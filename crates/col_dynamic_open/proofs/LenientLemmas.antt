@@ -27,10 +27,10 @@ use Rattle.col_model.specs.U64List.{values64}
 use Rattle.col_numbers.specs.NumValues.{num_values_of}
 use Rattle.col_numbers.specs.declared.num_values.NumValues.{NumValues}
 use Rattle.col_text.specs.Texts.{texts_content}
-use Rattle.col_column.proofs.SerializeRowLemmas.{sum-counts_by}
 use Rattle.col_column.proofs.CellLemmas.{cut-map}
 use Rattle.col_column.proofs.OpenSeenLemmas.{all-pass}
 use Rattle.col_text.proofs.OpenTextLemmas.{all-cut, all-rows, texts-as-bytes, ordinals-below}
+use Rattle.col_text.proofs.OpenTextLemmas as opened
 use Rattle.col_dynamic.proofs.CoercionLemmas.{maps}
 use Rattle.col_dynamic_open.specs.Contents.{DecodesTo}
 use Rattle.col_dynamic_open.specs.Lenient.{IsInPlaceOf, codes_spelled, seen_as}
@@ -204,29 +204,16 @@ texts-opened bytes version rows r =
     at o p (Err f) e h = refuses-as f p o (λ n. e ∙ n) h
 
 module _ (bytes : List ℕ) (version rows : ℕ) where
-  -- bytes that have no two parts stand for no column of terms
-  pub uncut : parts_by_first w32 bytes ≡ None → column bytes types.bytes version rows ≡ None
-  unfolding column term_column
-  uncut e = rw e refl
-
   module _ (a b : List ℕ) (parts : parts_by_first w32 bytes ≡ Some (a, b)) where
-    no_terms : terms a ≡ None → column bytes types.bytes version rows ≡ None
-    unfolding column term_column
-    no_terms e = rw (parts, e) refl
-
     -- bytes whose first part is no dictionary stand for no column of terms
     pub without_terms : option_map length (terms a) ≡ None → column bytes types.bytes version rows ≡ None
-    without_terms e = no_terms (none (terms a) e)
+    without_terms e = opened.without_terms bytes version rows a b parts (none (terms a) e)
       where
         none : (o : Option (List (List ℕ))) → option_map length o ≡ None → o ≡ None
         none None h = refl
         none (Some ts) h = cc
 
     module _ (found : List (List ℕ)) (are : terms a ≡ Some found) where
-      without_rows : number_rows b types.bytes version rows ≡ None → column bytes types.bytes version rows ≡ None
-      unfolding column term_column
-      without_rows e = rw (parts, are, e) refl
-
       with_rows : (c : Seen (NumValues ℕ)) → IsCounted c.shape (length (num_values_of c.values))
           → number_rows b types.bytes version rows ≡ Some (counted_rows c.shape (num_values_of c.values))
           → column bytes types.bytes version rows
@@ -247,7 +234,7 @@ module _ (bytes : List ℕ) (version rows : ℕ) where
         at None is h = cc
         at (Some found) is h =
             refuses-as e (number_rows b types.bytes version rows) (column bytes types.bytes version rows)
-            (without_rows found is)
+            (opened.without_rows bytes version rows a b parts found is)
 
     -- ordinals that are read behind their terms, and tested
     pub ordinals-opened : (count : ℕ) → option_map length (terms a) ≡ Some count → (c : Seen (NumValues ℕ))

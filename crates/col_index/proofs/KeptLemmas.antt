@@ -1,7 +1,26 @@
 -- A list of positions whose front is overwritten by the rows that have them.
-use Rattle.std.proofs.Common.{◌≡◌, ℕ, ◌+◌, ◌<◌, ◌≤◌, List, [], ◌∷◌, ◌++◌, length, take, drop, set, get_or, refl, sym, ap, ◌∙◌, arith}
+use Rattle.std.proofs.Common.{◌≡◌, ℕ, ◌+◌, ◌<◌, ◌≤◌, true, sum, List, [], ◌∷◌, ◌++◌, length, take, drop, set, get_or, refl, sym, ap, ◌∙◌, arith}
 use Rattle.std.proofs.lemmas.List.{drop-set-lt, drop-drop, take_more_set, get_or-drop, take_all, length-set}
+use Rattle.col_common.specs.Ascending.{is_rising, AreBelow}
+use Rattle.col_model.specs.Index.{RowOffsets, offset_counts}
 use Rattle.col_model.specs.Positions.{rows_at}
+use Rattle.col_index.specs.Offsets.{AreOffsets}
+use Rattle.col_index.proofs.RankLaws.{below_at}
+
+-- a position among rising ones that all have rows
+pub record IsPosition (o : RowOffsets) (ps : List ℕ) (at : ℕ) : Type 0 where
+  pub offsets : AreOffsets o
+  pub rising : is_rising ps ≡ true
+  pub within : at < length ps
+  pub below : AreBelow (sum (offset_counts o)) ps
+
+pub is_position : (o : RowOffsets) (ps : List ℕ) (at : ℕ) → AreOffsets o → is_rising ps ≡ true → at < length ps
+    → AreBelow (sum (offset_counts o)) ps → IsPosition o ps at
+is_position o ps at a e within below = record { offsets = a; rising = e; within = within; below = below }
+
+-- it has a row
+pub position-below : (o : RowOffsets) (ps : List ℕ) (at : ℕ) → IsPosition o ps at → get_or ps at 0 < sum (offset_counts o)
+position-below o ps at here = below_at (sum (offset_counts o)) ps at here.below here.within
 
 -- the rows of the positions before a place stand in front, and from there on the positions still stand
 pub record IsSelected (counts ps xs : List ℕ) (kept at : ℕ) : Type 0 where

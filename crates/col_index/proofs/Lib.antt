@@ -8,6 +8,7 @@ pub mod CountLaws
 pub mod IndexedLaws
 mod OpeningLemmas
 mod ShapeLemmas
+mod HalvingLemmas
 mod SearchLemmas
 mod LoadLemmas
 mod SetLemmas

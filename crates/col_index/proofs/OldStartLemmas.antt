@@ -1,5 +1,5 @@
 -- Start offsets of all rows.
-use Rattle.std.proofs.Common.{◌≡◌, ℕ, ◌-◌, ◌<◌, ◌^◌, nat_eq, nat_lt, true, List, [], ◌∷◌, length, take, sum, sym, ap, ◌∙◌, arith}
+use Rattle.std.proofs.Common.{◌≡◌, ℕ, ◌-◌, ◌<◌, ◌^◌, nat_eq, nat_lt, true, List, [], ◌∷◌, ◌++◌, length, take, sum, sym, ap, ◌∙◌, arith}
 use Rattle.std.specs.List.{list_all, starts_with}
 use Rattle.std.proofs.lemmas.Bool.{and_parts, ltb-true}
 use Rattle.std.proofs.lemmas.List.{take_all}
@@ -43,6 +43,10 @@ old-few starts old =
     let a = old-are_offsets starts old in
     let few = few_rows (length cs) o.set.rows a.rows in
     omega (arith, few, (start_list-parts (length o.set.rows) o.starts a.starts).count, length-counts_between starts, old.few)
+
+-- what is read of a list that was appended to none
+pub appended-to-none : (read whole front list : List ℕ) → read ≡ whole → whole ≡ front ++ list → front ≡ [] → read ≡ list
+appended-to-none read whole front list e f g = e ∙ f ∙ ap (λ xs. xs ++ list) g
 
 -- the rows that were found are those of the counts
 pub old-set : (starts rows : List ℕ) → rows ≡ rows_with_value (differences starts)

@@ -9,10 +9,10 @@ use Rattle.col_common.specs.VInt.{vint, vint_bytes}
 use Rattle.col_common.proofs.VIntLemmas.{vint_bytes-vint}
 use Rattle.col_model.specs.Index.{RowSet, row_set, row_offsets}
 use Rattle.col_model.specs.U64List.{values64}
-use Rattle.col_codecs.proofs.HeaderLemmas.{only_if-none}
+use Rattle.col_model.proofs.ItemLaws.{only_if-none}
 use Rattle.col_index.specs.Sets.{is_row_list, set_by}
 use Rattle.col_index.specs.Offsets.{offsets_by}
-use Rattle.col_index.specs.Opening.{row_count}
+use Rattle.col_index.specs.Opening.{row_count_at}
 
 -- what stands behind a number ends with the bytes
 pub vint-behind : (bytes rest : List ℕ) (n : ℕ) → IsBytes bytes → vint bytes ≡ Some (n, rest)
@@ -24,7 +24,7 @@ vint-behind bytes rest n b e =
     (omega (arith, long), ap (λ k. drop k bytes) start ∙ ap (drop (length (vint_bytes n))) spelled ∙ drop-append_seam (vint_bytes n) rest)
 
 -- a row count that fits 32 bits
-pub row_count-fits : (bytes rest : List ℕ) (n : ℕ) → n ≤ 4294967295 → vint bytes ≡ Some (n, rest) → Some (n, rest) ≡ row_count bytes
+pub row_count-fits : (bytes rest : List ℕ) (n : ℕ) → n ≤ 4294967295 → vint bytes ≡ Some (n, rest) → Some (n, rest) ≡ row_count_at bytes
 row_count-fits bytes rest n h e = rw (e, lt-ltb n (2 ^ 32) (omega arith)) refl
 
 -- the rows, where their count passed the test and they are a set
@@ -32,7 +32,7 @@ abbrev tested : Bool → ℕ → List ℕ → Option RowSet
 tested fits n rows = only_if (fits && is_row_list n rows) (record { num_rows = n; rows = rows })
 
 -- the rows behind their count
-row_set-counted : (bytes rest : List ℕ) (n : ℕ) → Some (n, rest) ≡ row_count bytes → row_set bytes ≡ (values64 rest >>= set_by n)
+row_set-counted : (bytes rest : List ℕ) (n : ℕ) → Some (n, rest) ≡ row_count_at bytes → row_set bytes ≡ (values64 rest >>= set_by n)
 unfolding row_set
 row_set-counted bytes rest n e =
     option_and_then_some (λ p. only_if (nat_lt p.0 (2 ^ 32)) p) (vint bytes) (n, rest) (sym e) (λ x o f.
@@ -42,7 +42,7 @@ row_set-counted bytes rest n e =
     rw read (ap (λ t. values64 rest >>= tested t n) fits))
 
 -- no rows without a count
-pub row_set-uncounted : (bytes : List ℕ) → None ≡ row_count bytes → row_set bytes ≡ None
+pub row_set-uncounted : (bytes : List ℕ) → None ≡ row_count_at bytes → row_set bytes ≡ None
 unfolding row_set
 row_set-uncounted bytes e = at (vint bytes) e
   where
@@ -56,11 +56,11 @@ row_set-uncounted bytes e = at (vint bytes) e
     at (Some p) f = ap (λ t. values64 p.1 >>= tested t p.0) (only_if-none (nat_lt p.0 (2 ^ 32)) p f) ∙ past p.0 (values64 p.1)
 
 -- rows that aren't read
-pub row_set-unread : (bytes rest : List ℕ) (n : ℕ) → Some (n, rest) ≡ row_count bytes → values64 rest ≡ None → row_set bytes ≡ None
+pub row_set-unread : (bytes rest : List ℕ) (n : ℕ) → Some (n, rest) ≡ row_count_at bytes → values64 rest ≡ None → row_set bytes ≡ None
 row_set-unread bytes rest n e f = row_set-counted bytes rest n e ∙ ap (λ values. values >>= set_by n) f
 
 -- rows that are read
-pub row_set-read : (bytes rest rows : List ℕ) (n : ℕ) → Some (n, rest) ≡ row_count bytes → values64 rest ≡ Some rows
+pub row_set-read : (bytes rest rows : List ℕ) (n : ℕ) → Some (n, rest) ≡ row_count_at bytes → values64 rest ≡ Some rows
     → row_set bytes ≡ set_by n rows
 row_set-read bytes rest rows n e f = row_set-counted bytes rest n e ∙ ap (λ values. values >>= set_by n) f
 

@@ -1,7 +1,7 @@
 -- Counts of the rows before each part of the rows.
-use Rattle.std.proofs.Common.{◌≡◌, ℕ, zero, suc, ◌+◌, ◌*◌, ◌/◌, ◌<◌, ◌≤◌, Bool, true, cond, nat_eq, nat_lt, List, [], ◌∷◌, ◌++◌, length, get_or, set, take, replicate, count_by, sum, refl, sym, ap, ◌∙◌, arith, inl, inr}
+use Rattle.std.proofs.Common.{◌≡◌, ℕ, zero, suc, ◌+◌, ◌*◌, ◌/◌, ◌^◌, ◌<◌, ◌≤◌, Bool, true, cond, nat_eq, nat_lt, List, [], ◌∷◌, ◌++◌, length, get_or, set, take, replicate, count_by, sum, refl, sym, ap, ◌∙◌, arith, inl, inr}
 use Rattle.std.proofs.lemmas.Bool.{cases_eq, cases_lt, eq-eqb, ne_eqb, lt-ltb, le-ltb}
-use Rattle.std.proofs.lemmas.Nat.{div_below, le-div}
+use Rattle.std.proofs.lemmas.Nat.{div_below, le-div, pow_pos}
 use Rattle.std.proofs.Math.Nat.{mul-add, mul-one, mul_comm, mul-div-le, div-mul-le_self, lt-div-mul-add}
 use Rattle.std.proofs.lemmas.List.{get_or-set_same, get_or-set_other, get_or-replicate, get_or_append_left, length-set, length-take, take_all}
 use Rattle.std.proofs.lemmas.List.Sums.{sum_by-cons, sum_by_more, count_by-le-length}
@@ -11,7 +11,7 @@ use Rattle.std.proofs.lemmas.Option.{get_or_from_slice_get, slice_get_within}
 use Rattle.std.specs.Prelude.{slice_get, Some}
 use Rattle.col_common.specs.Ascending.{is_rising}
 use Rattle.col_model.specs.Positions.{rank}
-use Rattle.col_index.specs.Ranks.{IsTable, AreCounts, ArePartCounts, AreSums}
+use Rattle.col_index.specs.Ranks.{IsTableOf, AreCounts, ArePartCounts, AreSums, AreBuckets}
 use Rattle.col_index.specs.Search.{IsNarrowed}
 use Rattle.col_index.proofs.SearchLemmas.{rank_of_zero}
 use Rattle.col_index.proofs.RankLaws.{below_rank, from_rank, rank-le-length, rank-monotone}
@@ -19,11 +19,11 @@ use Rattle.col_index.proofs.RankLaws.{below_rank, from_rank, rank-le-length, ran
 -- ---- tables one number after another
 
 -- an empty list is a table of no numbers
-pub table_none : (of : ℕ → ℕ) → IsTable of 0 []
+pub table_none : (of : ℕ → ℕ) → IsTableOf of 0 []
 table_none of = record { long = refl; each = λ k h. absurd (omega arith) }
 
 -- a table with the function's next number at its end is a table of one number more
-pub table_more : (of : ℕ → ℕ) (xs : List ℕ) (n x : ℕ) → IsTable of n xs → x ≡ of n → IsTable of (n + 1) (xs ++ x ∷ [])
+pub table_more : (of : ℕ → ℕ) (xs : List ℕ) (n x : ℕ) → IsTableOf of n xs → x ≡ of n → IsTableOf of (n + 1) (xs ++ x ∷ [])
 table_more of xs n x t e = record {
   long = length-append xs (x ∷ []) ∙ ap (λ k. k + 1) t.long;
   each = λ i h. elim (cases_lt i n) [
@@ -58,6 +58,11 @@ part_end m x some = omega (arith, behind m (x / m), lt-div-mul-add {a = x} {b = 
 -- no part is behind that of a later row
 pub part_le : (m row n : ℕ) → 0 < m → row ≤ n → row / m ≤ n / m
 part_le m row n some h = le-div (row / m) n m some (omega (arith, div-mul-le_self row m))
+
+-- behind the part of a row stands another count
+pub part-followed : (rows before : List ℕ) (n shift row : ℕ) → AreBuckets rows n shift before → row < n
+    → row / 2 ^ shift + 1 < length before
+part-followed rows before n shift row b h = omega (arith, b.room, part_le (2 ^ shift) row n (pow_pos shift) (omega arith))
 
 -- a row stands before a part, in it or behind it
 one_row : (m part x : ℕ) → 0 < m → cond (nat_lt x (m * part)) 1 0 + cond (nat_eq (x / m) part) 1 0 ≡ cond (nat_lt x (m * (part + 1))) 1 0

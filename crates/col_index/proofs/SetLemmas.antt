@@ -9,6 +9,7 @@ use Rattle.col_common.specs.Reading.{only_if}
 use Rattle.col_common.specs.Ascending.{is_rising}
 use Rattle.col_model.specs.Index.{RowSet}
 use Rattle.col_model.specs.Positions.{rank}
+use Rattle.col_model.proofs.ItemLaws.{only_if-some, only_if-none}
 use Rattle.col_index.specs.Appending.{BeginsWith}
 use Rattle.col_index.specs.Sets.{AreRows, holds, is_row_list}
 use Rattle.col_index.proofs.RankLaws.{tail_rises}
@@ -91,16 +92,6 @@ rises_first n [] = refl
 rises_first n (row ∷ rows) =
     rises_from n row rows
     ∙ ap (λ b. b && nat_lt row n && rest_rises n (row + 1) rows) (sym (le-leb 0 row (omega arith)))
-
--- what a test lets through
-pub only_if-some : {A : Type 0} (test : Bool) (x y : A) → Some x ≡ only_if test y → (test ≡ true) × (x ≡ y)
-only_if-some true x y e = (refl, same_Some x y e)
-only_if-some false x y e = absurd (none-some x (sym e))
-
--- a value that isn't given under a test says that the test fails
-pub only_if-none : {A : Type 0} (test : Bool) (y : A) → None ≡ only_if test y → test ≡ false
-only_if-none true y e = absurd (none-some y e)
-only_if-none false y e = refl
 
 -- the row at a place is let through
 pub record IsTaken (n next : ℕ) (rows : List ℕ) (at row : ℕ) : Type 0 where

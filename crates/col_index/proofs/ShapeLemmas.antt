@@ -9,7 +9,7 @@ use Rattle.col_index.specs.declared.format_version.Version.{Version}
 use Rattle.col_index.specs.declared.format_version.Version.TheVariants.{V2}
 use Rattle.col_index.specs.declared.multivalued_index.MultiValueIndex.{MultiValueIndex}
 use Rattle.col_index.specs.declared.multivalued_index.MultiValueIndex.TheVariants.{MultiValueIndexV2}
-use Rattle.col_index.specs.MultiValues.{offsets_of, counts_of}
+use Rattle.col_index.specs.MultiValues.{rows_and_offsets, value_counts_of}
 use Rattle.col_index.specs.Opening.{first_byte_cardinality}
 use Rattle.col_index.specs.Versions.{version_number, cardinality_of}
 
@@ -35,13 +35,13 @@ shape-multivalued x V2 rest e = rw e refl
 
 -- the shape of an index that was read
 pub shape-multivalued_index : (x : Cardinality) (v : Version) (rest : List ℕ) (i : MultiValueIndex)
-    → x ≡ Multivalued → row_offsets rest ≡ Some (offsets_of i)
-    → shape (cardinality_code (cardinality_of x) ∷ rest) (version_number v) ≡ Some (multivalued_shape (counts_of i))
+    → x ≡ Multivalued → row_offsets rest ≡ Some (rows_and_offsets i)
+    → shape (cardinality_code (cardinality_of x) ∷ rest) (version_number v) ≡ Some (multivalued_shape (value_counts_of i))
 shape-multivalued_index x v rest i e f =
     shape-multivalued x v rest e ∙ ap (option_map (λ (o : RowOffsets). multivalued_shape (offset_counts o))) f
     ∙ ap (λ cs. Some (multivalued_shape cs)) (same i)
   where
-    same : (i : MultiValueIndex) → offset_counts (offsets_of i) ≡ counts_of i
+    same : (i : MultiValueIndex) → offset_counts (rows_and_offsets i) ≡ value_counts_of i
     same (MultiValueIndexV2 o) = refl
 
 -- no shape without a cardinality

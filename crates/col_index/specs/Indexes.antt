@@ -1,6 +1,6 @@
 -- What indexes mean.
 use Rattle.col_model.specs.Index.{Shape, empty_shape, full_shape, optional_shape, multivalued_shape, set_counts}
-use Rattle.col_index.specs.MultiValues.{counts_of}
+use Rattle.col_index.specs.MultiValues.{value_counts_of}
 use Rattle.col_index.specs.declared.column_index.ColumnIndex.{ColumnIndex}
 use Rattle.col_index.specs.declared.column_index.ColumnIndex.TheVariants.{Empty, Full, Optional, Multivalued}
 
@@ -9,4 +9,4 @@ abbrev pub shape_of : ColumnIndex → Shape
 shape_of (Empty n) = empty_shape n
 shape_of Full = full_shape
 shape_of (Optional i) = optional_shape (set_counts i)
-shape_of (Multivalued i) = multivalued_shape (counts_of i)
+shape_of (Multivalued i) = multivalued_shape (value_counts_of i)

@@ -5,9 +5,9 @@ use Rattle.col_index.specs.declared.multivalued_index.MultiValueIndex.{MultiValu
 use Rattle.col_index.specs.declared.multivalued_index.MultiValueIndex.TheVariants.{MultiValueIndexV2}
 
 -- the rows with a value, and their start offsets
-abbrev pub offsets_of : MultiValueIndex → RowOffsets
-offsets_of (MultiValueIndexV2 i) = i
+abbrev pub rows_and_offsets : MultiValueIndex → RowOffsets
+rows_and_offsets (MultiValueIndexV2 i) = i
 
 -- how many values each row has
-abbrev pub counts_of : MultiValueIndex → List ℕ
-counts_of (MultiValueIndexV2 i) = offset_counts i
+abbrev pub value_counts_of : MultiValueIndex → List ℕ
+value_counts_of (MultiValueIndexV2 i) = offset_counts i

@@ -5,8 +5,8 @@ use Rattle.col_common.specs.VInt.{vint}
 use Rattle.col_model.specs.Table.{Cardinality, cardinality_of_code}
 
 -- a row count and the bytes behind it
-abbrev pub row_count : List ℕ → Option (ℕ × List ℕ)
-row_count bytes = vint bytes >>= λ n. only_if (nat_lt n.0 (2 ^ 32)) n
+abbrev pub row_count_at : List ℕ → Option (ℕ × List ℕ)
+row_count_at bytes = vint bytes >>= λ n. only_if (nat_lt n.0 (2 ^ 32)) n
 
 -- the cardinality of the first byte
 abbrev pub first_byte_cardinality : List ℕ → Option Cardinality

@@ -9,13 +9,13 @@ abbrev pub HasFlags : List ℕ → List ℕ → Type 0
 HasFlags rows words = (k : ℕ) → k < 64 * length words → flag_at words k ≡ holds rows k
 
 -- a list of n numbers that a function gives
-pub record IsTable (of : ℕ → ℕ) (n : ℕ) (xs : List ℕ) : Type 0 where
+pub record IsTableOf (of : ℕ → ℕ) (n : ℕ) (xs : List ℕ) : Type 0 where
   pub long : length xs ≡ n
   pub each : (k : ℕ) → k < n → slice_index xs k ≡ of k
 
 -- for n parts of m rows how many of the rows stand before each
 abbrev pub AreCounts : List ℕ → ℕ → ℕ → List ℕ → Type 0
-AreCounts rows m n before = IsTable (λ part. rank rows (m * part)) n before
+AreCounts rows m n before = IsTableOf (λ part. rank rows (m * part)) n before
 
 -- the bits of rows as far as the words go, and how many are set before each word
 pub record AreRanks (rows words before : List ℕ) : Type 0 where
@@ -30,7 +30,7 @@ ArePartCounts rows m counts = (part : ℕ) → part < length counts
 
 -- the sum of the counts before each, and of all of them
 abbrev pub AreSums : List ℕ → List ℕ → Type 0
-AreSums counts before = IsTable (λ part. sum (take part counts)) (length counts + 1) before
+AreSums counts before = IsTableOf (λ part. sum (take part counts)) (length counts + 1) before
 
 -- how many of the rows below n stand before each part of 2 ^ shift rows, and before n
 pub record AreBuckets (rows : List ℕ) (n shift : ℕ) (before : List ℕ) : Type 0 where

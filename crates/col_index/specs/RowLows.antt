@@ -1,11 +1,11 @@
 -- The low bits of rows, and parts of the rows that they tell apart.
 use Rattle.std.specs.Prelude.{◌≡◌, ℕ, ◌≤◌, ◌<◌, ◌/◌, ◌%◌, ◌^◌, List, length, slice_index}
-use Rattle.col_index.specs.Ranks.{IsTable}
+use Rattle.col_index.specs.Ranks.{IsTableOf}
 use Rattle.col_index.specs.Search.{IsNarrowed}
 
 -- the low 16 bits of each row
 abbrev pub AreLows : List ℕ → List ℕ → Type 0
-AreLows rows lows = IsTable (λ k. slice_index rows k % 2 ^ 16) (length rows) lows
+AreLows rows lows = IsTableOf (λ k. slice_index rows k % 2 ^ 16) (length rows) lows
 
 -- the same where they tell the rows of a part of 2 ^ shift rows apart
 abbrev pub KeepsLows : List ℕ → ℕ → List ℕ → Type 0

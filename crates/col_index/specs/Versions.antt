@@ -2,7 +2,6 @@
 -- sections 8 and 11.
 use Rattle.std.specs.Prelude.{ℕ, List, [], ◌∷◌, Option, None, option_map, codes}
 use Rattle.col_model.specs.Table as tables
-use Rattle.col_model.specs.Version.{current_version}
 use Rattle.col_index.specs.declared.cardinality.Cardinality.{Cardinality}
 use Rattle.col_index.specs.declared.cardinality.Cardinality.TheVariants.{Full, Optional, Multivalued}
 use Rattle.col_index.specs.declared.format_version.Version.{Version}
@@ -20,8 +19,8 @@ cardinality_at [] = None
 cardinality_at (code ∷ bytes) = option_map (λ c. (c, bytes)) (tables.cardinality_of_code code)
 
 -- the code of a cardinality
-abbrev pub code_of : Cardinality → ℕ
-code_of c = tables.cardinality_code (cardinality_of c)
+abbrev pub cardinality_code_of : Cardinality → ℕ
+cardinality_code_of c = tables.cardinality_code (cardinality_of c)
 
 -- the name of a version
 abbrev pub version_name : Version → List ℕ
@@ -29,4 +28,4 @@ version_name V2 = codes "v2"
 
 -- the number of a version
 abbrev pub version_number : Version → ℕ
-version_number V2 = current_version
+version_number V2 = 2

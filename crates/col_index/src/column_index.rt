@@ -8,7 +8,7 @@ ghost use Rattle.col_model.specs.Positions.{count_in, start_in, positions_in, ro
 ghost use Rattle.col_index.specs.Versions.{cardinality_of};
 ghost use Rattle.col_index.specs.Appending.{AppendsBoth, PushesBoth};
 ghost use Rattle.col_index.specs.Offsets.{positions_if_any, cardinality_in, positions_of_rows, found_rows, positions_of, AreInside};
-ghost use Rattle.col_index.specs.MultiValues.{counts_of};
+ghost use Rattle.col_index.specs.MultiValues.{value_counts_of};
 
 use crate::cardinality::Cardinality;
 use crate::multivalued_index::MultiValueIndex;
@@ -42,7 +42,7 @@ impl From<MultiValueIndex> for ColumnIndex {
     ghost use Rattle.col_index.specs.Indexes.{shape_of};
 
     fn from(multi_value_index: MultiValueIndex) -> ColumnIndex
-        ensures { shape_of result ≡ multivalued_shape (counts_of multi_value_index) }
+        ensures { shape_of result ≡ multivalued_shape (value_counts_of multi_value_index) }
     {
         ColumnIndex::Multivalued(multi_value_index)
     }

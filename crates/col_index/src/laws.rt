@@ -4,7 +4,7 @@ ghost use Rattle.std.specs.Ordering.{nat_cmp};
 ghost use Rattle.col_common.specs.Laws.{ComparesBy, EqualAsCompared, EqualHashAlike, DefaultIs};
 ghost use Rattle.col_index.specs.Laws.{IndexesHaveCounts};
 ghost use Rattle.col_model.specs.Version.{current_version};
-ghost use Rattle.col_index.specs.Versions.{code_of, version_number};
+ghost use Rattle.col_index.specs.Versions.{cardinality_code_of, version_number};
 ghost use Rattle.col_index.specs.declared.format_version.TheConstants.{CURRENT_VERSION};
 ghost use Rattle.col_index.specs.declared.cardinality.Cardinality.TheVariants.{Full};
 
@@ -19,7 +19,7 @@ pub fn indexes_have_counts()
 
 /// Cardinalities compare as their codes, equality and hashes agree, and the default is Full.
 pub fn cardinalities_compare_as_their_codes()
-    ensures order { ComparesBy (λ a b. nat_cmp (code_of a) (code_of b))
+    ensures order { ComparesBy (λ a b. nat_cmp (cardinality_code_of a) (cardinality_code_of b))
         ⟦<Cardinality as PartialOrd>⟧.partial_cmp ⟦<Cardinality as Ord>⟧.cmp }
     ensures equality { EqualAsCompared
         ⟦<Cardinality as PartialEq>⟧.eq ⟦<Cardinality as Ord>⟧.cmp }

@@ -5,6 +5,7 @@
 mod appending;
 mod cardinality;
 mod column_index;
+mod counted_rows;
 mod format_version;
 mod laws;
 mod multivalued_index;

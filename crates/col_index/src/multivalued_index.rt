@@ -25,7 +25,7 @@ pub enum MultiValueIndex {
 }
 
 impl MultiValueIndex {
-    ghost use Rattle.col_index.specs.MultiValues.{counts_of};
+    ghost use Rattle.col_index.specs.MultiValues.{value_counts_of};
 
     /// The index with one more start offset than rows, from 0 on, which never fall.
     pub fn for_test(
@@ -33,7 +33,7 @@ impl MultiValueIndex {
         start_offsets: &[RowId],
     ) -> Result<MultiValueIndex, ColumnarError>
         requires { AreOldOffsets start_offsets.now }
-        ensures ok { IfOk result (λ index. counts_of index ≡ differences start_offsets.now) }
+        ensures ok { IfOk result (λ index. value_counts_of index ≡ differences start_offsets.now) }
         ensures err { IfErr result (λ e. e ≡ refusals.OutOfMemory) }
     {
         Ok(MultiValueIndex::MultiValueIndexV2(MultiValueIndexV2::for_test(alloc, start_offsets)?))
@@ -41,7 +41,7 @@ impl MultiValueIndex {
 
     /// The same index once more, which shares its bytes and has ranks of its own.
     pub fn try_clone(&self, alloc: Global) -> Result<MultiValueIndex, AllocError>
-        ensures { IfOk result (λ index. counts_of index ≡ counts_of self.now) }
+        ensures { IfOk result (λ index. value_counts_of index ≡ value_counts_of self.now) }
     {
         match self {
             MultiValueIndex::MultiValueIndexV2(index) => {
@@ -52,7 +52,7 @@ impl MultiValueIndex {
 
     /// Where the values of each row with a value start, and behind the last where they end.
     pub fn get_start_index_column(&self) -> &U64Values
-        ensures counts { list_of result.now ≡ starts_of (counts_of self.now) }
+        ensures counts { list_of result.now ≡ starts_of (value_counts_of self.now) }
         ensures fits { AreBelow (2 ^ 32) (list_of result.now) }
     {
         match self {
@@ -63,8 +63,8 @@ impl MultiValueIndex {
     /// The positions of a row's values; 0..0 for a number that is no row.
     #[inline(always)]
     pub fn range(&self, doc_id: DocId) -> Range<RowId>
-        ensures start { result.start ≡ (index_range (counts_of self.now) doc_id).0 }
-        ensures end { result.end ≡ (index_range (counts_of self.now) doc_id).1 }
+        ensures start { result.start ≡ (index_range (value_counts_of self.now) doc_id).0 }
+        ensures end { result.end ≡ (index_range (value_counts_of self.now) doc_id).1 }
     {
         match self {
             MultiValueIndex::MultiValueIndexV2(index) => index.range(doc_id),
@@ -74,8 +74,8 @@ impl MultiValueIndex {
     /// The positions of a row's values; 0..0 where it has none.
     #[inline(always)]
     pub fn range_if_any(&self, doc_id: DocId) -> Range<RowId>
-        ensures start { result.start ≡ (range_if_any (counts_of self.now) doc_id).0 }
-        ensures end { result.end ≡ (range_if_any (counts_of self.now) doc_id).1 }
+        ensures start { result.start ≡ (range_if_any (value_counts_of self.now) doc_id).0 }
+        ensures end { result.end ≡ (range_if_any (value_counts_of self.now) doc_id).1 }
     {
         match self {
             MultiValueIndex::MultiValueIndexV2(index) => index.range_if_any(doc_id),
@@ -84,7 +84,7 @@ impl MultiValueIndex {
 
     /// How many values stand before a row.
     pub(crate) fn start_of(&self, doc_id: DocId) -> RowId
-        ensures { result ≡ start_of (counts_of self.now) doc_id }
+        ensures { result ≡ start_of (value_counts_of self.now) doc_id }
     {
         match self {
             MultiValueIndex::MultiValueIndexV2(index) => index.start_of(doc_id),
@@ -93,7 +93,7 @@ impl MultiValueIndex {
 
     /// How many rows there are.
     pub fn num_docs(&self) -> u32
-        ensures { result ≡ length (counts_of self.now) }
+        ensures { result ≡ length (value_counts_of self.now) }
     {
         match self {
             MultiValueIndex::MultiValueIndexV2(index) => index.num_docs(),
@@ -102,7 +102,7 @@ impl MultiValueIndex {
 
     /// Whether a row has a value.
     pub fn has_value(&self, doc_id: DocId) -> bool
-        ensures { result ≡ not (slice_index (counts_of self.now) doc_id == 0) }
+        ensures { result ≡ not (slice_index (value_counts_of self.now) doc_id == 0) }
     {
         match self {
             MultiValueIndex::MultiValueIndexV2(index) => index.has_value(doc_id),
@@ -111,7 +111,7 @@ impl MultiValueIndex {
 
     /// The first row with a value that isn't before a target.
     pub fn next_non_null_doc(&self, target: DocId) -> Option<DocId>
-        ensures { result ≡ next_row (rows_with_value (counts_of self.now)) target }
+        ensures { result ≡ next_row (rows_with_value (value_counts_of self.now)) target }
     {
         match self {
             MultiValueIndex::MultiValueIndexV2(index) => index.next_non_null_doc(target),
@@ -120,7 +120,7 @@ impl MultiValueIndex {
 
     /// The rows with a value, ascending.
     pub fn iter_non_null_docs(&self) -> NonNullDocs<'_>
-        ensures { result ≡ rows_with_value (counts_of self.now) }
+        ensures { result ≡ rows_with_value (value_counts_of self.now) }
     {
         match self {
             MultiValueIndex::MultiValueIndexV2(index) => index.iter_non_null_docs(),
@@ -137,8 +137,8 @@ impl MultiValueIndex {
     ) -> Result<(), AllocError>
         ensures { PushesBoth docs_out.old.items docs_out.new.items
             rows_out.old.items rows_out.new.items result
-            (found_rows (row_positions (counts_of self.now) docs.now))
-            (positions_of (row_positions (counts_of self.now) docs.now)) }
+            (found_rows (row_positions (value_counts_of self.now) docs.now))
+            (positions_of (row_positions (value_counts_of self.now) docs.now)) }
     {
         match self {
             MultiValueIndex::MultiValueIndexV2(index) => {
@@ -151,10 +151,10 @@ impl MultiValueIndex {
     /// before the values of the start.
     pub fn select_batch_in_place(&self, doc_id_start: DocId, ranks: &mut Vec<RowId>)
         requires rising { is_rising ranks.old.items ≡ true }
-        requires below { AreBelow (sum (counts_of self.now)) ranks.old.items }
-        requires start { list_all (λ p. nat_le (start_of (counts_of self.now) doc_id_start) p)
+        requires below { AreBelow (sum (value_counts_of self.now)) ranks.old.items }
+        requires start { list_all (λ p. nat_le (start_of (value_counts_of self.now) doc_id_start) p)
             ranks.old.items ≡ true }
-        ensures { ranks.new.items ≡ rows_at (counts_of self.now) ranks.old.items }
+        ensures { ranks.new.items ≡ rows_at (value_counts_of self.now) ranks.old.items }
     {
         match self {
             MultiValueIndex::MultiValueIndexV2(index) => {

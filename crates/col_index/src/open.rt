@@ -4,8 +4,8 @@ ghost use Rattle.col_common.specs.Decoding.{Decodes};
 ghost use Rattle.col_model.specs.Index.{row_set, row_offsets, shape};
 ghost use Rattle.col_model.specs.Table.{cardinality_code};
 ghost use Rattle.col_index.specs.Versions.{version_number, cardinality_of};
-ghost use Rattle.col_index.specs.Opening.{row_count, first_byte_cardinality};
-ghost use Rattle.col_index.specs.MultiValues.{offsets_of};
+ghost use Rattle.col_index.specs.Opening.{row_count_at, first_byte_cardinality};
+ghost use Rattle.col_index.specs.MultiValues.{rows_and_offsets};
 ghost use Rattle.col_index.specs.Indexes.{shape_of};
 
 use crate::cardinality::Cardinality;
@@ -35,7 +35,7 @@ pub fn open_multivalued_index(
     bytes: Bytes,
     format_version: Version,
 ) -> Result<MultiValueIndex, ColumnarError>
-    ensures { Decodes offsets_of result (row_offsets bytes) }
+    ensures { Decodes rows_and_offsets result (row_offsets bytes) }
 {
     match format_version {
         Version::V2 => Ok(MultiValueIndex::MultiValueIndexV2(open_offsets(alloc, bytes)?)),
@@ -113,7 +113,7 @@ fn first_cardinality(bytes: &[u8]) -> Option<Cardinality>
 
 // The row count at the front, and the bytes behind it.
 fn split_count(bytes: Bytes) -> Option<(RowId, Bytes)>
-    ensures { result ≡ row_count bytes }
+    ensures { result ≡ row_count_at bytes }
 {
     let (count, rest_len) = read_count(bytes.as_slice())?;
     Some((count, cut_rest(bytes, rest_len)))
@@ -122,7 +122,7 @@ fn split_count(bytes: Bytes) -> Option<(RowId, Bytes)>
 // The row count at the front, and how many bytes are behind it.
 fn read_count(bytes: &[u8]) -> Option<(RowId, usize)>
     ensures count { option_map (λ r. (r.0, drop (length bytes.now - r.1) bytes.now)) result
-        ≡ row_count bytes.now }
+        ≡ row_count_at bytes.now }
     ensures rest { IfSome result (λ r. r.1 ≤ length bytes.now) }
 {
     let (count, rest) = read_vint(bytes)?;

@@ -1,5 +1,5 @@
 //! Rows that have at most one value.
-ghost use Rattle.std.specs.Prelude.{◌≡◌, [], ◌∷◌, ◌^◌, ◌<◌, length, map, slice_get, Some};
+ghost use Rattle.std.specs.Prelude.{◌≡◌, [], ◌∷◌, ◌^◌, ◌<◌, ◌≤◌, ◌+◌, ◌-◌, ◌*◌, length, map, slice_get, Some};
 ghost use Rattle.std.specs.Prelude.{IfOk, IfErr};
 ghost use Rattle.col_common.specs.Ascending.{AreBelow};
 ghost use Rattle.col_common.specs.declared.error.ColumnarError.TheVariants as refusals;
@@ -14,18 +14,20 @@ ghost use Rattle.col_index.specs.Sets.{AreRows, holds, held, held_ranks, set_by}
 ghost use Rattle.col_numbers.specs.Readers.{list_of};
 
 use crate::appending::push_pair;
+use crate::counted_rows::{CountedRows, narrow_counted};
 use crate::non_null_docs::NonNullDocs;
 use crate::ranks::Ranks;
 use crate::search::Place;
 use crate::select_cursor::OptionalIndexSelectCursor;
 use crate::set::Set;
-use col_common::{ColumnarError, DocId, RowId};
+use col_common::{ColumnarError, DocId, RowId, Steps};
 use col_numbers::{CodecType, U64Values, serialize_and_load_u64_values};
 use col_values::ColumnValues;
 use std::alloc::{AllocError, Global};
 use std::fmt;
 use std::marker::Model;
 use std::ops::Range;
+use std::sync::ledger::Ledger;
 
 /// Which rows have a value. Contracts see the row count and these rows.
 #[derive(Drop)]
@@ -104,10 +106,22 @@ impl OptionalIndex {
         self.rows.num_vals()
     }
 
+    /// How many rows with a value stand before a row, where each look at one of them is a step: the
+    /// rows are searched by halves, as `rank` searches a part of them.
+    pub fn rank_counted<L: Ledger>(&self, row_id: RowId, steps: &mut Steps<L>) -> RowId
+        ensures rank { result ≡ rank self.now.rows row_id }
+        ensures steps { 2 ^ (steps.new - steps.old) ≤ 2 * length self.now.rows + 2 }
+    {
+        self.rows_rise();
+        let rows = CountedRows::new(&self.rows);
+        narrow_counted(&rows, 0, self.rows.num_vals(), u64::from(row_id), steps)
+    }
+
     /// The rows rise and stay below the count.
     pub fn rows_rise(&self)
         ensures { AreRows self.now }
     {
+        // That the rows are those of an index is known where a field is read.
         let _ = &self.rows;
     }
 
@@ -201,7 +215,7 @@ impl Set<RowId> for OptionalIndex {
 
     #[inline(always)]
     fn select(&self, rank: RowId) -> RowId {
-        // Rows are below a count of 32 bits.
+        // That rows are below a count of 32 bits is known of the count.
         let _num_rows = self.num_rows;
         self.rows.get_val(rank) as RowId
     }
@@ -221,7 +235,7 @@ impl fmt::Debug for OptionalIndex {
 }
 
 impl OptionalIndex {
-    ghost use Rattle.col_index.specs.Places.{IsPlace};
+    ghost use Rattle.col_index.specs.Places.{IsPlaceOfTarget};
 
     /// Whether the row with a rank has a value.
     #[inline(always)]
@@ -255,7 +269,7 @@ impl OptionalIndex {
         ensures start { result.start ≡ (range_if_any (set_counts self.now) doc_id).0 }
         ensures end { result.end ≡ (range_if_any (set_counts self.now) doc_id).1 }
     {
-        // Rows are below a count of 32 bits.
+        // That rows are below a count of 32 bits is known of the count.
         let _num_rows = self.num_rows;
         match self.rank_if_exists(doc_id) {
             Some(rank) => rank..rank + 1,
@@ -265,7 +279,7 @@ impl OptionalIndex {
 
     /// The place of row 0.
     pub(crate) fn first_place(&self) -> Place
-        ensures place { IsPlace self.now.rows result }
+        ensures place { IsPlaceOfTarget self.now.rows result }
         ensures target { result.target ≡ 0 }
     {
         Place::first(&self.rows)
@@ -274,8 +288,8 @@ impl OptionalIndex {
     // The place of a row; in few steps where it isn't far behind another place.
     #[inline(always)]
     fn seek(&self, place: Place, doc_id: DocId) -> Place
-        requires { IsPlace self.now.rows place }
-        ensures place { IsPlace self.now.rows result }
+        requires { IsPlaceOfTarget self.now.rows place }
+        ensures place { IsPlaceOfTarget self.now.rows result }
         ensures target { result.target ≡ doc_id }
     {
         match place.near(&self.rows, u64::from(doc_id)) {
@@ -287,7 +301,7 @@ impl OptionalIndex {
     // Whether the row of a place has a value.
     #[inline]
     fn is_at(&self, place: Place) -> bool
-        requires place { IsPlace self.now.rows place }
+        requires place { IsPlaceOfTarget self.now.rows place }
         requires row { place.target < 2 ^ 32 }
         ensures { result ≡ holds self.now.rows place.target }
     {
@@ -298,8 +312,8 @@ impl OptionalIndex {
     // The rank of a row that has a value, by a walk.
     #[inline(always)]
     fn walked_rank(&self, place: &mut Place, doc_id: DocId) -> Option<RowId>
-        requires { IsPlace self.now.rows place.old }
-        ensures place { IsPlace self.now.rows place.new }
+        requires { IsPlaceOfTarget self.now.rows place.old }
+        ensures place { IsPlaceOfTarget self.now.rows place.new }
         ensures rank { result ≡ only_if (holds self.now.rows doc_id) (rank self.now.rows doc_id) }
     {
         let next = self.seek(*place, doc_id);
@@ -326,8 +340,8 @@ impl OptionalIndex {
         place: &mut Place,
         doc_id: DocId,
     ) -> Option<RowId>
-        requires { IsPlace self.now.rows place.old }
-        ensures place { IsPlace self.now.rows place.new }
+        requires { IsPlaceOfTarget self.now.rows place.old }
+        ensures place { IsPlaceOfTarget self.now.rows place.new }
         ensures rank { result ≡ only_if (holds self.now.rows doc_id) (rank self.now.rows doc_id) }
     {
         if is_walked {

@@ -124,7 +124,7 @@ fn count_before(alloc: Global, rows: &U64Values, words: &[u64]) -> Result<Vec<u3
     ensures { IfOk result (λ before.
         AreCounts (list_of rows.now) 64 (length words.now) before.items) }
 {
-    // The rows are fewer than 2 ^ 32.
+    // That the rows are fewer than 2 ^ 32 is known of their count.
     let _count = rows.num_vals();
     let mut before = Vec::with_capacity(alloc, words.len())?;
     let mut count = 0;

@@ -6,9 +6,12 @@ ghost use Rattle.col_numbers.specs.Readers.{list_of};
 ghost use Rattle.col_index.specs.Search.{IsNarrowed};
 ghost use Rattle.col_index.specs.Sets.{holds};
 
-use col_common::RowId;
+use crate::counted_rows::{CountedRows, narrow_counted};
+use col_common::{RowId, Steps};
 use col_numbers::U64Values;
 use col_values::ColumnValues;
+use std::marker::Brand;
+use std::sync::ledger::{Blank, Ledger};
 
 /// How many numbers of the list are below a target, where those below `low` are, and those from
 /// `high` on are not: by halves.
@@ -18,17 +21,21 @@ pub fn narrow(values: &U64Values, low: u32, high: u32, target: u64) -> u32
     requires narrowed { IsNarrowed (list_of values.now) target low high }
     ensures { result ≡ rank (list_of values.now) target }
 {
-    let mut low = low;
-    let mut high = high;
-    while low < high {
-        let middle = low + (high - low) / 2;
-        if values.get_val(middle) < target {
-            low = middle + 1;
-        } else {
-            high = middle;
-        }
-    }
-    low
+    narrow_by::<Brand>(values, low, high, target, Blank::new(1))
+}
+
+// The search where steps count in a new ledger.
+#[inline(always)]
+fn narrow_by<L: Ledger>(values: &U64Values, low: u32, high: u32, target: u64, blank: Blank) -> u32
+    requires name { blank.name ≡ L.name }
+    requires parts { blank.parts ≡ L.parts }
+    requires some { 0 < blank.parts }
+    requires rising { is_rising (list_of values.now) ≡ true }
+    requires narrowed { IsNarrowed (list_of values.now) target low high }
+    ensures { result ≡ rank (list_of values.now) target }
+{
+    let mut steps = Steps::<L>::new(blank);
+    narrow_counted(&CountedRows::new(values), low, high, target, &mut steps)
 }
 
 /// Whether a row is the one with its rank in a list.
@@ -59,11 +66,11 @@ pub struct Place {
 }
 
 impl Place {
-    ghost use Rattle.col_index.specs.Places.{IsPlace};
+    ghost use Rattle.col_index.specs.Places.{IsPlaceOfTarget};
 
     /// The place of 0.
     pub fn first(values: &U64Values) -> Place
-        ensures place { IsPlace (list_of values.now) result }
+        ensures place { IsPlaceOfTarget (list_of values.now) result }
         ensures target { result.target ≡ 0 }
     {
         Place {
@@ -77,11 +84,12 @@ impl Place {
     #[inline(always)]
     fn step(self, values: &U64Values) -> Place
         requires rising { is_rising (list_of values.now) ≡ true }
-        requires place { IsPlace (list_of values.now) self }
+        requires place { IsPlaceOfTarget (list_of values.now) self }
         requires number { self.next < 2 ^ 64 - 1 }
-        ensures place { IsPlace (list_of values.now) result }
+        ensures place { IsPlaceOfTarget (list_of values.now) result }
         ensures target { result.target ≡ self.next + 1 }
     {
+        // That there are fewer numbers than 2 ^ 32 is known of their count.
         let _count = values.num_vals();
         let at = self.at + 1;
         Place {
@@ -95,8 +103,8 @@ impl Place {
     #[inline(always)]
     pub fn seek(self, values: &U64Values, target: u64) -> Place
         requires rising { is_rising (list_of values.now) ≡ true }
-        requires place { IsPlace (list_of values.now) self }
-        ensures place { IsPlace (list_of values.now) result }
+        requires place { IsPlaceOfTarget (list_of values.now) self }
+        ensures place { IsPlaceOfTarget (list_of values.now) result }
         ensures target { result.target ≡ target }
     {
         match self.near(values, target) {
@@ -109,8 +117,8 @@ impl Place {
     #[inline(always)]
     pub fn near(self, values: &U64Values, target: u64) -> Option<Place>
         requires rising { is_rising (list_of values.now) ≡ true }
-        requires place { IsPlace (list_of values.now) self }
-        ensures place { IfSome result (λ near. IsPlace (list_of values.now) near) }
+        requires place { IsPlaceOfTarget (list_of values.now) self }
+        ensures place { IfSome result (λ near. IsPlaceOfTarget (list_of values.now) near) }
         ensures target { IfSome result (λ near. near.target ≡ target) }
     {
         if target < self.target {
@@ -129,8 +137,8 @@ impl Place {
     /// The place of a target anywhere; in few steps where it isn't far behind this one.
     pub fn far(self, values: &U64Values, target: u64) -> Place
         requires rising { is_rising (list_of values.now) ≡ true }
-        requires place { IsPlace (list_of values.now) self }
-        ensures place { IsPlace (list_of values.now) result }
+        requires place { IsPlaceOfTarget (list_of values.now) self }
+        ensures place { IsPlaceOfTarget (list_of values.now) result }
         ensures target { result.target ≡ target }
     {
         if target < self.target {
@@ -142,7 +150,7 @@ impl Place {
     /// The place of a target, by how many numbers are below it.
     pub fn of(values: &U64Values, at: u32, target: u64) -> Place
         requires { at ≡ rank (list_of values.now) target }
-        ensures place { IsPlace (list_of values.now) result }
+        ensures place { IsPlaceOfTarget (list_of values.now) result }
         ensures target { result.target ≡ target }
     {
         Place {

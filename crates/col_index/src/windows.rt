@@ -82,7 +82,7 @@ fn fill_by(
     ensures position { result.position ≡ position }
     ensures some { 0 < result.len }
 {
-    // There are fewer offsets than 2 ^ 32.
+    // That there are fewer offsets than 2 ^ 32 is known of their count.
     let _count = starts.num_vals();
     let behind = position as u64 + 1;
     let mut marks = [0; TABLE_LEN];

@@ -5,7 +5,7 @@ use Rattle.std.proofs.lemmas.Bool.{lt-ltb, eqb-true, and_parts, and_from, true�
 use Rattle.std.proofs.lemmas.Grind.{get_or_default_zero}
 use Rattle.col_common.specs.Ascending.{is_rising, is_never_falling, differences}
 use Rattle.col_model.specs.Index.{are_offsets}
-use Rattle.col_indexer.specs.Builders.{Recorded, IsAfter, IsRecording, with_value}
+use Rattle.col_indexer.specs.Builders.{RecordedRows, IsAfter, IsRecording, with_value}
 use Rattle.col_indexer.proofs.RecordedLists.{all-push, rising-push, last_of, never_falling-again, differences-again, all-last, never_falling-raised, differences-raised, all-raised, last-sum, first_is_zero}
 
 -- ---- what builders hold
@@ -122,15 +122,28 @@ begun-some [] kept base k e b = absurd (true≢false (sym (e ∙ ap (λ xs. leng
 begun-some (x ∷ xs) kept base k e b = b ∙ k
 
 -- what a builder shows, and what it shows of a row more
-abbrev pub shown_of : List ℕ → List ℕ → Recorded
+abbrev pub shown_of : List ℕ → List ℕ → RecordedRows
 shown_of rows offsets = record { rows = rows; counts = differences offsets }
 
+-- a value may be recorded: a row is there, and few values are
+pub record HasRoom (rows offsets : List ℕ) : Type 0 where
+  pub some : 0 < length rows
+  pub few : sum (differences offsets) < 2 ^ 32 - 1
+
+-- what is shown tells it
+pub room-shown : (rows offsets : List ℕ) (shown : RecordedRows) → shown_of rows offsets ≡ shown → 0 < length shown.rows
+    → sum shown.counts < 2 ^ 32 - 1 → HasRoom rows offsets
+room-shown rows offsets shown e some few = record {
+  some = subst (λ (r : RecordedRows). 0 < length r.rows) (sym e) some;
+  few = subst (λ (r : RecordedRows). sum r.counts < 2 ^ 32 - 1) (sym e) few;
+}
+
 -- the same with one row more, which has no value
-abbrev pub more_shown : Recorded → ℕ → Recorded
+abbrev pub more_shown : RecordedRows → ℕ → RecordedRows
 more_shown r row = record { rows = r.rows ++ row ∷ []; counts = r.counts ++ 0 ∷ [] }
 
 -- one row more is shown as that row with no value
-pub row-shown : (rows offsets rows' offsets' : List ℕ) (row : ℕ) (shown : Recorded) → rows' ≡ rows ++ row ∷ []
+pub row-shown : (rows offsets rows' offsets' : List ℕ) (row : ℕ) (shown : RecordedRows) → rows' ≡ rows ++ row ∷ []
     → differences offsets' ≡ differences offsets ++ 0 ∷ [] → shown_of rows offsets ≡ shown
     → shown_of rows' offsets' ≡ more_shown shown row
 row-shown rows offsets rows' offsets' row shown e d v =

@@ -9,11 +9,12 @@ use Rattle.col_model.specs.Packed.{width, is_width, packed_bytes, number_of}
 use Rattle.col_model.specs.Stats.{Stats, stats_of, steps_of, stats_bytes}
 use Rattle.col_model.specs.U64List.{LinearParams}
 use Rattle.col_model.specs.Codecs.{chosen_codec, chosen_before, is_not_below, estimate, bitpacked_estimate, linear_estimate, bitpacked_body, linear_body, linear_line, params_bytes, packed_len, packed_offsets, line_len, stats_len, steps_above, offsets_from, codec_bytes, block_size}
-use Rattle.col_model.proofs.BlockLaws.{length-group_bytes}
+use Rattle.col_model.proofs.BlockLaws.{length-group_bytes, vint_bytes-most}
 use Rattle.col_model.proofs.CodecLaws.{is_width-width, linear_line-writable}
 use Rattle.col_model.proofs.LinearLaws.{length-offsets_from}
 use Rattle.std.proofs.lemmas.List.{length-map}
-use Rattle.col_indexer.specs.Spelling.{index_codecs, list_bytes}
+use Rattle.col_model.proofs.WidthLaws.{width-most}
+use Rattle.col_indexer.specs.Spelling.{index_codecs, index_list_bytes}
 
 -- ---- a body is as long as its estimate
 
@@ -73,13 +74,6 @@ pub record IsPicked (xs : List ℕ) (codec : ℕ) : Type 0 where
   pub estimated : estimate xs codec ≡ Some bytes
   pub long : length (codec_bytes codec xs) ≡ 1 + bytes
   pub most : bytes ≤ 115 + 8 * length xs
-
--- a number is spelled by at most 19 bytes
-pub vint_bytes-most : (n : ℕ) → length (vint_bytes n) ≤ 19
-vint_bytes-most n = length-group_bytes 19 n
-
-width-most : (w : ℕ) → is_width w ≡ true → w ≤ 64
-width-most w e = grind (arith, nat_tests)
 
 packed_len-most : (n w : ℕ) → is_width w ≡ true → packed_len n w ≤ 8 * n
 packed_len-most n w e = omega (arith, mul-le-mul_left n (width-most w e))
@@ -151,12 +145,12 @@ index_codec xs = by_estimate (linear_estimate xs) refl
         (by_test e p (nat_le (bitpacked_estimate xs) e))
 
 -- a list of an index is spelled under the codec that is chosen
-pub list_bytes-picked : (xs : List ℕ) (codec : ℕ) → chosen_codec xs index_codecs ≡ Some codec → list_bytes xs ≡ codec_bytes codec xs
-unfolding list_bytes
+pub list_bytes-picked : (xs : List ℕ) (codec : ℕ) → chosen_codec xs index_codecs ≡ Some codec → index_list_bytes xs ≡ codec_bytes codec xs
+unfolding index_list_bytes
 list_bytes-picked xs codec e = ap (λ c. codec_bytes (unwrap_or c 0) xs) e
 
 -- a list of an index takes at most 116 bytes and eight for each item
-pub list_bytes-most : (xs : List ℕ) → length (list_bytes xs) ≤ 116 + 8 * length xs
+pub list_bytes-most : (xs : List ℕ) → length (index_list_bytes xs) ≤ 116 + 8 * length xs
 list_bytes-most xs =
     let p = index_codec xs in
     omega (arith, ap length (list_bytes-picked xs p.0 p.1) ∙ p.2.long, p.2.most)

@@ -4,7 +4,7 @@ use Rattle.std.proofs.lemmas.Bool.{eq-eqb, and_from}
 use Rattle.col_common.specs.Ascending.{is_rising, are_below, differences}
 use Rattle.col_model.specs.Index.{are_offsets, are_starts}
 use Rattle.col_model.specs.Positions.{starts_after, starts_of}
-use Rattle.col_indexer.specs.Builders.{Recorded, IsRecording, AllHaveValues, recorded_index}
+use Rattle.col_indexer.specs.Builders.{RecordedRows, IsRecording, AllHaveValues, recorded_index}
 use Rattle.col_indexer.specs.Spelling.{offsets_by_rows, AreOffsetsOf32}
 use Rattle.col_index.specs.Offsets.{AreOffsets}
 use Rattle.col_indexer.proofs.RecordedLists.{starts-recorded, first_is_zero, rising-recorded}
@@ -22,7 +22,7 @@ recorded-starts rows (x ∷ xs) r a =
 -- ---- the index of what was recorded
 
 -- the rows and offsets that a builder recorded make the index of what it showed
-pub recorded-index : (n : ℕ) (rows offsets rows' starts : List ℕ) (shown : Recorded) → IsRecording rows offsets
+pub recorded-index : (n : ℕ) (rows offsets rows' starts : List ℕ) (shown : RecordedRows) → IsRecording rows offsets
     → shown_of rows offsets ≡ shown → AllHaveValues shown.counts → rows' ≡ rows → starts ≡ begun offsets
     → offsets_by_rows n rows' starts ≡ recorded_index n shown
 recorded-index n rows offsets rows' starts shown r v a e b =
@@ -33,7 +33,7 @@ recorded-index n rows offsets rows' starts shown r v a e b =
     first ∙ second ∙ ap (recorded_index n) v
 
 -- what was recorded is an index
-pub recorded-offsets : (n : ℕ) (rows offsets : List ℕ) (shown : Recorded) → IsRecording rows offsets
+pub recorded-offsets : (n : ℕ) (rows offsets : List ℕ) (shown : RecordedRows) → IsRecording rows offsets
     → shown_of rows offsets ≡ shown → n < 2 ^ 32 → are_below n shown.rows ≡ true → AllHaveValues shown.counts
     → AreOffsetsOf32 (recorded_index n shown)
 recorded-offsets n rows offsets shown r v fits below a =

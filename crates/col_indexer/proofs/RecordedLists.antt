@@ -6,6 +6,7 @@ use Rattle.std.proofs.lemmas.List.Sums.{sum_by-cons}
 use Rattle.col_common.specs.Ascending.{is_rising, is_never_falling, differences}
 use Rattle.col_model.specs.Index.{are_offsets}
 use Rattle.col_model.specs.Positions.{starts_after}
+use Rattle.col_model.proofs.KeyLaws.{positive}
 use Rattle.col_indexer.specs.Builders.{IsAfter, AllHaveValues, with_value}
 
 -- ---- a row more
@@ -91,10 +92,6 @@ last-sum x (y ∷ ys) e =
 
 -- ---- offsets of rows that all have values
 
-not_zero : (n : ℕ) → not (n == 0) ≡ true → 0 < n
-not_zero zero e = absurd (true≢false (sym e))
-not_zero (suc n) e = omega arith
-
 -- numbers whose differences are all above 0 are, from the first on, the starts of rows with these
 -- counts
 pub starts-recorded : (x : ℕ) (xs : List ℕ) → is_never_falling (x ∷ xs) ≡ true
@@ -124,5 +121,5 @@ rising-recorded x (y ∷ ys) e a =
     let parts = and_parts (nat_le x y) (is_never_falling (y ∷ ys)) e in
     let more = and_parts (not (y - x == 0)) (list_all (λ c. not (c == 0)) (differences (y ∷ ys))) a in
     let up = leb-true x y parts.0 in
-    let apart = not_zero (y - x) more.0 in
+    let apart = positive (y - x) more.0 in
     and_from (nat_lt x y) (is_rising (y ∷ ys)) (lt-ltb x y (omega arith)) (rising-recorded y ys parts.1 more.1)

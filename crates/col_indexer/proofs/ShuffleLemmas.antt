@@ -74,6 +74,31 @@ pub pick-there : (indexes : List ColumnIndex) (addrs : List RowAddr) (p : Picked
     (get_or addrs k d).row_id → (k < length (shuffled_counts p)) × (get_or (shuffled_counts p) k 0 ≡ n)
 pick-there indexes addrs p k n d are h e = (omega (arith, length-walked indexes addrs p are), count-there indexes addrs p k n d are h e)
 
+-- what is read where there is no address
+abbrev pub nowhere : RowAddr
+nowhere = record { segment_ord = 0; row_id = 0 }
+
+-- how many values the row has that an address names
+abbrev pub count_of : List ColumnIndex → RowAddr → ℕ
+count_of indexes a = count_in (slice_index_or (map shape_of indexes) a.segment_ord (empty_shape 0)) a.row_id
+
+module _ (indexes : List ColumnIndex) (addrs : List RowAddr) (order : Shuffle) (k : ℕ) (lent : map address_of addrs ≡ order.addresses) where
+  -- the segment of an address that an order lends has an index
+  pub segment-walked : FitSegments order.counts (map shape_of indexes) → list_all (has_row order.counts) order.addresses ≡ true
+      → k < length addrs → (get_or addrs k nowhere).segment_ord < length indexes
+  segment-walked fit named h =
+      segment-there indexes addrs order.counts k nowhere fit (ap (λ all. list_all (has_row order.counts) all) lent ∙ named) h
+
+  module _ (p : Picked) (view : ◌≡◌ {A = Picked} (record { shapes = map shape_of indexes; order = order }) p) where
+    -- the count of a pick that is walked is that of the row that its address names
+    pub pick-walked : k < length addrs
+        → (k < length (shuffled_counts p)) × (get_or (shuffled_counts p) k 0 ≡ count_of indexes (get_or addrs k nowhere))
+    pick-walked h = pick-there indexes addrs p k _ nowhere (are_of indexes addrs order p view lent) h refl
+
+    -- behind the last address there is no count
+    pub walked-end : length addrs ≤ k → length (shuffled_counts p) ≤ k
+    walked-end h = omega (arith, length-walked indexes addrs p (are_of indexes addrs order p view lent))
+
 -- what a test tells of a count of 0
 pub count-none : (n : ℕ) → false ≡ not (n == 0) → n ≡ 0
 count-none n e = grind (arith, nat_tests)

@@ -1,6 +1,6 @@
 -- What is written of an index is read back.
 use Rattle.std.proofs.Common.{◌≡◌, ℕ, ◌+◌, ◌^◌, ◌<◌, ◌≤◌, ◌-◌, ◌==◌, ◌&&◌, nat_lt, nat_le, true, false, List, [], ◌∷◌, length, Some, refl, ap, ◌∙◌, arith, lit≤, append_assoc, length-append}
-use Rattle.std.specs.List.{AllByRecursion, list_all}
+use Rattle.std.specs.List.{list_all}
 use Rattle.std.specs.Int.{w64, to_le_bytes}
 use Rattle.std.proofs.lemmas.Bool.{and_parts, eqb-true, leb-false, lt-ltb, ltb-true}
 use Rattle.col_common.specs.VInt.{vint_bytes}
@@ -12,8 +12,9 @@ use Rattle.col_model.specs.Version.{current_version}
 use Rattle.col_model.proofs.ChosenLaws.{values64-chosen}
 use Rattle.col_model.proofs.ReadingLaws.{parts_by_first-w64}
 use Rattle.col_index.specs.Sets.{AreRows}
-use Rattle.col_indexer.specs.Spelling.{Index, full_index, optional_index, multivalued_index, index_codecs, list_bytes, row_set_bytes, row_offsets_bytes, index_bytes, index_shape, AreRowsOf32, AreOffsetsOf32, IsIndex, is_past_limit}
-use Rattle.col_indexer.proofs.ByteCountLemmas.{index_codec, list_bytes-picked, list_bytes-most, vint_bytes-most}
+use Rattle.col_model.proofs.BlockLaws.{vint_bytes-most}
+use Rattle.col_indexer.specs.Spelling.{Index, full_index, optional_index, multivalued_index, index_codecs, index_list_bytes, row_set_bytes, row_offsets_bytes, index_bytes, index_shape, AreRowsOf32, AreOffsetsOf32, IsIndex, is_past_limit}
+use Rattle.col_indexer.proofs.ByteCountLemmas.{index_codec, list_bytes-picked, list_bytes-most}
 
 -- numbers below one are below a greater one
 all_below : (n m : ℕ) (xs : List ℕ) → n ≤ m → list_all (λ x. nat_lt x n) xs ≡ true → AreBelow m xs
@@ -44,12 +45,12 @@ rows-few s a =
 
 -- ---- reading back
 
-list-back : (xs : List ℕ) → AreBelow (2 ^ 64) xs → length xs < 2 ^ 32 → values64 (list_bytes xs) ≡ Some xs
+list-back : (xs : List ℕ) → AreBelow (2 ^ 64) xs → length xs < 2 ^ 32 → values64 (index_list_bytes xs) ≡ Some xs
 list-back xs all few =
     let p = index_codec xs in ap values64 (list_bytes-picked xs p.0 p.1) ∙ values64-chosen index_codecs xs p.0 all
     few p.1
 
-rows-back : (s : RowSet) → AreRowsOf32 s → values64 (list_bytes s.rows) ≡ Some s.rows
+rows-back : (s : RowSet) → AreRowsOf32 s → values64 (index_list_bytes s.rows) ≡ Some s.rows
 rows-back s a =
     let fits = a.fits in
     list-back s.rows (all_below s.num_rows (2 ^ 64) s.rows (omega arith)
@@ -61,7 +62,7 @@ pub row_set-back : (s : RowSet) → AreRowsOf32 s → row_set (row_set_bytes s) 
 unfolding row_set row_set_bytes
 row_set-back s a =
     let fits = a.fits in
-    rw (vint-vint_bytes s.num_rows (list_bytes s.rows) (omega arith), rows-back s a, lt-ltb s.num_rows (2 ^ 32) fits, a.rows) refl
+    rw (vint-vint_bytes s.num_rows (index_list_bytes s.rows) (omega arith), rows-back s a, lt-ltb s.num_rows (2 ^ 32) fits, a.rows) refl
 
 -- one offset more than rows
 pub starts-few : (o : RowOffsets) → AreOffsetsOf32 o → nat_le (2 ^ 32 - 1) (length o.set.rows) ≡ false → length o.starts < 2 ^ 32
@@ -73,7 +74,7 @@ starts-few o a few =
     omega arith
 
 starts-back : (o : RowOffsets) → AreOffsetsOf32 o → nat_le (2 ^ 32 - 1) (length o.set.rows) ≡ false
-    → values64 (list_bytes o.starts) ≡ Some o.starts
+    → values64 (index_list_bytes o.starts) ≡ Some o.starts
 starts-back o a few =
     let offsets = (and_parts (are_offsets o.starts && is_rising o.starts) _ a.offsets.starts).0 in
     let below = (and_parts (are_offsets o.starts) (is_rising o.starts) offsets).0 in
@@ -86,7 +87,7 @@ unfolding row_set_bytes
 row_set_bytes-few s a =
     omega (
       arith,
-      length-append (vint_bytes s.num_rows) (list_bytes s.rows),
+      length-append (vint_bytes s.num_rows) (index_list_bytes s.rows),
       vint_bytes-most s.num_rows,
       list_bytes-most s.rows,
       rows-few s a.rows,
@@ -103,8 +104,8 @@ row_offsets-back o a limit =
     let few = row_set_bytes-few o.set set in
     let long : length (row_set_bytes o.set) < 2 ^ 64 = omega arith in
     rw (
-      ← append_assoc (row_set_bytes o.set) (list_bytes o.starts) (to_le_bytes w64 (length (row_set_bytes o.set))),
-      parts_by_first-w64 (row_set_bytes o.set) (list_bytes o.starts) long,
+      ← append_assoc (row_set_bytes o.set) (index_list_bytes o.starts) (to_le_bytes w64 (length (row_set_bytes o.set))),
+      parts_by_first-w64 (row_set_bytes o.set) (index_list_bytes o.starts) long,
       row_set-back o.set set,
       starts-back o a limit,
       a.offsets.starts,

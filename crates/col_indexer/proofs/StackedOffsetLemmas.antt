@@ -31,9 +31,24 @@ pub sum_read : (indexes : List ColumnIndex) (counts : List ℕ) (k n : ℕ) (ind
     → sum (counts_in n (shape_of index)) ≡ sum (segment_counts (index_segments indexes counts) k)
 sum_read indexes counts k n index fit within e f = ap sum (segment_read indexes counts k n index fit within e f)
 
--- a segment's values are few
-pub sum_fits : (s : Segments) (k : ℕ) → AreSegments s → k < length s.counts → sum (segment_counts s k) < 2 ^ 32
-sum_fits s k are within = let few = are.few_values in omega (arith, values_within s k are.fit within)
+-- its values stand among all values
+pub values-fit : (indexes : List ColumnIndex) (counts : List ℕ) (k n b : ℕ) (index : ColumnIndex)
+    → AreSegments (index_segments indexes counts) → k < length counts → n ≡ get_or counts k 0
+    → index ≡ get_or indexes k index → b ≡ values_before (index_segments indexes counts) k
+    → b + sum (counts_in n (shape_of index)) < 2 ^ 32
+values-fit indexes counts k n b index are within e f g =
+    let few = are.few_values in
+    omega (
+      arith,
+      sum_read indexes counts k n index are.fit within e f,
+      values_within (index_segments indexes counts) k are.fit within,
+    )
+
+-- and are few
+pub values-few : (indexes : List ColumnIndex) (counts : List ℕ) (k n : ℕ) (index : ColumnIndex)
+    → AreSegments (index_segments indexes counts) → k < length counts → n ≡ get_or counts k 0
+    → index ≡ get_or indexes k index → sum (counts_in n (shape_of index)) < 2 ^ 32
+values-few indexes counts k n index are within e f = omega (arith, values-fit indexes counts k n _ index are within e f refl)
 
 module _ (s : Segments) (a b : Walk) (are : AreSegments s) (stands : StandsAtOffset s a) where
   -- the first offset of all is given where the place is 0

@@ -47,6 +47,24 @@ segment_read indexes counts k n index fit within e f =
     ∙ ap (λ i. counts_in (get_or counts k 0) (shape_of i)) f
     ∙ ap (counts_in (get_or counts k 0)) (sym (get_or-map shape_of indexes k index (empty_shape 0) (omega arith)))
 
+-- its rows stand among all rows
+pub rows-fit : (indexes : List ColumnIndex) (counts : List ℕ) (k n b : ℕ) (index : ColumnIndex)
+    → AreSegments (index_segments indexes counts) → k < length counts → n ≡ get_or counts k 0
+    → index ≡ get_or indexes k index → b ≡ start_of counts k → b + length (counts_in n (shape_of index)) < 2 ^ 32
+rows-fit indexes counts k n b index are within e f g =
+    let s = index_segments indexes counts in
+    let few = are.few_rows in
+    omega (
+      arith,
+      ap length (segment_read indexes counts k n index are.fit within e f),
+      length-segment s k are.fit within,
+      rows_within s k are.fit within,
+    )
+
+-- the walk at the next place
+abbrev pub next_place : Walk → Walk
+next_place w = record { segment = w.segment; place = w.place + 1; inner = w.inner; sum = w.sum }
+
 -- ---- rows
 
 -- what was read of the segment's rows

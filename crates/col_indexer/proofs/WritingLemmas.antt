@@ -12,7 +12,7 @@ use Rattle.col_common.proofs.SerializingLemmas.{serializes-then, serializes-stop
 use Rattle.col_model.specs.Table.{cardinality_code}
 use Rattle.col_model.specs.Index.{RowSet, RowOffsets}
 use Rattle.col_model.specs.Codecs.{chosen_codec, codec_bytes, estimate}
-use Rattle.col_indexer.specs.Spelling.{Index, full_index, optional_index, multivalued_index, index_codecs, list_bytes, row_set_bytes, row_offsets_bytes, body_bytes, index_bytes, AreRowsOf32, AreOffsetsOf32, IsIndex, is_past_limit}
+use Rattle.col_indexer.specs.Spelling.{Index, full_index, optional_index, multivalued_index, index_codecs, index_list_bytes, row_set_bytes, row_offsets_bytes, body_bytes, index_bytes, AreRowsOf32, AreOffsetsOf32, IsIndex, is_past_limit}
 use Rattle.col_indexer.specs.Written.{cardinality_written}
 use Rattle.col_indexer.proofs.ByteCountLemmas.{index_codec, list_bytes-picked, list_bytes-most}
 use Rattle.col_indexer.proofs.SpellingLemmas.{row_set_bytes-few, starts-few}
@@ -29,7 +29,7 @@ at_picked P xs h =
 pub list-written : (old new : SeenSink) (result : Result (Unit {0}) ColumnarError) (xs : List ℕ)
     → length xs < 2 ^ 32 → IfSome (chosen_codec (map (λ x. x) xs) index_codecs)
     (λ codec. length xs < 2 ^ 32 → Serializes old new result (codec_bytes codec (map (λ x. x) xs)))
-    → Serializes old new result (list_bytes xs)
+    → Serializes old new result (index_list_bytes xs)
 list-written old new result xs few h =
     let p = index_codec xs in
     let at = at_picked (λ codec ys. length xs < 2 ^ 32 → Serializes old new result (codec_bytes codec ys)) xs h few in
@@ -38,7 +38,7 @@ list-written old new result xs few h =
 -- it takes one byte more than its estimate
 pub list-long : (xs : List ℕ) (n : ℕ)
     → IfSome (chosen_codec (map (λ x. x) xs) index_codecs) (λ codec. estimate (map (λ x. x) xs) codec ≡ Some n)
-    → 1 + n ≡ length (list_bytes xs)
+    → 1 + n ≡ length (index_list_bytes xs)
 list-long xs n h =
     let p = index_codec xs in
     let e = same_Some _ _ (sym p.2.estimated ∙ at_picked (λ codec ys. estimate ys codec ≡ Some n) xs h) in
@@ -55,56 +55,57 @@ list-fits xs n few h = omega (arith, list-long xs n h, list_bytes-most xs)
 -- rows with a value are written as their count and their list
 pub row_set-written :
     (a b d : SeenSink) (end : Unit {0}) (result : Result (Unit {0}) ColumnarError) (count : ℕ) (s : RowSet)
-    → count ≡ s.num_rows → Serializes a b (Ok end) (vint_bytes count) → Serializes b d result (list_bytes s.rows)
+    → count ≡ s.num_rows → Serializes a b (Ok end) (vint_bytes count) → Serializes b d result (index_list_bytes s.rows)
     → Serializes a d result (row_set_bytes s)
 unfolding row_set_bytes
 row_set-written a b d end result count s e front rest =
-    serializes-then a b d end result (vint_bytes s.num_rows) (list_bytes s.rows)
+    serializes-then a b d end result (vint_bytes s.num_rows) (index_list_bytes s.rows)
     (subst (λ c. Serializes a b (Ok end) (vint_bytes c)) e front) rest
 
 -- the count and the list are as long as the bytes of the rows with a value
 pub row_set-long : (count front rest : ℕ) (s : RowSet) → count ≡ s.num_rows → front ≡ length (vint_bytes count)
-    → rest ≡ length (list_bytes s.rows) → front + rest ≡ length (row_set_bytes s)
+    → rest ≡ length (index_list_bytes s.rows) → front + rest ≡ length (row_set_bytes s)
 unfolding row_set_bytes
 row_set-long count front rest s e f r =
     let same : front ≡ length (vint_bytes s.num_rows) = f ∙ ap (λ c. length (vint_bytes c)) e in
-    omega (arith, length-append (vint_bytes s.num_rows) (list_bytes s.rows))
+    omega (arith, length-append (vint_bytes s.num_rows) (index_list_bytes s.rows))
 
 -- ---- rows and start offsets
 
 -- the offsets were not written to their end
 pub offsets-stopped : (a b d : SeenSink) (end : Unit {0}) (e : ColumnarError) (o : RowOffsets)
-    → Serializes a b (Ok end) (row_set_bytes o.set) → Serializes b d (Err e) (list_bytes o.starts)
+    → Serializes a b (Ok end) (row_set_bytes o.set) → Serializes b d (Err e) (index_list_bytes o.starts)
     → Serializes a d (Err e) (row_offsets_bytes o)
 offsets-stopped a b d end e o rows starts =
-    serializes-stopped a d e (row_set_bytes o.set ++ list_bytes o.starts) (row_offsets_bytes o)
-    (serializes-then a b d end (Err e) (row_set_bytes o.set) (list_bytes o.starts) rows starts)
+    serializes-stopped a d e (row_set_bytes o.set ++ index_list_bytes o.starts) (row_offsets_bytes o)
+    (serializes-then a b d end (Err e) (row_set_bytes o.set) (index_list_bytes o.starts) rows starts)
 
 -- rows with start offsets are written as the rows, the offsets and the length of the rows' bytes
 pub row_offsets-written : (a b d f : SeenSink) (end : Unit {0}) (result : Result (Unit {0}) ColumnarError) (len : ℕ)
     (bytes : List ℕ) (o : RowOffsets) → len ≡ length (row_set_bytes o.set) → bytes ≡ to_le_bytes w64 len
-    → Serializes a b (Ok end) (row_set_bytes o.set) → Serializes b d (Ok end) (list_bytes o.starts)
+    → Serializes a b (Ok end) (row_set_bytes o.set) → Serializes b d (Ok end) (index_list_bytes o.starts)
     → Serializes d f result bytes → Serializes a f result (row_offsets_bytes o)
 unfolding row_offsets_bytes
 row_offsets-written a b d f end result len bytes o e same rows starts rest =
-    serializes-then a b f end result (row_set_bytes o.set) (list_bytes o.starts ++ to_le_bytes w64 (length (row_set_bytes o.set))) rows
-    (serializes-then b d f end result (list_bytes o.starts) (to_le_bytes w64 (length (row_set_bytes o.set))) starts
+    let length_bytes = to_le_bytes w64 (length (row_set_bytes o.set)) in
+    serializes-then a b f end result (row_set_bytes o.set) (index_list_bytes o.starts ++ length_bytes) rows
+    (serializes-then b d f end result (index_list_bytes o.starts) length_bytes starts
     (subst (Serializes d f result) (same ∙ ap (to_le_bytes w64) e) rest))
 
 -- the rows, the offsets and eight bytes are as long as the bytes of both
 pub row_offsets-long : (front rest : ℕ) (o : RowOffsets) → front ≡ length (row_set_bytes o.set)
-    → rest ≡ length (list_bytes o.starts) → front + rest + 8 ≡ length (row_offsets_bytes o)
+    → rest ≡ length (index_list_bytes o.starts) → front + rest + 8 ≡ length (row_offsets_bytes o)
 unfolding row_offsets_bytes
 row_offsets-long front rest o f r =
-    let behind : length (list_bytes o.starts ++ to_le_bytes w64 (length (row_set_bytes o.set))) ≡ length
-    (list_bytes o.starts) + 8 = length-append (list_bytes o.starts)
+    let behind : length (index_list_bytes o.starts ++ to_le_bytes w64 (length (row_set_bytes o.set))) ≡ length
+    (index_list_bytes o.starts) + 8 = length-append (index_list_bytes o.starts)
     (to_le_bytes w64 (length (row_set_bytes o.set))) in
-    omega (arith, length-append (row_set_bytes o.set) (list_bytes o.starts ++ to_le_bytes w64 (length (row_set_bytes o.set))))
+    omega (arith, length-append (row_set_bytes o.set) (index_list_bytes o.starts ++ to_le_bytes w64 (length (row_set_bytes o.set))))
 
 -- 64 bits say how long they are
 pub row_offsets-fits : (front rest : ℕ) (o : RowOffsets) → AreOffsetsOf32 o
     → nat_le (2 ^ 32 - 1) (length o.set.rows) ≡ false → front ≡ length (row_set_bytes o.set)
-    → rest ≡ length (list_bytes o.starts) → front + rest < 2 ^ 37
+    → rest ≡ length (index_list_bytes o.starts) → front + rest < 2 ^ 37
 row_offsets-fits front rest o a limit f r =
     let set : AreRowsOf32 o.set = record { rows = a.offsets.rows; fits = a.fits } in
     omega (arith, row_set_bytes-few o.set set, list_bytes-most o.starts, starts-few o a limit)
@@ -137,6 +138,6 @@ index-fits rest (optional_index s) a limit e = omega (arith, row_set_bytes-few s
 index-fits rest (multivalued_index o) a limit e =
     omega (
       arith,
-      row_offsets-fits (length (row_set_bytes o.set)) (length (list_bytes o.starts)) o a limit refl refl,
-      row_offsets-long (length (row_set_bytes o.set)) (length (list_bytes o.starts)) o refl refl,
+      row_offsets-fits (length (row_set_bytes o.set)) (length (index_list_bytes o.starts)) o a limit refl refl,
+      row_offsets-long (length (row_set_bytes o.set)) (length (index_list_bytes o.starts)) o refl refl,
     )

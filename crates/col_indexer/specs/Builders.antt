@@ -10,12 +10,12 @@ abbrev pub IsAfter : List ℕ → ℕ → Type 0
 IsAfter rows row = are_below row rows ≡ true
 
 -- rows that were recorded, each with its number of values
-pub record Recorded : Type 0 where
+pub record RecordedRows : Type 0 where
   pub rows : List ℕ
   pub counts : List ℕ
 
 -- nothing was recorded
-abbrev pub nothing_recorded : Recorded
+abbrev pub nothing_recorded : RecordedRows
 nothing_recorded = record { rows = []; counts = [] }
 
 -- the last of the rows has one value more
@@ -37,6 +37,6 @@ pub record IsRecording (rows offsets : List ℕ) : Type 0 where
   pub never_fall : is_never_falling offsets ≡ true
 
 -- the index of rows that were recorded
-abbrev pub recorded_index : ℕ → Recorded → RowOffsets
+abbrev pub recorded_index : ℕ → RecordedRows → RowOffsets
 recorded_index n r =
     record { set = record { num_rows = n; rows = r.rows }; starts = starts_of r.counts }

@@ -24,7 +24,7 @@ abbrev pub shuffled_counts : Picked → List ℕ
 shuffled_counts p = picked_counts p.shapes p.order.addresses
 
 -- each shape is of its segment's rows, each pick is one of them; 32 bits count rows and values
-pub record ArePicked (p : Picked) : Type 0 where
+pub record ArePickable (p : Picked) : Type 0 where
   pub fit : FitSegments p.order.counts p.shapes
   pub named : list_all (has_row p.order.counts) p.order.addresses ≡ true
   pub few_rows : length p.order.addresses < 2 ^ 32

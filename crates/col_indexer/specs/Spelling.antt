@@ -13,17 +13,18 @@ abbrev pub index_codecs : List ℕ
 index_codecs = 0 ∷ 1 ∷ []
 
 -- a list of an index, under the codec that is chosen
-unfoldable pub list_bytes : List ℕ → List ℕ
-list_bytes xs = codec_bytes (unwrap_or (chosen_codec xs index_codecs) 0) xs
+unfoldable pub index_list_bytes : List ℕ → List ℕ
+index_list_bytes xs = codec_bytes (unwrap_or (chosen_codec xs index_codecs) 0) xs
 
 -- the row count, and the rows with a value
 unfoldable pub row_set_bytes : RowSet → List ℕ
-row_set_bytes s = vint_bytes s.num_rows ++ list_bytes s.rows
+row_set_bytes s = vint_bytes s.num_rows ++ index_list_bytes s.rows
 
 -- the rows with a value, their start offsets, and how many bytes the rows take
 unfoldable pub row_offsets_bytes : RowOffsets → List ℕ
 row_offsets_bytes o =
-    row_set_bytes o.set ++ (list_bytes o.starts ++ to_le_bytes w64 (length (row_set_bytes o.set)))
+    row_set_bytes o.set
+    ++ (index_list_bytes o.starts ++ to_le_bytes w64 (length (row_set_bytes o.set)))
 
 -- rows of so many rows, and their start offsets
 abbrev pub offsets_by_rows : ℕ → List ℕ → List ℕ → RowOffsets

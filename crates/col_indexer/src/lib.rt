@@ -3,6 +3,7 @@
 #![tactic(auto)]
 
 mod checks;
+mod listed;
 mod merge;
 mod row_ids;
 mod serialize;

@@ -14,9 +14,7 @@ ghost use Rattle.col_indexer.specs.Counted.{tightest_of, HasFew};
 ghost use Rattle.col_indexer.specs.Written.{index_of};
 ghost use Rattle.col_model.specs.Positions.{picked_counts};
 
-use crate::serialize::{
-    SerializableColumnIndex, SerializableMultivalueIndex, SerializableOptionalIndex,
-};
+use crate::serialize::SerializableColumnIndex;
 use crate::shuffled::{has_value_at, values_at};
 use crate::{
     RowIds, ShuffledRowIds, ShuffledStartOffsets, StackedRowIds, StackedStartOffsets, StartOffsets,
@@ -61,31 +59,14 @@ pub fn merge_column_index_stacked<'a>(
     ensures index { IsIndex (index_of result) }
 {
     let num_rows = stack_merge_order.num_rows();
-    match cardinality_after_merge {
-        Cardinality::Full => SerializableColumnIndex::Full,
-        Cardinality::Optional => SerializableColumnIndex::Optional(SerializableOptionalIndex {
-            non_null_row_ids: RowIds::Stacked(StackedRowIds::new(
-                column_indexes,
-                stack_merge_order,
-            )),
-            num_rows,
-        }),
-        Cardinality::Multivalued => {
-            SerializableColumnIndex::Multivalued(SerializableMultivalueIndex {
-                doc_ids_with_values: SerializableOptionalIndex {
-                    non_null_row_ids: RowIds::Stacked(StackedRowIds::new(
-                        column_indexes,
-                        stack_merge_order,
-                    )),
-                    num_rows,
-                },
-                start_offsets: StartOffsets::Stacked(StackedStartOffsets::new(
-                    column_indexes,
-                    stack_merge_order,
-                )),
-            })
-        }
-    }
+    let rows = RowIds::Stacked(StackedRowIds::new(column_indexes, stack_merge_order));
+    let starts = StackedStartOffsets::new(column_indexes, stack_merge_order);
+    SerializableColumnIndex::from_lists(
+        cardinality_after_merge,
+        num_rows,
+        rows,
+        StartOffsets::Stacked(starts),
+    )
 }
 
 /// The index of rows that are named one by one, of their tightest cardinality.
@@ -106,31 +87,14 @@ pub fn merge_column_index_shuffled<'a>(
 {
     shuffle_merge_order.rows_are_there();
     let num_rows = shuffle_merge_order.num_rows();
-    match cardinality_after_merge {
-        Cardinality::Full => SerializableColumnIndex::Full,
-        Cardinality::Optional => SerializableColumnIndex::Optional(SerializableOptionalIndex {
-            non_null_row_ids: RowIds::Shuffled(ShuffledRowIds::new(
-                column_indexes,
-                shuffle_merge_order,
-            )),
-            num_rows,
-        }),
-        Cardinality::Multivalued => {
-            SerializableColumnIndex::Multivalued(SerializableMultivalueIndex {
-                doc_ids_with_values: SerializableOptionalIndex {
-                    non_null_row_ids: RowIds::Shuffled(ShuffledRowIds::new(
-                        column_indexes,
-                        shuffle_merge_order,
-                    )),
-                    num_rows,
-                },
-                start_offsets: StartOffsets::Shuffled(ShuffledStartOffsets::new(
-                    column_indexes,
-                    shuffle_merge_order,
-                )),
-            })
-        }
-    }
+    let rows = RowIds::Shuffled(ShuffledRowIds::new(column_indexes, shuffle_merge_order));
+    let starts = ShuffledStartOffsets::new(column_indexes, shuffle_merge_order);
+    SerializableColumnIndex::from_lists(
+        cardinality_after_merge,
+        num_rows,
+        rows,
+        StartOffsets::Shuffled(starts),
+    )
 }
 
 // The greatest cardinality of the segments.
@@ -152,23 +116,20 @@ fn greater(a: Cardinality, b: Cardinality) -> Cardinality
 }
 
 // The tightest cardinality of the rows that are named. No more rows are looked at than tell it.
-fn shuffled_cardinality(
-    column_indexes: &[ColumnIndex],
-    shuffle_merge_order: &ShuffleMergeOrder,
-) -> Cardinality
-    requires { let s = shuffle_merge_order.now in
-        FitOrder (shuffle s.counts s.addresses) (map shape_of column_indexes.now) }
+fn shuffled_cardinality(indexes: &[ColumnIndex], order: &ShuffleMergeOrder) -> Cardinality
+    requires { let s = order.now in
+        FitOrder (shuffle s.counts s.addresses) (map shape_of indexes.now) }
     ensures { cardinality_of result ≡ tightest_of
-        (picked_counts (map shape_of column_indexes.now) shuffle_merge_order.now.addresses) }
+        (picked_counts (map shape_of indexes.now) order.now.addresses) }
 {
-    shuffle_merge_order.rows_are_there();
-    if are_full(column_indexes) {
+    order.rows_are_there();
+    if are_full(indexes) {
         return Cardinality::Full;
     }
-    if are_sets(column_indexes) {
-        return cardinality_of_sets(column_indexes, shuffle_merge_order);
+    if are_sets(indexes) {
+        return cardinality_of_sets(indexes, order);
     }
-    cardinality_of_counts(column_indexes, shuffle_merge_order)
+    cardinality_of_counts(indexes, order)
 }
 
 // Whether each index is Full, so that each row has one value.
@@ -219,19 +180,16 @@ fn is_set(column_index: &ColumnIndex) -> bool
 }
 
 // The tightest cardinality of the rows that are named, none of which has more than one value.
-fn cardinality_of_sets(
-    column_indexes: &[ColumnIndex],
-    shuffle_merge_order: &ShuffleMergeOrder,
-) -> Cardinality
-    requires fit { let s = shuffle_merge_order.now in
-        FitOrder (shuffle s.counts s.addresses) (map shape_of column_indexes.now) }
-    requires few { AllByRecursion (λ index. HasFew (shape_of index)) column_indexes.now }
+fn cardinality_of_sets(indexes: &[ColumnIndex], order: &ShuffleMergeOrder) -> Cardinality
+    requires fit { let s = order.now in
+        FitOrder (shuffle s.counts s.addresses) (map shape_of indexes.now) }
+    requires few { AllByRecursion (λ index. HasFew (shape_of index)) indexes.now }
     ensures { cardinality_of result ≡ tightest_of
-        (picked_counts (map shape_of column_indexes.now) shuffle_merge_order.now.addresses) }
+        (picked_counts (map shape_of indexes.now) order.now.addresses) }
 {
-    shuffle_merge_order.rows_are_there();
-    for addr in shuffle_merge_order.iter_new_to_old_row_addrs() {
-        if !has_value_at(column_indexes, *addr) {
+    order.rows_are_there();
+    for addr in order.iter_new_to_old_row_addrs() {
+        if !has_value_at(indexes, *addr) {
             return Cardinality::Optional;
         }
     }
@@ -239,19 +197,16 @@ fn cardinality_of_sets(
 }
 
 // The tightest cardinality of the rows that are named.
-fn cardinality_of_counts(
-    column_indexes: &[ColumnIndex],
-    shuffle_merge_order: &ShuffleMergeOrder,
-) -> Cardinality
-    requires { let s = shuffle_merge_order.now in
-        FitOrder (shuffle s.counts s.addresses) (map shape_of column_indexes.now) }
+fn cardinality_of_counts(indexes: &[ColumnIndex], order: &ShuffleMergeOrder) -> Cardinality
+    requires { let s = order.now in
+        FitOrder (shuffle s.counts s.addresses) (map shape_of indexes.now) }
     ensures { cardinality_of result ≡ tightest_of
-        (picked_counts (map shape_of column_indexes.now) shuffle_merge_order.now.addresses) }
+        (picked_counts (map shape_of indexes.now) order.now.addresses) }
 {
-    shuffle_merge_order.rows_are_there();
+    order.rows_are_there();
     let mut tightest = Cardinality::Full;
-    for addr in shuffle_merge_order.iter_new_to_old_row_addrs() {
-        let count = values_at(column_indexes, *addr);
+    for addr in order.iter_new_to_old_row_addrs() {
+        let count = values_at(indexes, *addr);
         if count > 1 {
             return Cardinality::Multivalued;
         }

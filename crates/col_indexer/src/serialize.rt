@@ -6,10 +6,11 @@ ghost use Rattle.col_model.specs.Positions.{rows_with_value, starts_of};
 ghost use Rattle.col_numbers.specs.Written.{done};
 ghost use Rattle.col_index.specs.Versions.{cardinality_of};
 ghost use Rattle.col_indexer.specs.RowViews.{rows_of};
-ghost use Rattle.col_indexer.specs.OffsetViews.{offsets_of};
+ghost use Rattle.col_indexer.specs.OffsetViews.{start_offsets_of};
 ghost use Rattle.col_indexer.specs.Stacks.{stacked_counts};
-ghost use Rattle.col_indexer.specs.Spelling.{list_bytes, row_set_bytes, AreRowsOf32};
+ghost use Rattle.col_indexer.specs.Spelling.{index_list_bytes, row_set_bytes, AreRowsOf32};
 ghost use Rattle.col_indexer.specs.Spelling.{optional_index, IsIndex};
+ghost use Rattle.col_indexer.specs.Written.{SerializesIndexList};
 
 use crate::{RowIds, StackedRowIds, StackedStartOffsets, StartOffsets, indexes_are_read_back};
 use col_common::{ColumnarError, Iterable, RowId, Sink, VInt};
@@ -163,9 +164,8 @@ fn serialize_rows<K: Sink>(
     sink: &mut K,
 ) -> Result<u64, ColumnarError>
     requires { length (rows_of rows.now) < 2 ^ 32 }
-    ensures ok { Serializes (K.seen sink.old) (K.seen sink.new) (done result)
-        (list_bytes (rows_of rows.now)) }
-    ensures length { IfOk result (λ n. n ≡ length (list_bytes (rows_of rows.now))) }
+    ensures ok { SerializesIndexList (K.seen sink.old) (K.seen sink.new) result (rows_of rows.now) }
+    ensures length { IfOk result (λ n. n ≡ length (index_list_bytes (rows_of rows.now))) }
 {
     match rows {
         RowIds::Slice(rows) => serialize_list(alloc, rows, sink),
@@ -184,10 +184,11 @@ pub(crate) fn serialize_starts<K: Sink>(
     starts: &StartOffsets<'_>,
     sink: &mut K,
 ) -> Result<u64, ColumnarError>
-    requires { length (offsets_of starts.now) < 2 ^ 32 }
-    ensures ok { Serializes (K.seen sink.old) (K.seen sink.new) (done result)
-        (list_bytes (offsets_of starts.now)) }
-    ensures length { IfOk result (λ n. n ≡ length (list_bytes (offsets_of starts.now))) }
+    requires { length (start_offsets_of starts.now) < 2 ^ 32 }
+    ensures ok { SerializesIndexList (K.seen sink.old) (K.seen sink.new) result
+        (start_offsets_of starts.now) }
+    ensures length { IfOk result (λ n.
+        n ≡ length (index_list_bytes (start_offsets_of starts.now))) }
 {
     match starts {
         StartOffsets::Slice(starts) => serialize_list(alloc, starts, sink),
@@ -209,10 +210,10 @@ fn serialize_stacked_rows<K: Sink>(
     sink: &mut K,
 ) -> Result<u64, ColumnarError>
     requires { length (rows_with_value (stacked_counts rows.now)) < 2 ^ 32 }
-    ensures ok { Serializes (K.seen sink.old) (K.seen sink.new) (done result)
-        (list_bytes (rows_with_value (stacked_counts rows.now))) }
+    ensures ok { SerializesIndexList (K.seen sink.old) (K.seen sink.new) result
+        (rows_with_value (stacked_counts rows.now)) }
     ensures length { IfOk result (λ n.
-        n ≡ length (list_bytes (rows_with_value (stacked_counts rows.now)))) }
+        n ≡ length (index_list_bytes (rows_with_value (stacked_counts rows.now)))) }
 {
     let items = rows.collected(alloc)?;
     serialize_list(alloc, &items.as_slice(), sink)
@@ -225,10 +226,10 @@ fn serialize_stacked_starts<K: Sink>(
     sink: &mut K,
 ) -> Result<u64, ColumnarError>
     requires { length (starts_of (stacked_counts starts.now)) < 2 ^ 32 }
-    ensures ok { Serializes (K.seen sink.old) (K.seen sink.new) (done result)
-        (list_bytes (starts_of (stacked_counts starts.now))) }
+    ensures ok { SerializesIndexList (K.seen sink.old) (K.seen sink.new) result
+        (starts_of (stacked_counts starts.now)) }
     ensures length { IfOk result (λ n.
-        n ≡ length (list_bytes (starts_of (stacked_counts starts.now)))) }
+        n ≡ length (index_list_bytes (starts_of (stacked_counts starts.now)))) }
 {
     let items = starts.collected(alloc)?;
     serialize_list(alloc, &items.as_slice(), sink)
@@ -262,9 +263,8 @@ fn serialize_collected<I: Iterable<RowId>, K: Sink>(
     sink: &mut K,
 ) -> Result<u64, ColumnarError>
     requires { length (I.items list.now) < 2 ^ 32 }
-    ensures ok { Serializes (K.seen sink.old) (K.seen sink.new) (done result)
-        (list_bytes (I.items list.now)) }
-    ensures length { IfOk result (λ n. n ≡ length (list_bytes (I.items list.now))) }
+    ensures ok { SerializesIndexList (K.seen sink.old) (K.seen sink.new) result (I.items list.now) }
+    ensures length { IfOk result (λ n. n ≡ length (index_list_bytes (I.items list.now))) }
 {
     let items: Vec<RowId> = collected_with_capacity(alloc, list, capacity)?;
     serialize_list(alloc, &items.as_slice(), sink)
@@ -278,9 +278,8 @@ fn serialize_list<I: Iterable<RowId>, K: Sink>(
     sink: &mut K,
 ) -> Result<u64, ColumnarError>
     requires { length (I.items list.now) < 2 ^ 32 }
-    ensures ok { Serializes (K.seen sink.old) (K.seen sink.new) (done result)
-        (list_bytes (I.items list.now)) }
-    ensures length { IfOk result (λ n. n ≡ length (list_bytes (I.items list.now))) }
+    ensures ok { SerializesIndexList (K.seen sink.old) (K.seen sink.new) result (I.items list.now) }
+    ensures length { IfOk result (λ n. n ≡ length (index_list_bytes (I.items list.now))) }
 {
     let len = serialize_estimated_values(alloc, list, &CODEC_TYPES, sink)?;
     Ok(1 + len)

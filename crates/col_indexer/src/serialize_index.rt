@@ -14,7 +14,7 @@ use crate::indexes_are_read_back;
 use crate::serialize::{
     SerializableColumnIndex, SerializableMultivalueIndex, serialize_row_set, serialize_starts,
 };
-use col_common::{ColumnarError, Iterable, RowId, Sink, serialize_bytes};
+use col_common::{ColumnarError, Iterable, Sink, serialize_bytes};
 use std::alloc::Global;
 
 /// Writes rows with a value, their start offsets, and how many bytes the rows take.

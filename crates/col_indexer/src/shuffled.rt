@@ -3,7 +3,7 @@ ghost use Rattle.std.specs.Prelude.{◌≡◌, ◌<◌, ◌==◌, not, length, m
 ghost use Rattle.col_model.specs.Index.{empty_shape, set_counts};
 ghost use Rattle.col_model.specs.Positions.{count_in};
 ghost use Rattle.col_index.specs.Indexes.{shape_of};
-ghost use Rattle.col_index.specs.MultiValues.{counts_of};
+ghost use Rattle.col_index.specs.MultiValues.{value_counts_of};
 
 use col_common::{Iterable, RowAddr, RowId, Walk};
 use col_index::{ColumnIndex, MultiValueIndex, OptionalIndex, Set};
@@ -21,14 +21,14 @@ pub struct ShuffledRowIds<'a> {
 impl<'a> Model for ShuffledRowIds<'a> {
     ghost use Rattle.std.specs.Prelude.{map};
     ghost use Rattle.col_index.specs.Indexes.{shape_of};
-    ghost use Rattle.col_indexer.specs.Shuffles.{Picked, ArePicked, picked_of};
+    ghost use Rattle.col_indexer.specs.Shuffles.{Picked, ArePickable, picked_of};
 
     ghost Value = { Picked };
 
     ghost view = { λ s. picked_of (map shape_of s.column_indexes.now) s.order.now };
 
     ghost invariant = { λ s.
-        ArePicked (picked_of (map shape_of s.column_indexes.now) s.order.now) };
+        ArePickable (picked_of (map shape_of s.column_indexes.now) s.order.now) };
 }
 
 /// The start offsets of rows that are picked from indexes. Contracts see the same.
@@ -41,25 +41,25 @@ pub struct ShuffledStartOffsets<'a> {
 impl<'a> Model for ShuffledStartOffsets<'a> {
     ghost use Rattle.std.specs.Prelude.{map};
     ghost use Rattle.col_index.specs.Indexes.{shape_of};
-    ghost use Rattle.col_indexer.specs.Shuffles.{Picked, ArePicked, picked_of};
+    ghost use Rattle.col_indexer.specs.Shuffles.{Picked, ArePickable, picked_of};
 
     ghost Value = { Picked };
 
     ghost view = { λ s. picked_of (map shape_of s.column_indexes.now) s.order.now };
 
     ghost invariant = { λ s.
-        ArePicked (picked_of (map shape_of s.column_indexes.now) s.order.now) };
+        ArePickable (picked_of (map shape_of s.column_indexes.now) s.order.now) };
 }
 
 impl<'a> ShuffledRowIds<'a> {
-    ghost use Rattle.col_indexer.specs.Shuffles.{ArePicked, picked_of};
+    ghost use Rattle.col_indexer.specs.Shuffles.{ArePickable, picked_of};
 
     /// The new rows of an order over indexes.
     pub fn new(
         column_indexes: &'a [ColumnIndex],
         order: &'a ShuffleMergeOrder,
     ) -> ShuffledRowIds<'a>
-        requires { ArePicked (picked_of (map shape_of column_indexes.now) order.now) }
+        requires { ArePickable (picked_of (map shape_of column_indexes.now) order.now) }
         ensures { result ≡ picked_of (map shape_of column_indexes.now) order.now }
     {
         ShuffledRowIds {
@@ -75,14 +75,14 @@ impl<'a> ShuffledRowIds<'a> {
 }
 
 impl<'a> ShuffledStartOffsets<'a> {
-    ghost use Rattle.col_indexer.specs.Shuffles.{ArePicked, picked_of};
+    ghost use Rattle.col_indexer.specs.Shuffles.{ArePickable, picked_of};
 
     /// The start offsets of an order over indexes.
     pub fn new(
         column_indexes: &'a [ColumnIndex],
         order: &'a ShuffleMergeOrder,
     ) -> ShuffledStartOffsets<'a>
-        requires { ArePicked (picked_of (map shape_of column_indexes.now) order.now) }
+        requires { ArePickable (picked_of (map shape_of column_indexes.now) order.now) }
         ensures { result ≡ picked_of (map shape_of column_indexes.now) order.now }
     {
         ShuffledStartOffsets {
@@ -205,7 +205,7 @@ fn num_values_in_set(index: &OptionalIndex, row: RowId) -> RowId
 // The same where a row may have several.
 #[inline(always)]
 fn num_values_in_rows(index: &MultiValueIndex, row: RowId) -> RowId
-    ensures { result ≡ slice_index (counts_of index.now) row }
+    ensures { result ≡ slice_index (value_counts_of index.now) row }
 {
     let positions = index.range_if_any(row);
     positions.end - positions.start

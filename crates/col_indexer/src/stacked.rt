@@ -269,7 +269,8 @@ fn next_start(
     requires segments { AreSegments (index_segments column_indexes.now order.now) }
     requires stands { StandsAtOffset (index_segments column_indexes.now order.now) at.old }
     ensures stands { StandsAtOffset (index_segments column_indexes.now order.now) at.new }
-    ensures value { let left = stacked_offsets_to_give (index_segments column_indexes.now order.now) in
+    ensures value { let segments = index_segments column_indexes.now order.now in
+        let left = stacked_offsets_to_give segments in
         IsNext (left at.old) result (left at.new) }
 {
     if at.place == 0 {

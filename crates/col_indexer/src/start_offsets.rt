@@ -2,7 +2,7 @@
 ghost use Rattle.std.specs.Prelude.{◌≤◌, drop, length};
 ghost use Rattle.col_common.specs.Walks.{IsNext};
 ghost use Rattle.col_model.specs.Positions.{starts_of};
-ghost use Rattle.col_index.specs.MultiValues.{counts_of};
+ghost use Rattle.col_index.specs.MultiValues.{value_counts_of};
 
 use crate::{ShuffledStartOffsets, StackedStartOffsets};
 use col_common::{Iterable, RowId, Walk};
@@ -19,9 +19,9 @@ pub enum StartOffsets<'a> {
 }
 
 impl Iterable<RowId> for StartOffsets<'_> {
-    ghost use Rattle.col_indexer.specs.OffsetViews.{offsets_of, OffsetsStand, offsets_to_give};
+    ghost use Rattle.col_indexer.specs.OffsetViews.{start_offsets_of, OffsetsStand, offsets_to_give};
 
-    ghost items = { offsets_of };
+    ghost items = { start_offsets_of };
 
     ghost stands = { OffsetsStand };
 
@@ -49,9 +49,9 @@ impl Iterable<RowId> for StartOffsets<'_> {
 
 // The next start offset of an index.
 fn next_start(index: &MultiValueIndex, at: &mut Walk) -> Option<RowId>
-    requires { at.old.place ≤ length (starts_of (counts_of index.now)) }
-    ensures stands { at.new.place ≤ length (starts_of (counts_of index.now)) }
-    ensures value { let starts = starts_of (counts_of index.now) in
+    requires { at.old.place ≤ length (starts_of (value_counts_of index.now)) }
+    ensures stands { at.new.place ≤ length (starts_of (value_counts_of index.now)) }
+    ensures value { let starts = starts_of (value_counts_of index.now) in
         IsNext (drop at.old.place starts) result (drop at.new.place starts) }
 {
     let starts = index.get_start_index_column();

@@ -7,7 +7,7 @@ ghost use Rattle.col_indexer.specs.Builders.{nothing_recorded, recorded_index};
 ghost use Rattle.col_indexer.specs.Spelling.{optional_index, multivalued_index, IsIndex};
 ghost use Rattle.col_indexer.specs.RowViews.{rows_of};
 
-use crate::serialize::{SerializableMultivalueIndex, SerializableOptionalIndex};
+use crate::serialize::SerializableMultivalueIndex;
 use crate::{RowIds, StartOffsets};
 use col_common::{ColumnarError, RowId};
 use std::alloc::Global;
@@ -147,9 +147,9 @@ pub struct MultivaluedIndexBuilder {
 
 impl Model for MultivaluedIndexBuilder {
     ghost use Rattle.col_common.specs.Ascending.{differences};
-    ghost use Rattle.col_indexer.specs.Builders.{Recorded, IsRecording};
+    ghost use Rattle.col_indexer.specs.Builders.{RecordedRows, IsRecording};
 
-    ghost Value = { Recorded };
+    ghost Value = { RecordedRows };
 
     ghost view = { λ b.
         record { rows = b.doc_with_values.items; counts = differences b.start_offsets.items } };
@@ -182,13 +182,8 @@ impl MultivaluedIndexBuilder {
         } else {
             self.start_offsets.as_slice()
         };
-        SerializableMultivalueIndex {
-            doc_ids_with_values: SerializableOptionalIndex {
-                non_null_row_ids: RowIds::Slice(&self.doc_with_values),
-                num_rows: num_docs,
-            },
-            start_offsets: StartOffsets::Slice(starts),
-        }
+        let rows = RowIds::Slice(&self.doc_with_values);
+        SerializableMultivalueIndex::from_lists(num_docs, rows, StartOffsets::Slice(starts))
     }
 
     // Lets all rows go.

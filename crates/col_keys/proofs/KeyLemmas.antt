@@ -4,7 +4,7 @@ use Rattle.std.specs.List.{list_all}
 use Rattle.std.specs.Str.{IsUtf8, is_utf8}
 use Rattle.std.specs.Ordering.{nat_cmp, is_lt, ordering_then}
 use Rattle.std.specs.Cmp.Lexicographic.{slice_cmp}
-use Rattle.std.proofs.lemmas.Bool.{and_from, and_left, and_parts}
+use Rattle.std.proofs.lemmas.Bool.{and_from, and_left, and_parts, false_from_ne_true}
 use Rattle.std.proofs.lemmas.Str.{is_utf8-from_IsUtf8, IsUtf8-from_is_utf8}
 use Rattle.col_common.specs.Reading.{only_if}
 use Rattle.col_model.specs.ColumnType.{type_code, is_numerical}
@@ -21,10 +21,6 @@ use Rattle.col_keys.specs.KeyTables.{key_seen, keys_seen}
 abbrev pub has_no_zero : List ℕ → Bool
 has_no_zero bytes = list_all (λ b. not (b == 0)) bytes
 
-not_true : (b : Bool) → (b ≡ true → ⊥) → b ≡ false
-not_true true h = absurd (h refl)
-not_true false h = refl
-
 -- a text without a zero byte is a name
 pub name_of-text : (bytes : List ℕ) → has_no_zero bytes ≡ true → IsUtf8 bytes → only_if (is_name bytes) bytes ≡ Some bytes
 name_of-text bytes z u = ap (λ b. only_if b bytes) (and_from _ _ (is_utf8-from_IsUtf8 bytes u) z)
@@ -33,7 +29,7 @@ name_of-text bytes z u = ap (λ b. only_if b bytes) (and_from _ _ (is_utf8-from_
 pub name_of-no_text : (bytes : List ℕ) → (IsUtf8 bytes → ⊥) → only_if (is_name bytes) bytes ≡ None
 name_of-no_text bytes n =
     ap (λ b. only_if b bytes)
-    (and_left (is_utf8 bytes) (has_no_zero bytes) (not_true (is_utf8 bytes) (λ e. n (IsUtf8-from_is_utf8 bytes e))))
+    (and_left (is_utf8 bytes) (has_no_zero bytes) (false_from_ne_true (is_utf8 bytes) (λ e. n (IsUtf8-from_is_utf8 bytes e))))
 
 -- ---- order
 

@@ -1,6 +1,6 @@
 //! What stands at the end of a file: the keys of its columns, and its footer; and the serializer
-//! that writes both behind the columns. Contracts see the bytes as the definitions read them. Beside
-//! them the slots that merges join: a name with a category of types.
+//! that writes both behind the columns. Contracts see the bytes as the definitions read them.
+//! Beside them the slots that merges join: a name with a category of types.
 #![tactic(auto)]
 
 mod column_key;

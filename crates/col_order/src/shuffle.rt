@@ -140,6 +140,7 @@ impl ShuffleMergeOrder {
     pub fn rows_are_there(&self)
         ensures { list_all (has_row self.now.counts) self.now.addresses ≡ true }
     {
+        // That the order is one of its segments is known where a field is read.
         let _ = &self.segment_num_rows;
     }
 }

@@ -17,6 +17,7 @@ use Rattle.col_model.specs.Table.{Cell, text}
 use Rattle.col_numbers.specs.NumValues.{num_values_of}
 use Rattle.col_values.specs.Codes.{number_cmp}
 use Rattle.col_values.specs.Values as values
+use Rattle.col_model.proofs.ListLaws.{filter-none}
 use Rattle.col_text.specs.Texts.{Texts, AreOrdinals, StartAt, EndAt, texts_content}
 
 -- ---- tests of the values of a row
@@ -64,10 +65,6 @@ by_cells test terms cell s xs low high from to all =
     filter_agree _ passes (λ d. ap (λ b. nat_le from d && nat_lt d to && b) (alike d)) (range_with_len 0 (length rows))
     ∙ ap (λ n. filter passes (range_with_len 0 n)) (sym (length-map rows (map cell)))
 
-none-kept : (xs : List ℕ) → filter (λ d. false) xs ≡ []
-none-kept [] = refl
-none-kept (x ∷ xs) = none-kept xs
-
 -- a test that nothing passes finds nothing
 none-found : (rows : List (List ℕ)) (from to : ℕ) → docs_passing (λ n. false) rows from to ≡ []
 unfolding docs_passing
@@ -77,7 +74,7 @@ none-found rows from to =
     filter_agree _ (λ d. false)
     (λ d. ap (λ b. nat_le from d && nat_lt d to && b) (none d) ∙ and-false (nat_le from d && nat_lt d to))
     (range_with_len 0 (length rows))
-    ∙ none-kept (range_with_len 0 (length rows))
+    ∙ filter-none (λ d. false) (λ d. refl) (range_with_len 0 (length rows))
 
 -- ---- ranges of terms
 

@@ -12,7 +12,6 @@ ghost use Rattle.col_text.specs.Texts.{AreOrdinals, StartAt, EndAt, texts_conten
 
 use col_column::{Column, DocValues, NumColumn};
 use col_common::{ColumnarError, DocId, RowId};
-use col_index::ColumnIndex;
 use col_numbers::NumValues;
 use col_terms::{Dictionary, TermOrdHit};
 use std::marker::Model;

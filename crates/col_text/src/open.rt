@@ -30,7 +30,13 @@ pub fn open_column_bytes(
     ensures { Decodes texts_content result
         (column bytes types.bytes (version_number format_version) num_rows) }
 {
-    open_texts(alloc, bytes, format_version, num_rows)
+    let (terms, ords) = cut_dictionary(bytes)?;
+    let dictionary = Dictionary::from_bytes(terms)?;
+    let ords = open_term_ords(alloc, ords, format_version, num_rows)?;
+    if !are_ordinals(&dictionary, &ords) {
+        return Err(ColumnarError::InvalidData);
+    }
+    Ok(BytesColumn::new(dictionary, ords))
 }
 
 /// Reads a column of so many rows of texts; that terms are texts is told when they are read.
@@ -43,26 +49,7 @@ pub fn open_column_str(
     ensures { Decodes texts_content result
         (column bytes types.str (version_number format_version) num_rows) }
 {
-    Ok(StrColumn::wrap(open_texts(alloc, bytes, format_version, num_rows)?))
-}
-
-// The dictionary, and the column of ordinals behind it.
-fn open_texts(
-    alloc: Global,
-    bytes: Bytes,
-    format_version: Version,
-    num_rows: RowId,
-) -> Result<BytesColumn, ColumnarError>
-    ensures { Decodes texts_content result
-        (column bytes types.bytes (version_number format_version) num_rows) }
-{
-    let (terms, ords) = cut_dictionary(bytes)?;
-    let dictionary = Dictionary::from_bytes(terms)?;
-    let ords = open_term_ords(alloc, ords, format_version, num_rows)?;
-    if !are_ordinals(&dictionary, &ords) {
-        return Err(ColumnarError::InvalidData);
-    }
-    Ok(BytesColumn::new(dictionary, ords))
+    Ok(StrColumn::wrap(open_column_bytes(alloc, bytes, format_version, num_rows)?))
 }
 
 // Whether each value is the ordinal of a term, which the greatest one tells.

@@ -1,4 +1,4 @@
-use Rattle.std.proofs.Common.{[], sym, map, nat_abs, refl, ◌∙◌}
+use Rattle.std.proofs.Common.{[], sym, nat_abs, refl, ◌∙◌}
 use Rattle.std.specs.List.{list_all}
 use Rattle.col_index.specs.Indexes.{shape_of}
 use Rattle.col_types.specs.Cells.{unsigned_cell}
@@ -12,22 +12,17 @@ use Rattle.col_dynamic.proofs.dynamic_column.u64_column_of.Goals as goal
 pub returns-clause-fits : goal.returns-clause-fits
 returns-clause-fits c =
     let parts = c.into_parts-index in
-    let s = shape_of parts.result.0 in
-    let xs = num_values_of parts.result.1 in
     rw (← parts.ensures.index, ← parts.ensures.values)
-    (there content_of (λ v. content_seen [] unsigned_cell s (num_values_of v)) num_values_of c.with_u64_values.result
-    c.coerce_to_u64.result (list_all is_not_negative xs) (map nat_abs xs) c.with_u64_values.ensures.content
-    c.coerce_to_u64.ensures
-    ∙ sym (other_u64 s xs parts.ensures.counted c.values_are_in_type.ensures.values.each))
+    (there content_of (λ v. content_seen [] unsigned_cell (shape_of parts.result.0) (num_values_of v)) num_values_of _ _
+    _ _ c.with_u64_values.ensures.content c.coerce_to_u64.ensures
+    ∙ sym (other_u64 _ _ parts.ensures.counted c.values_are_in_type.ensures.values.each))
 
 pub returns-clause-content : goal.returns-clause-content
 returns-clause-content c =
     let parts = c.into_parts-index in
-    let s = shape_of parts.result.0 in
-    let xs = num_values_of parts.result.1 in
     rw (← parts.ensures.index, ← parts.ensures.values)
-    (as_unsigned content_of num_values_of c.with_u64_values.result c.coerce_to_u64.result s xs
-    (list_all is_not_negative xs) refl c.with_u64_values.ensures.content c.coerce_to_u64.ensures)
+    (as_unsigned content_of num_values_of _ _ (shape_of parts.result.0) (num_values_of parts.result.1) _ refl
+    c.with_u64_values.ensures.content c.coerce_to_u64.ensures)
 
 pub with_u64_values-requires : goal.with_u64_values-requires
 with_u64_values-requires c =

@@ -7,7 +7,8 @@ use Rattle.col_index.specs.Versions.{version_number}
 use Rattle.col_model.specs.Column.{column}
 use Rattle.col_model.specs.ColumnType as types
 use Rattle.col_model.specs.Dictionary.{terms}
-use Rattle.col_dynamic_open.proofs.LenientLemmas.{uncut, without_terms, ordinals-refused, ordinals-opened}
+use Rattle.col_text.proofs.OpenTextLemmas.{uncut}
+use Rattle.col_dynamic_open.proofs.LenientLemmas.{without_terms, ordinals-refused, ordinals-opened}
 use Rattle.col_dynamic_open.proofs.open_lenient.open_bytes.Goals as goal
 
 pub returns-in_err-terms : goal.returns-in_err-terms

@@ -1,8 +1,8 @@
 use Rattle.std.proofs.Common.{◌%◌, ◌^◌, slice_index}
 use Rattle.col_numbers.specs.Readers.{list_of}
-use Rattle.col_index.specs.Ranks.{IsTable}
+use Rattle.col_index.specs.Ranks.{IsTableOf}
 use Rattle.col_index.proofs.row_lows.lows_of.Given as goal
 
 -- the low bits of the rows so far
 abbrev pub invariant-loop-at : goal.invariant-loop-at
-invariant-loop-at l = IsTable (λ k. slice_index (list_of l.rows) k % 2 ^ 16) l.at l.lows.items
+invariant-loop-at l = IsTableOf (λ k. slice_index (list_of l.rows) k % 2 ^ 16) l.at l.lows.items

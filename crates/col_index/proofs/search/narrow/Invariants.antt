@@ -1,10 +1,4 @@
-use Rattle.std.proofs.Common.{◌-◌}
-use Rattle.col_numbers.specs.Readers.{list_of}
-use Rattle.col_index.specs.Search.{IsNarrowed}
 use Rattle.col_index.proofs.search.narrow.Given as goal
 
-abbrev pub invariant-loop-low : goal.invariant-loop-low
-invariant-loop-low l = IsNarrowed (list_of l.values) l.target l.low l.high
-
-abbrev pub decreases-loop-low : goal.decreases-loop-low
-decreases-loop-low l = l.high - l.low
+abbrev pub ghosts-narrow_by : goal.ghosts-narrow_by
+ghosts-narrow_by a = record { name = a.blank.name; parts = a.blank.parts }

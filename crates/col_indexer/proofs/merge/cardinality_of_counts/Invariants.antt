@@ -9,7 +9,7 @@ use Rattle.col_indexer.proofs.merge.cardinality_of_counts.Given as goal
 -- none of the rows that were passed has more than one value
 abbrev pub invariant-loop-addr : goal.invariant-loop-addr
 invariant-loop-addr l =
-    let passed = take l.addr-index (picked_counts (map shape_of l.column_indexes) l.shuffle_merge_order.addresses) in
+    let passed = take l.addr-index (picked_counts (map shape_of l.indexes) l.order.addresses) in
     record {
       few : AreFew passed;
       tight : cardinality_of l.tightest ≡ tightest_of passed;

@@ -8,4 +8,4 @@ use Rattle.col_indexer.proofs.merge.cardinality_of_sets.Given as goal
 abbrev pub invariant-loop-addr : goal.invariant-loop-addr
 invariant-loop-addr l =
     list_all (λ c. c == 1)
-    (take l.addr-index (picked_counts (map shape_of l.column_indexes) l.shuffle_merge_order.addresses)) ≡ true
+    (take l.addr-index (picked_counts (map shape_of l.indexes) l.order.addresses)) ≡ true

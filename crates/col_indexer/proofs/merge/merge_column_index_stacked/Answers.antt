@@ -1,62 +1,34 @@
-use Rattle.std.proofs.Common.{length, sym, ap, ◌∙◌}
+use Rattle.std.proofs.Common.{◌<◌, ◌^◌, length, sym, ap, subst, ◌∙◌, arith}
 use Rattle.col_model.specs.Order.{all_rows}
 use Rattle.col_model.specs.Positions.{rows_with_value, starts_of}
 use Rattle.col_order.proofs.PickLemmas.{length-all_rows}
+use Rattle.col_indexer.specs.Spelling.{IsIndex, index_shape}
+use Rattle.col_model.specs.Index.{counts_over}
 use Rattle.col_indexer.specs.Stacks.{index_segments, stacked_counts}
-use Rattle.col_index.specs.Versions.{cardinality_of}
-use Rattle.col_indexer.proofs.MergeLemmas.{merged-full, merged-optional, merged-multivalued, merged-rows, merged-offsets}
+use Rattle.col_indexer.proofs.MergeLemmas.{index-counted, index-sound, index-by}
 use Rattle.col_indexer.proofs.StackedMergeLemmas.{stacked-ones, stacked-few, length-stacked}
 use Rattle.col_indexer.proofs.merge.merge_column_index_stacked.Goals as goal
 
-pub returns-in-Full-clause-counts : goal.returns-in-Full-clause-counts
-returns-in-Full-clause-counts c =
+pub returns-clause-counts : goal.returns-clause-counts
+returns-clause-counts c =
     let counts = c.args.stack_merge_order.now in
     let indexes = c.args.column_indexes.now in
-    let same = sym (ap cardinality_of c.in-Full.is) ∙ c.requires.cardinality in
-    merged-full (stacked_counts (index_segments indexes counts)) (length (all_rows counts)) _
-    (length-stacked counts indexes c.requires.fit.segments) same
-    (stacked-ones counts indexes c.requires.fit.segments same)
-
-pub returns-in-Optional-clause-counts : goal.returns-in-Optional-clause-counts
-returns-in-Optional-clause-counts c =
-    let counts = c.args.stack_merge_order.now in
-    let indexes = c.args.column_indexes.now in
+    let cs = stacked_counts (index_segments indexes counts) in
     let long = length-stacked counts indexes c.requires.fit.segments in
-    let many = c.num_rows-num_rows.ensures ∙ sym (length-all_rows counts) ∙ long in
-    let same = sym (ap cardinality_of c.in-Optional.is) ∙ c.requires.cardinality in
-    let rows = ap (λ s. rows_with_value (stacked_counts s)) c.new.ensures in
-    merged-optional (stacked_counts (index_segments indexes counts)) _ (length (all_rows counts))
-    c.num_rows-num_rows.result _ long many rows same (stacked-few counts indexes c.requires.fit.segments same)
+    let same = index-by _ c.args.cardinality_after_merge cs c.num_rows-num_rows.result _ _ c.from_lists.ensures
+    (c.num_rows-num_rows.ensures ∙ sym (length-all_rows counts) ∙ long) (ap (λ s. rows_with_value (stacked_counts s)) c.new.ensures)
+    (ap (λ s. starts_of (stacked_counts s)) c.new-starts.ensures) in
+    ap (λ i. counts_over (length (all_rows counts)) (index_shape i)) same
+    ∙ index-counted c.args.cardinality_after_merge cs _ _ c.requires.cardinality long
+    (stacked-ones counts indexes c.requires.fit.segments) (stacked-few counts indexes c.requires.fit.segments)
 
-pub returns-in-Optional-clause-index : goal.returns-in-Optional-clause-index
-returns-in-Optional-clause-index c =
+pub returns-clause-index : goal.returns-clause-index
+returns-clause-index c =
     let counts = c.args.stack_merge_order.now in
-    let indexes = c.args.column_indexes.now in
-    let many = c.num_rows-num_rows.ensures ∙ sym (length-all_rows counts) ∙ length-stacked counts indexes c.requires.fit.segments in
-    let rows = ap (λ s. rows_with_value (stacked_counts s)) c.new.ensures in
-    merged-rows (stacked_counts (index_segments indexes counts)) _ c.num_rows-num_rows.result many rows c.num_rows-num_rows.type_inv
-
-pub returns-in-Multivalued-clause-counts : goal.returns-in-Multivalued-clause-counts
-returns-in-Multivalued-clause-counts c =
-    let counts = c.args.stack_merge_order.now in
-    let indexes = c.args.column_indexes.now in
-    let long = length-stacked counts indexes c.requires.fit.segments in
-    let many = c.num_rows-num_rows.ensures ∙ sym (length-all_rows counts) ∙ long in
-    let same = sym (ap cardinality_of c.in-Multivalued.is) ∙ c.requires.cardinality in
-    let rows = ap (λ s. rows_with_value (stacked_counts s)) c.new-in-Multivalued.ensures in
-    let starts = ap (λ s. starts_of (stacked_counts s)) c.new-in-Multivalued-2.ensures in
-    merged-multivalued (stacked_counts (index_segments indexes counts)) _ _ (length (all_rows counts))
-    c.num_rows-num_rows.result _ long many rows starts same
-
-pub returns-in-Multivalued-clause-index : goal.returns-in-Multivalued-clause-index
-returns-in-Multivalued-clause-index c =
-    let counts = c.args.stack_merge_order.now in
-    let indexes = c.args.column_indexes.now in
-    let many = c.num_rows-num_rows.ensures ∙ sym (length-all_rows counts) ∙ length-stacked counts indexes c.requires.fit.segments in
-    let rows = ap (λ s. rows_with_value (stacked_counts s)) c.new-in-Multivalued.ensures in
-    let starts = ap (λ s. starts_of (stacked_counts s)) c.new-in-Multivalued-2.ensures in
-    record {
-      offsets = merged-offsets (stacked_counts (index_segments indexes counts)) _ _ c.num_rows-num_rows.result
-          many rows starts c.requires.fit.few;
-      fits = c.num_rows-num_rows.type_inv;
-    }
+    let cs = stacked_counts (index_segments c.args.column_indexes.now counts) in
+    let long = length-stacked counts c.args.column_indexes.now c.requires.fit.segments in
+    let count = c.num_rows-num_rows.ensures ∙ sym (length-all_rows counts) ∙ long in
+    let same = index-by _ c.args.cardinality_after_merge cs c.num_rows-num_rows.result _ _ c.from_lists.ensures count
+    (ap (λ s. rows_with_value (stacked_counts s)) c.new.ensures) (ap (λ s. starts_of (stacked_counts s)) c.new-starts.ensures) in
+    let few : length cs < 2 ^ 32 = omega (arith, count, c.num_rows-num_rows.type_inv) in
+    subst IsIndex (sym same) (index-sound c.args.cardinality_after_merge cs few c.requires.fit.few)

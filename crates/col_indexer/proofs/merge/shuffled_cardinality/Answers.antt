@@ -8,8 +8,8 @@ use Rattle.col_indexer.proofs.merge.shuffled_cardinality.Goals as goal
 
 pub returns-then-are_full : goal.returns-then-are_full
 returns-then-are_full c =
-    let indexes = c.args.column_indexes.now in
-    let order = c.args.shuffle_merge_order.now in
+    let indexes = c.args.indexes.now in
+    let order = c.args.order.now in
     let long = length-fit order.counts (map shape_of indexes) c.requires.segments ∙ length-map indexes shape_of in
     tightest-ones (picked_counts (map shape_of indexes) order.addresses)
     (ones-picked indexes order.counts (c.are_full.ensures c.if-are_full.true) long order.addresses c.rows_are_there.ensures)

@@ -1,7 +1,7 @@
 use Rattle.std.proofs.Common.{◌+◌, sym, ap, refl, ◌∙◌, ◌∷◌, arith}
 use Rattle.col_common.specs.declared.iterable.Walk.{Walk}
 use Rattle.col_indexer.specs.Stacks.{index_segments, stacked_rows_to_give}
-use Rattle.col_indexer.proofs.StackedWalkLemmas.{row_read, row_fits, row_stands, row_given, segment_stands, segment_left, rows_end}
+use Rattle.col_indexer.proofs.StackedWalkLemmas.{next_place, row_read, row_fits, row_stands, row_given, segment_stands, segment_left, rows_end}
 use Rattle.col_indexer.proofs.stacked.next_row.Goals as goal
 
 pub overflow_add-at : goal.overflow_add-at
@@ -35,12 +35,7 @@ returns-in-Some-clause-value c =
     let read = row_read c.args.column_indexes.now c.args.order.now c.loop-at.at _ _ _ _ c.requires.segments.fit
     (omega arith) c.segment_num_rows-num_rows.ensures c.index-column_indexes-segment.is c.row_at.ensures
     c.in-Some.is in
-    let after : Walk = record {
-      segment = c.loop-at.at.segment;
-      place = c.loop-at.at.place + 1;
-      inner = c.loop-at.at.inner;
-      sum = c.loop-at.at.sum;
-    } in
+    let after = next_place c.loop-at.at in
     sym c.loop-at.invariant.left
     ∙ row_given (index_segments c.args.column_indexes.now c.args.order.now) c.loop-at.at after c.requires.segments
     c.loop-at.invariant.stands (omega arith) c.in-Some.row read refl refl refl

@@ -1,7 +1,8 @@
 use Rattle.std.proofs.Common.{◌+◌, sym, ap, refl, ◌∙◌, ◌∷◌, arith}
 use Rattle.col_common.specs.declared.iterable.Walk.{Walk}
 use Rattle.col_indexer.specs.Stacks.{index_segments, stacked_offsets_to_give}
-use Rattle.col_indexer.proofs.StackedOffsetLemmas.{start_read, sum_read, sum_fits, first_stands, first_given, offsets_end, start_fits, start_stands, start_given, starts_stand, starts_left}
+use Rattle.col_indexer.proofs.StackedOffsetLemmas.{start_read, sum_read, values-few, first_stands, first_given, offsets_end, start_fits, start_stands, start_given, starts_stand, starts_left}
+use Rattle.col_indexer.proofs.StackedWalkLemmas.{next_place}
 use Rattle.col_indexer.proofs.stacked.next_start.Goals as goal
 
 pub returns-then-at-eq0-clause-stands : goal.returns-then-at-eq0-clause-stands
@@ -17,14 +18,8 @@ returns-then-at-eq0-clause-value c =
 
 pub start_at-requires : goal.start_at-requires
 start_at-requires c =
-    let sum = sum_read c.args.column_indexes.now c.args.order.now c.loop-at.at.segment _ _ c.requires.segments.fit
-    (omega arith) c.segment_num_rows-num_rows.ensures c.index-column_indexes-segment.is in
-    omega (
-      arith,
-      sum,
-      sum_fits (index_segments c.args.column_indexes.now c.args.order.now) c.loop-at.at.segment
-          c.requires.segments (omega arith),
-    )
+    values-few c.args.column_indexes.now c.args.order.now c.loop-at.at.segment _ _ c.requires.segments (omega arith)
+    c.segment_num_rows-num_rows.ensures c.index-column_indexes-segment.is
 
 pub overflow_add-at : goal.overflow_add-at
 overflow_add-at c =
@@ -57,12 +52,7 @@ returns-in-Some-clause-value c =
     let read = start_read c.args.column_indexes.now c.args.order.now c.loop-at.at _ _ _ _ c.requires.segments.fit
     (omega arith) c.segment_num_rows-num_rows.ensures c.index-column_indexes-segment.is c.start_at.ensures
     c.in-Some.is in
-    let after : Walk = record {
-      segment = c.loop-at.at.segment;
-      place = c.loop-at.at.place + 1;
-      inner = c.loop-at.at.inner;
-      sum = c.loop-at.at.sum;
-    } in
+    let after = next_place c.loop-at.at in
     sym c.loop-at.invariant.left
     ∙ start_given (index_segments c.args.column_indexes.now c.args.order.now) c.loop-at.at after c.requires.segments
     c.loop-at.invariant.stands (omega arith) c.in-Some.start read refl refl refl
@@ -72,14 +62,8 @@ returns-in-Some-clause-value c =
 
 pub num_values-requires : goal.num_values-requires
 num_values-requires c =
-    let sum = sum_read c.args.column_indexes.now c.args.order.now c.loop-at.at.segment _ _ c.requires.segments.fit
-    (omega arith) c.segment_num_rows-num_rows.ensures c.index-column_indexes-segment.is in
-    omega (
-      arith,
-      sum,
-      sum_fits (index_segments c.args.column_indexes.now c.args.order.now) c.loop-at.at.segment
-          c.requires.segments (omega arith),
-    )
+    values-few c.args.column_indexes.now c.args.order.now c.loop-at.at.segment _ _ c.requires.segments (omega arith)
+    c.segment_num_rows-num_rows.ensures c.index-column_indexes-segment.is
 
 pub loop-at-preserved : goal.loop-at-preserved
 loop-at-preserved c =

@@ -3,7 +3,7 @@ use Rattle.std.specs.List.{sum}
 use Rattle.col_model.specs.Positions.{starts_of}
 use Rattle.col_indexer.specs.Counted.{counts_in}
 use Rattle.col_index.specs.Indexes.{shape_of}
-use Rattle.col_index.specs.MultiValues.{counts_of}
+use Rattle.col_index.specs.MultiValues.{value_counts_of}
 use Rattle.col_index.specs.declared.column_index.ColumnIndex.{ColumnIndex}
 use Rattle.col_index.proofs.CountLaws.{sum-set_counts}
 use Rattle.col_indexer.proofs.StackedStartLemmas.{length-starts, starts-last}
@@ -20,7 +20,7 @@ overflow_sub-num_vals c =
     omega (
       arith,
       ap length c.get_start_index_column-starts.ensures.counts,
-      length-starts (counts_of c.in-Multivalued.index),
+      length-starts (value_counts_of c.in-Multivalued.index),
       c.num_vals.ensures,
     )
 
@@ -29,7 +29,7 @@ get_val-requires c =
     omega (
       arith,
       ap length c.get_start_index_column-starts.ensures.counts,
-      length-starts (counts_of c.in-Multivalued.index),
+      length-starts (value_counts_of c.in-Multivalued.index),
       c.num_vals.ensures,
     )
 
@@ -41,7 +41,7 @@ last_start cs starts count last e f g =
 
 pub overflow_cast-result : goal.overflow_cast-result
 overflow_cast-result c =
-    let last = last_start (counts_of c.in-Multivalued.index) _ c.num_vals.result c.get_val.result
+    let last = last_start (value_counts_of c.in-Multivalued.index) _ c.num_vals.result c.get_val.result
     c.get_start_index_column-starts.ensures.counts c.num_vals.ensures c.get_val.ensures in
     omega (arith, last, c.requires, ap (λ i. sum (counts_in c.args.num_rows (shape_of i))) c.in-Multivalued.is)
 
@@ -58,6 +58,6 @@ returns-in-Optional c =
 
 pub returns-in-Multivalued : goal.returns-in-Multivalued
 returns-in-Multivalued c =
-    last_start (counts_of c.in-Multivalued.index) _ c.num_vals.result c.get_val.result
+    last_start (value_counts_of c.in-Multivalued.index) _ c.num_vals.result c.get_val.result
     c.get_start_index_column-starts.ensures.counts c.num_vals.ensures c.get_val.ensures
     ∙ sym (ap (λ i. sum (counts_in c.args.num_rows (shape_of i))) c.in-Multivalued.is)

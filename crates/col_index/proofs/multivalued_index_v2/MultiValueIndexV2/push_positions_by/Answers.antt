@@ -2,11 +2,12 @@ use Rattle.std.proofs.Common.{rules, ◌≡◌, ◌-◌, ◌++◌, get_or, Some,
 use Rattle.col_common.specs.Reading.{only_if}
 use Rattle.col_model.specs.Index.{offset_counts, multivalued_shape}
 use Rattle.col_model.specs.Positions.{rank, values_in}
+use Rattle.col_model.proofs.ItemLaws.{only_if-some, only_if-none}
 use Rattle.col_index.specs.Offsets.{AreOffsets, found_rows, positions_of, run}
-use Rattle.col_index.specs.Places.{IsPlace}
+use Rattle.col_index.specs.Places.{IsPlaceOfTarget}
 use Rattle.col_index.specs.Sets.{holds}
 use Rattle.col_index.proofs.PushLemmas.{pushes-stopped, visited, visited-free, visited-none}
-use Rattle.col_index.proofs.SetLemmas.{begins_later, only_if-some, only_if-none}
+use Rattle.col_index.proofs.SetLemmas.{begins_later}
 use Rattle.col_index.proofs.ValueLemmas.{values-free, values-held, held-inside}
 use Rattle.col_index.proofs.multivalued_index_v2.MultiValueIndexV2.push_positions_by.Goals as goal
 
@@ -22,7 +23,7 @@ loop-doc-preserved-in_default c =
     let o = c.args.self.now in
     let a : AreOffsets o = search rules in
     let doc = get_or c.args.docs.now c.loop-doc.doc-index 0 in
-    let p : IsPlace o.set.rows c.rank_near.new.place = search rules in
+    let p : IsPlaceOfTarget o.set.rows c.rank_near.new.place = search rules in
     let told : None ≡ only_if (holds o.set.rows doc) (rank o.set.rows doc) = search rules in
     let none = values-free o a doc (only_if-none (holds o.set.rows doc) (rank o.set.rows doc) told) in
     record {
@@ -55,7 +56,7 @@ loop-doc-preserved c =
     let o = c.args.self.now in
     let a : AreOffsets o = search rules in
     let doc = get_or c.args.docs.now c.loop-doc.doc-index 0 in
-    let p : IsPlace o.set.rows c.rank_near.new.place = search rules in
+    let p : IsPlaceOfTarget o.set.rows c.rank_near.new.place = search rules in
     let told : Some c.in-Some.rank ≡ only_if (holds o.set.rows doc) (rank o.set.rows doc) = search rules in
     let held = only_if-some (holds o.set.rows doc) c.in-Some.rank (rank o.set.rows doc) told in
     let range = c.range_at-positions.result in

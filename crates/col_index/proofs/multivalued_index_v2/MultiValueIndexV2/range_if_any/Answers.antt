@@ -1,10 +1,10 @@
 use Rattle.std.proofs.Common.{rules, ◌≡◌, Some, None}
 use Rattle.col_common.specs.Reading.{only_if}
 use Rattle.col_model.specs.Positions.{rank}
+use Rattle.col_model.proofs.ItemLaws.{only_if-some, only_if-none}
 use Rattle.col_index.specs.Offsets.{AreOffsets}
 use Rattle.col_index.specs.Sets.{holds}
 use Rattle.col_index.proofs.IfAnyLemmas.{some_free-start, some_free-end, some_held-start, some_held-end}
-use Rattle.col_index.proofs.SetLemmas.{only_if-some, only_if-none}
 use Rattle.col_index.proofs.ValueLemmas.{held-inside}
 use Rattle.col_index.proofs.multivalued_index_v2.MultiValueIndexV2.range_if_any.Goals as goal
 

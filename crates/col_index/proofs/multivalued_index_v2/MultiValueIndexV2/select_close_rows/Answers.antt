@@ -1,12 +1,11 @@
 use Rattle.std.proofs.Common.{rules, ◌≡◌, ◌+◌, ◌-◌, ◌<◌, get_or, slice_get, length, Some, refl, sym, ap, subst, ◌∙◌, arith}
 use Rattle.col_model.specs.Index.{RowOffsets, offset_counts}
 use Rattle.col_model.specs.Positions.{rank}
-use Rattle.col_index.specs.Offsets.{AreOffsets}
-use Rattle.col_index.proofs.KeptLemmas.{selected-none, selected-read}
+use Rattle.col_index.proofs.KeptLemmas.{is_position, selected-none, selected-read}
 use Rattle.col_index.proofs.SearchLemmas.{rank_of_zero}
 use Rattle.col_index.proofs.TurnLemmas.{rows_at-none}
 use Rattle.col_index.proofs.RowsAtLemmas.{after-more}
-use Rattle.col_index.proofs.WrittenLemmas.{window_started, started-inside, started-some, started-listed, row-written}
+use Rattle.col_index.proofs.WrittenLemmas.{window_started, started-fits, started-listed, row-written}
 use Rattle.col_index.proofs.multivalued_index_v2.MultiValueIndexV2.select_close_rows.Goals as goal
 
 pub loop-at-init : goal.loop-at-init
@@ -20,41 +19,31 @@ loop-at-init c = record {
 pub window_at-window-requires-clause-inside : goal.window_at-window-requires-clause-inside
 window_at-window-requires-clause-inside c =
     let o = c.args.self.now in
-    let a : AreOffsets o = search rules in
-    let ps = c.args.ranks.now in
-    let at = c.loop-at.at in
-    let read = selected-read (offset_counts o) ps c.loop-at.ranks c.loop-at.kept at c.loop-at.invariant.selected in
-    let listed = started-listed o a ps at c.requires.rising c.loop-at-test.true c.requires.below in
-    let here = subst (λ p. rank o.starts (p + 1) < length o.starts) (sym read) listed in
-    subst (λ xs. rank xs (get_or c.loop-at.ranks at 0 + 1) < length xs) (sym (ap (λ (o : RowOffsets). o.starts) c.self.view_is)) here
+    let here = is_position o _ _ (search rules) c.requires.rising c.loop-at-test.true c.requires.below in
+    let read = selected-read (offset_counts o) _ c.loop-at.ranks c.loop-at.kept c.loop-at.at c.loop-at.invariant.selected in
+    let listed = subst (λ p. rank o.starts (p + 1) < length o.starts) (sym read) (started-listed o _ _ here) in
+    subst (λ xs. rank xs (get_or c.loop-at.ranks c.loop-at.at 0 + 1) < length xs)
+    (sym (ap (λ (o : RowOffsets). o.starts) c.self.view_is)) listed
 
 pub select-requires : goal.select-requires
 select-requires c =
     let o = c.args.self.now in
-    let a : AreOffsets o = search rules in
-    let ps = c.args.ranks.now in
-    let at = c.loop-at.at in
-    let read = selected-read (offset_counts o) ps c.loop-at.ranks c.loop-at.kept at c.loop-at.invariant.selected in
-    let started = window_started o.starts _ c.window_at-window.result c.window_at-window.new.table
-    (get_or c.loop-at.ranks at 0) (get_or ps at 0) (ap (λ (o : RowOffsets). o.starts) c.self.view_is)
+    let here = is_position o _ _ (search rules) c.requires.rising c.loop-at-test.true c.requires.below in
+    let read = selected-read (offset_counts o) _ c.loop-at.ranks c.loop-at.kept c.loop-at.at c.loop-at.invariant.selected in
+    let started = window_started o.starts _ _ c.window_at-window.new.table _ _ (ap (λ (o : RowOffsets). o.starts) c.self.view_is)
     c.window_at-window.ensures.window c.window_at-window.ensures.from c.window_at-window.ensures.upto read in
-    let some = started-some o a ps at c.requires.rising c.loop-at-test.true c.requires.below in
-    let inside = started-inside o a ps at c.requires.rising c.loop-at-test.true c.requires.below in
-    let fits : get_or c.window_at-window.new.table
-    (get_or c.loop-at.ranks at 0 - c.window_at-window.result.position) 0 - 1 < length o.set.rows =
-    omega (arith, started, some, inside) in
+    let fits = started-fits o _ _ here _ started in
     search rules
 
 pub loop-at-preserved : goal.loop-at-preserved
 loop-at-preserved c =
     let o = c.args.self.now in
-    let a : AreOffsets o = search rules in
+    let here = is_position o _ _ (search rules) c.requires.rising c.loop-at-test.true c.requires.below in
+    let read = selected-read (offset_counts o) _ c.loop-at.ranks c.loop-at.kept c.loop-at.at c.loop-at.invariant.selected in
+    let started = window_started o.starts _ _ c.window_at-window.new.table _ _ (ap (λ (o : RowOffsets). o.starts) c.self.view_is)
+    c.window_at-window.ensures.window c.window_at-window.ensures.from c.window_at-window.ensures.upto read in
     let ps = c.args.ranks.now in
     let at = c.loop-at.at in
-    let read = selected-read (offset_counts o) ps c.loop-at.ranks c.loop-at.kept at c.loop-at.invariant.selected in
-    let started = window_started o.starts _ c.window_at-window.result c.window_at-window.new.table
-    (get_or c.loop-at.ranks at 0) (get_or ps at 0) (ap (λ (o : RowOffsets). o.starts) c.self.view_is)
-    c.window_at-window.ensures.window c.window_at-window.ensures.from c.window_at-window.ensures.upto read in
     let number = get_or c.window_at-window.new.table (get_or c.loop-at.ranks at 0 - c.window_at-window.result.position) 0 in
     let found : slice_get o.set.rows (number - 1) ≡ Some c.select.result = search rules in
     record {
@@ -62,7 +51,6 @@ loop-at-preserved c =
       room = search rules;
       before = started ∙ ap (rank o.starts) (after-more ps at (get_or ps at 0) refl);
       selected =
-          row-written o a ps at c.requires.rising c.loop-at-test.true c.requires.below c.loop-at.ranks
-          c.loop-at.kept c.loop-at.before number c.select.result c.loop-at.invariant.selected
-          c.loop-at.invariant.before started found c.is_other.result c.is_other.ensures;
+          row-written o ps at here c.loop-at.ranks c.loop-at.kept c.loop-at.before number c.select.result
+          c.loop-at.invariant.selected c.loop-at.invariant.before started found c.is_other.result c.is_other.ensures;
     }

@@ -1,7 +1,6 @@
-use Rattle.std.proofs.Common.{rules, ◌≡◌, ◌-◌, ◌<◌, get_or, slice_get, length, Some, refl, ◌∙◌, arith}
+use Rattle.std.proofs.Common.{rules, ◌≡◌, ◌-◌, ◌<◌, slice_get, length, Some, refl, ◌∙◌, arith}
 use Rattle.col_model.specs.Index.{offset_counts}
-use Rattle.col_index.specs.Offsets.{AreOffsets}
-use Rattle.col_index.proofs.KeptLemmas.{selected-none, selected-same, selected-next}
+use Rattle.col_index.proofs.KeptLemmas.{is_position, selected-none, selected-same, selected-next}
 use Rattle.col_index.proofs.RowsAtLemmas.{after-more}
 use Rattle.col_index.proofs.TurnLemmas.{rows_at-none, turned, turn-some, turn-inside, turn-same, turn-next}
 use Rattle.col_index.proofs.multivalued_index_v2.MultiValueIndexV2.select_distant_rows.Goals as goal
@@ -16,58 +15,50 @@ loop-at-init c = record {
 pub loop-at-preserved-then-place-before : goal.loop-at-preserved-then-place-before
 loop-at-preserved-then-place-before c =
     let o = c.args.self.now in
-    let a : AreOffsets o = search rules in
-    let ps = c.args.ranks.now in
-    let at = c.loop-at.at in
-    let t = turned o ps c.loop-at.ranks c.loop-at.kept at c.from.result c.seek-place.result (search rules)
+    let here = is_position o _ _ (search rules) c.requires.rising c.loop-at-test.true c.requires.below in
+    let t = turned o _ c.loop-at.ranks c.loop-at.kept c.loop-at.at c.from.result c.seek-place.result (search rules)
     c.seek-place.ensures.target c.from.ensures c.loop-at.invariant.selected in
     record {
       place = t.place;
-      target = t.target ∙ after-more ps at (get_or ps at 0) refl;
-      selected = selected-same (offset_counts o) ps c.loop-at.ranks c.loop-at.kept at c.loop-at.invariant.selected
-          (turn-same o a ps at c.requires.rising c.loop-at-test.true c.requires.below c.seek-place.result t
+      target = t.target ∙ after-more c.args.ranks.now c.loop-at.at _ refl;
+      selected = selected-same (offset_counts o) _ c.loop-at.ranks c.loop-at.kept c.loop-at.at c.loop-at.invariant.selected
+          (turn-same o _ _ here c.seek-place.result t
           c.loop-at.place c.loop-at.invariant.place c.loop-at.invariant.target c.if-place-before.true);
     }
 
 pub overflow_sub-place : goal.overflow_sub-place
 overflow_sub-place c =
     let o = c.args.self.now in
-    let a : AreOffsets o = search rules in
-    let ps = c.args.ranks.now in
-    let at = c.loop-at.at in
-    let t = turned o ps c.loop-at.ranks c.loop-at.kept at c.from.result c.seek-place.result (search rules)
+    let here = is_position o _ _ (search rules) c.requires.rising c.loop-at-test.true c.requires.below in
+    let t = turned o _ c.loop-at.ranks c.loop-at.kept c.loop-at.at c.from.result c.seek-place.result (search rules)
     c.seek-place.ensures.target c.from.ensures c.loop-at.invariant.selected in
-    turn-some o a ps at c.requires.rising c.loop-at-test.true c.requires.below c.seek-place.result t
+    turn-some o _ _ here c.seek-place.result t
 
 pub select-requires : goal.select-requires
 select-requires c =
     let o = c.args.self.now in
-    let a : AreOffsets o = search rules in
-    let ps = c.args.ranks.now in
-    let at = c.loop-at.at in
-    let t = turned o ps c.loop-at.ranks c.loop-at.kept at c.from.result c.seek-place.result (search rules)
+    let here = is_position o _ _ (search rules) c.requires.rising c.loop-at-test.true c.requires.below in
+    let t = turned o _ c.loop-at.ranks c.loop-at.kept c.loop-at.at c.from.result c.seek-place.result (search rules)
     c.seek-place.ensures.target c.from.ensures c.loop-at.invariant.selected in
     let inside : c.seek-place.result.at - 1 < length o.set.rows =
-    turn-inside o a ps at c.requires.rising c.loop-at-test.true c.requires.below c.seek-place.result t in
+    turn-inside o _ _ here c.seek-place.result t in
     search rules
 
 pub loop-at-preserved : goal.loop-at-preserved
 loop-at-preserved c =
     let o = c.args.self.now in
-    let a : AreOffsets o = search rules in
-    let ps = c.args.ranks.now in
-    let at = c.loop-at.at in
-    let t = turned o ps c.loop-at.ranks c.loop-at.kept at c.from.result c.seek-place.result (search rules)
+    let here = is_position o _ _ (search rules) c.requires.rising c.loop-at-test.true c.requires.below in
+    let t = turned o _ c.loop-at.ranks c.loop-at.kept c.loop-at.at c.from.result c.seek-place.result (search rules)
     c.seek-place.ensures.target c.from.ensures c.loop-at.invariant.selected in
     let found : slice_get o.set.rows (c.seek-place.result.at - 1) ≡ Some c.select.result = search rules in
-    let next = turn-next o a ps at c.requires.rising c.loop-at-test.true c.requires.below c.seek-place.result t
+    let next = turn-next o _ _ here c.seek-place.result t
     c.loop-at.place c.loop-at.invariant.place c.loop-at.invariant.target c.if-place-before.false c.select.result
     found in
-    let long : at < length c.loop-at.ranks = omega arith in
+    let long : c.loop-at.at < length c.loop-at.ranks = omega arith in
     record {
       place = t.place;
-      target = t.target ∙ after-more ps at (get_or ps at 0) refl;
+      target = t.target ∙ after-more c.args.ranks.now c.loop-at.at _ refl;
       selected =
-          selected-next (offset_counts o) ps c.loop-at.ranks c.loop-at.kept at c.loop-at.invariant.selected
+          selected-next (offset_counts o) _ c.loop-at.ranks c.loop-at.kept c.loop-at.at c.loop-at.invariant.selected
           c.select.result long next;
     }

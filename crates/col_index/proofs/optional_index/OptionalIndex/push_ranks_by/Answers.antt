@@ -1,8 +1,9 @@
 use Rattle.std.proofs.Common.{take, get_or}
 use Rattle.col_model.specs.Positions.{rank}
+use Rattle.col_model.proofs.ItemLaws.{only_if-some}
 use Rattle.col_index.specs.Sets.{holds, held, held_ranks}
 use Rattle.col_index.proofs.PushLemmas.{pushes-stopped, held-pushed, rank-pushed}
-use Rattle.col_index.proofs.SetLemmas.{begins_later, only_if-some}
+use Rattle.col_index.proofs.SetLemmas.{begins_later}
 use Rattle.col_index.proofs.optional_index.OptionalIndex.push_ranks_by.Goals as goal
 
 pub returns-in_err-push_pair : goal.returns-in_err-push_pair

@@ -1,11 +1,12 @@
-use Rattle.std.proofs.Common.{rules, ◌≡◌, ◌+◌, Some, None, ap, subst, arith}
+use Rattle.std.proofs.Common.{rules, ◌≡◌, Some, None, ap, subst, arith}
 use Rattle.col_common.specs.Reading.{only_if}
 use Rattle.col_model.specs.Positions.{rank}
+use Rattle.col_model.proofs.ItemLaws.{only_if-some, only_if-none}
 use Rattle.col_index.specs.Sets.{AreRows, holds}
 use Rattle.col_index.proofs.RankLaws.{rows_rise}
 use Rattle.col_index.proofs.HeldLaws.{holds-rank}
 use Rattle.col_index.proofs.IfAnyLemmas.{one_free-start, one_free-end, one_held-start, one_held-end}
-use Rattle.col_index.proofs.SetLemmas.{few_rows, only_if-some, only_if-none}
+use Rattle.col_index.proofs.SetLemmas.{few_rows}
 use Rattle.col_index.proofs.optional_index.OptionalIndex.range_if_any.Goals as goal
 
 pub overflow_add-result : goal.overflow_add-result

@@ -1,31 +1,22 @@
-use Rattle.std.proofs.Common.{◌≡◌, ◌≢◌, ◌+◌, ◌<◌, ◌∷◌, drop, length, get_or, refl, sym, ap, ◌∙◌, arith}
-use Rattle.std.specs.List.{list_all, sum}
-use Rattle.col_model.specs.Order.{has_row}
+use Rattle.std.proofs.Common.{◌≡◌, ◌≢◌, ◌+◌, ◌<◌, ◌∷◌, drop, length, get_or, sym, ap, ◌∙◌, arith}
+use Rattle.std.specs.List.{sum}
 use Rattle.col_indexer.specs.Counted.{ends_behind}
 use Rattle.col_indexer.specs.Shuffles.{StandsAtSum, shuffled_counts}
-use Rattle.col_indexer.proofs.ShuffleLemmas.{are_of, segment-there, length-shuffled, length-walked, pick-there, first-given, sums-none, sums-some, sums-end, sum-step}
+use Rattle.col_indexer.proofs.ShuffleLemmas.{segment-walked, pick-walked, walked-end, length-shuffled, first-given, sums-none, sums-some, sums-end, sum-step}
 use Rattle.col_indexer.proofs.shuffled.ShuffledStartOffsetsIterableRowId.next.Goals as goal
 
 pub values_at-num_values-requires : goal.values_at-num_values-requires
 values_at-num_values-requires c =
-    let inside = c.self.inside in
-    let addrs = c.iter_new_to_old_row_addrs-addrs.result.now in
-    let counts = inside.order.now.counts in
-    let named = ap (λ all. list_all (has_row counts) all) c.iter_new_to_old_row_addrs-addrs.ensures ∙ c.self.invariant.named in
-    segment-there inside.column_indexes.now addrs counts c.loop-at.at.place (record { segment_ord = 0; row_id = 0 })
-    c.self.invariant.fit named c.loop-at-test.true
+    segment-walked c.self.inside.column_indexes.now _ c.self.inside.order.now c.loop-at.at.place
+    c.iter_new_to_old_row_addrs-addrs.ensures c.self.invariant.fit c.self.invariant.named c.loop-at-test.true
 
 -- the count of this pick
 there : (c : goal.After-row_known-1)
     → (c.loop-at.at.place < length (shuffled_counts c.args.self.now))
     × (get_or (shuffled_counts c.args.self.now) c.loop-at.at.place 0 ≡ c.from.result)
 there c =
-    let p = c.args.self.now in
-    let indexes = c.self.inside.column_indexes.now in
-    let addrs = c.iter_new_to_old_row_addrs-addrs.result.now in
-    let pick = pick-there indexes addrs p c.loop-at.at.place _ (record { segment_ord = 0; row_id = 0 })
-    (are_of indexes addrs c.self.inside.order.now p c.self.view_is c.iter_new_to_old_row_addrs-addrs.ensures)
-    c.loop-at-test.true refl in
+    let pick = pick-walked c.self.inside.column_indexes.now _ c.self.inside.order.now c.loop-at.at.place
+    c.iter_new_to_old_row_addrs-addrs.ensures c.args.self.now c.self.view_is c.loop-at-test.true in
     (pick.0, pick.1 ∙ sym c.values_at-num_values.ensures ∙ sym c.from.ensures)
 
 pub overflow_cast-result : goal.overflow_cast-result
@@ -66,15 +57,12 @@ returns-then-num_values-ne0-clause-value c =
 pub loop-at-preserved : goal.loop-at-preserved
 loop-at-preserved c =
     let p = c.args.self.now in
-    let indexes = c.self.inside.column_indexes.now in
-    let addrs = c.iter_new_to_old_row_addrs-addrs.result.now in
     let k = c.loop-at.at.place in
     let inner = c.loop-at.at.inner in
     let before = c.loop-at.at.sum in
     let picks = length-shuffled p in
-    let pick = pick-there indexes addrs p k _ (record { segment_ord = 0; row_id = 0 })
-    (are_of indexes addrs c.self.inside.order.now p c.self.view_is c.iter_new_to_old_row_addrs-addrs.ensures)
-    c.loop-at-test.true refl in
+    let pick = pick-walked c.self.inside.column_indexes.now _ c.self.inside.order.now k
+    c.iter_new_to_old_row_addrs-addrs.ensures p c.self.view_is c.loop-at-test.true in
     let none : get_or (shuffled_counts p) k 0 ≡ 0 = pick.1 ∙ sym c.values_at-num_values.ensures ∙ c.if-num_values-ne0.false in
     let step = sum-step (shuffled_counts p) k before 0 pick.0 none c.loop-at.invariant.stands.before in
     let stands : StandsAtSum p (record { segment = c.loop-at.at.segment; place = k + 1; inner = inner; sum = before }) =
@@ -94,11 +82,9 @@ returns-clause-value c =
     let p = c.args.self.now in
     let k = c.loop-at.at.place in
     let inner = c.loop-at.at.inner in
-    let indexes = c.self.inside.column_indexes.now in
-    let addrs = c.iter_new_to_old_row_addrs-addrs.result.now in
-    let are = are_of indexes addrs c.self.inside.order.now p c.self.view_is c.iter_new_to_old_row_addrs-addrs.ensures in
-    let long = length-walked indexes addrs p are in
+    let past = walked-end c.self.inside.column_indexes.now _ c.self.inside.order.now k
+    c.iter_new_to_old_row_addrs-addrs.ensures p c.self.view_is (omega arith) in
     let none =
     first-given inner (ends_behind c.loop-at.at.sum (drop k (shuffled_counts p))) c.loop-at.invariant.first
-    ∙ sums-end (shuffled_counts p) k c.loop-at.at.sum (omega arith) in
+    ∙ sums-end (shuffled_counts p) k c.loop-at.at.sum past in
     (sym c.loop-at.invariant.left ∙ none, none)

@@ -6,7 +6,7 @@ use Rattle.col_indexer.proofs.FinishLemmas.{recorded-index, recorded-offsets}
 use Rattle.col_indexer.proofs.value_index.MultivaluedIndexBuilder.finish.Goals as goal
 use Rattle.col_indexer.proofs.value_index.MultivaluedIndexBuilder.finish.Goals.{then-is_empty, else-is_empty}
 
-starts_begun : (c : goal.After-deref) → c.if-is_empty.starts.now ≡ begun c.self.inside.start_offsets.items
+starts_begun : (c : goal.After-from_lists) → c.if-is_empty.starts.now ≡ begun c.self.inside.start_offsets.items
 starts_begun c =
     let offsets = c.self.inside.start_offsets.items in
     let long = ap (λ n. n == 0) c.self.inside.start_offsets.ok.0 in
@@ -19,7 +19,7 @@ starts_begun c =
 
 pub returns-clause-rows : goal.returns-clause-rows
 returns-clause-rows c =
-    recorded-index c.args.num_docs _ _ _ _ _ c.self.invariant c.self.view_is c.requires.values c.deref.ensures.value
+    c.from_lists.ensures ∙ recorded-index c.args.num_docs _ _ _ _ _ c.self.invariant c.self.view_is c.requires.values c.deref.ensures.value
     (starts_begun c)
 
 pub returns-clause-index : goal.returns-clause-index

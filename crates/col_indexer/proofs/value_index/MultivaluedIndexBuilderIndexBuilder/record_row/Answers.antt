@@ -1,6 +1,6 @@
 use Rattle.std.proofs.Common.{◌≡◌, ◌-◌, ◌++◌, ◌∷◌, ◌==◌, [], ap, sym, ◌∙◌, subst}
 use Rattle.col_common.specs.Ascending.{differences}
-use Rattle.col_indexer.specs.Builders.{Recorded, IsAfter, IsRecording}
+use Rattle.col_indexer.specs.Builders.{RecordedRows, IsAfter, IsRecording}
 use Rattle.col_indexer.proofs.BuilderLemmas.{begun, begun-empty, begun-some, begun-read, row-recorded, row-shown}
 use Rattle.col_indexer.proofs.value_index.MultivaluedIndexBuilderIndexBuilder.record_row.Goals as goal
 use Rattle.col_indexer.proofs.value_index.MultivaluedIndexBuilderIndexBuilder.record_row.Goals.{then-is_empty+in_ok-push, else-is_empty}
@@ -29,7 +29,7 @@ recorded c =
     let rows = c.self.inside.doc_with_values.items in
     let offsets = c.self.inside.start_offsets.items in
     let begins = base_begun c in
-    let after : IsAfter rows c.args.doc = subst (λ (r : Recorded). IsAfter r.rows c.args.doc) (sym c.self.view_is) c.requires.0 in
+    let after : IsAfter rows c.args.doc = subst (λ (r : RecordedRows). IsAfter r.rows c.args.doc) (sym c.self.view_is) c.requires.0 in
     let place = ap (λ n. n - 1) (c.len.ensures ∙ c.if-is_empty.self-inside.start_offsets.ok.0) in
     let both = row-recorded rows offsets _ c.args.doc _ c.self.invariant begins after
     (begun-read offsets _ _ _ begins place c.index-start.ensures) in

@@ -10,7 +10,7 @@ use Rattle.col_model.specs.Dictionary.{terms}
 use Rattle.col_numbers.specs.NumValues.{num_values_of}
 use Rattle.col_text.specs.Texts.{texts_content}
 use Rattle.col_text.proofs.OpenTextLemmas.{uncut, without_terms, without_rows, with_rows, terms-ascend, ordinals-below}
-use Rattle.col_text.proofs.open.open_texts.Goals as goal
+use Rattle.col_text.proofs.open.open_column_bytes.Goals as goal
 
 pub returns-in_err-terms : goal.returns-in_err-terms
 returns-in_err-terms c =

@@ -1,0 +1,20 @@
+-- How often what is left can be halved.
+use Rattle.std.proofs.Common.{◌≡◌, ℕ, suc, ◌+◌, ◌*◌, ◌^◌, ◌<◌, ◌≤◌, ◌∙◌, arith, add-one, pow-suc}
+use Rattle.std.proofs.Math.Nat.{mul_assoc, mul-le-mul_left}
+
+-- what is left after so many halves
+pub record IsHalved (times whole left : ℕ) : Type 0 where
+  pub part : 2 ^ times * left ≤ whole
+  pub few : 2 ^ times ≤ 2 * whole + 1
+
+-- once more, where something is left, and at most half of it after that
+pub halved-more : (times next whole left less : ℕ) → next ≡ times + 1 → 0 < left → 2 * less ≤ left
+    → IsHalved times whole left → IsHalved next whole less
+halved-more times next whole left less is some half h =
+    let doubled : 2 ^ next ≡ 2 ^ times * 2 = rw (is, add-one) (pow-suc 2 times) in
+    let part = h.part in
+    let halves = mul-le-mul_left (2 ^ times) half in
+    record {
+      part = rw doubled (omega (arith, mul_assoc (2 ^ times) 2 less, halves));
+      few = rw doubled (omega (arith, mul-le-mul_left {m = 1} (2 ^ times) some));
+    }
