@@ -1,7 +1,7 @@
 //! Appends documents, and segments of them.
-ghost use Rattle.std.specs.Prelude.{◌∷◌, [], OnOk};
-ghost use Rattle.col_model.specs.GenScript.{delta_lines, doc_lines, docs_lines, segment_lines, with_lines};
-ghost use Rattle.col_gen.specs.Generated.{segment_line, Adds};
+ghost use Rattle.std.specs.Prelude.{OnOk};
+ghost use Rattle.col_model.specs.GenScript.{delta_lines, doc_lines, docs_lines, segment_lines};
+ghost use Rattle.col_gen.specs.Generated.{Adds};
 
 use crate::draws::Draws;
 use crate::lines::{push_addr, push_city, push_delta, push_on, push_segment_line, push_size};
@@ -19,23 +19,10 @@ pub(crate) fn push_segments(
         (segment_lines segments documents draws.old)) }
 {
     for _segment in 0..segments {
-        push_segment(alloc, out, draws, documents)?;
+        push_segment_line(alloc, out, documents)?;
+        push_documents(alloc, out, draws, documents)?;
     }
     Ok(())
-}
-
-// Appends a segment of so many documents.
-fn push_segment(
-    alloc: Global,
-    out: &mut Vec<u8>,
-    draws: &mut Draws,
-    documents: u32,
-) -> Result<(), AllocError>
-    ensures { OnOk result (Adds out.old.items out.new.items draws.new
-        (with_lines (segment_line documents ∷ []) (docs_lines documents 0 draws.old))) }
-{
-    push_segment_line(alloc, out, documents)?;
-    push_documents(alloc, out, draws, documents)
 }
 
 // Appends so many documents.

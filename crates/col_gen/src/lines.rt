@@ -6,7 +6,8 @@ ghost use Rattle.col_model.specs.GenScript.{value_data, size_line, city_lines, d
 ghost use Rattle.col_model.specs.Report.{Prints};
 ghost use Rattle.col_gen.specs.Generated.{segment_line};
 
-use crate::text::{address_digits, city_name, push_line};
+use crate::text::{address_digits, city_name};
+use col_lines::push_line;
 use serde_json::{Value, json};
 use std::alloc::{AllocError, Global};
 

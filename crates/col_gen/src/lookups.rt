@@ -6,7 +6,8 @@ ghost use Rattle.col_model.specs.GenScript.{find_data, lookup_lines};
 ghost use Rattle.col_model.specs.Report.{Prints};
 ghost use Rattle.col_gen.specs.Generated.{size_find, city_find, delta_find, addr_find};
 
-use crate::text::{address_digits, push_line};
+use crate::text::address_digits;
+use col_lines::push_line;
 use serde_json::{Value, json};
 use std::alloc::{AllocError, Global};
 use std::ops::Range;

@@ -6,8 +6,10 @@ mod line;
 mod lookup;
 mod parts;
 mod plain;
+mod print;
 mod value;
 
 pub use line::{Call, Line, TermType, parse_line, read_line};
 pub use lookup::{Ends, Find};
+pub use print::push_line;
 pub use value::TypedValue;

@@ -1,5 +1,6 @@
 //! The parts of a line.
 ghost use Rattle.std.specs.Prelude.{◌≡◌, IfOk, option_map, string_bytes, map};
+ghost use Rattle.serde_json.specs.Data.{string};
 ghost use Rattle.serde_json.specs.Find.{as_str};
 ghost use Rattle.serde_json.specs.View.{view};
 ghost use Rattle.col_model.specs.ColumnType as types;
@@ -64,9 +65,17 @@ pub fn as_bytes(alloc: Global, value: &Value) -> Result<Option<Vec<u8>>, AllocEr
     ensures { IfOk result
         (λ bytes. option_map (λ v. v.items) bytes ≡ hex_bytes (view value.now)) }
 {
-    let Some(digits) = value.as_str() else {
-        return Ok(None);
-    };
+    match value.as_str() {
+        Some(digits) => bytes_spelled(alloc, digits),
+        None => Ok(None),
+    }
+}
+
+/// The bytes that hexadecimal digits spell.
+pub fn bytes_spelled(alloc: Global, digits: &str) -> Result<Option<Vec<u8>>, AllocError>
+    ensures { IfOk result
+        (λ bytes. option_map (λ v. v.items) bytes ≡ hex_bytes (string digits.now)) }
+{
     match hex::decode(alloc, digits) {
         Ok(bytes) => Ok(Some(bytes)),
         Err(FromHexError::OutOfMemory) => Err(AllocError),
@@ -78,9 +87,16 @@ pub fn as_bytes(alloc: Global, value: &Value) -> Result<Option<Vec<u8>>, AllocEr
 pub fn as_ip_addr(value: &Value) -> Option<Ipv6Addr>
     ensures { option_map unsigned_cell result ≡ as_cell types.ip (view value.now) }
 {
-    let Some(digits) = value.as_str() else {
-        return None;
-    };
+    match value.as_str() {
+        Some(digits) => ip_addr_spelled(digits),
+        None => None,
+    }
+}
+
+/// The address that 32 hexadecimal digits spell.
+pub fn ip_addr_spelled(digits: &str) -> Option<Ipv6Addr>
+    ensures { option_map unsigned_cell result ≡ as_cell types.ip (string digits.now) }
+{
     match <[u8; 16] as FromHex>::from_hex(digits) {
         Ok(octets) => Some(Ipv6Addr::from(octets)),
         Err(_) => None,

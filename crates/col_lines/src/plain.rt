@@ -2,8 +2,10 @@
 ghost use Rattle.std.specs.Prelude.{◌≡◌, ◌==◌, ◌<◌, Some, IfSome, IfOk, IsTrue, option_and_then, length, slice_index, true, false};
 ghost use Rattle.json.specs.Reads.{token_of};
 ghost use Rattle.json.specs.Token.{number};
+ghost use Rattle.serde_json.specs.Data.{string, boolean};
 ghost use Rattle.serde_json.specs.Read.{number_of, number_from};
-ghost use Rattle.serde_json.specs.View.{view, number_view};
+ghost use Rattle.serde_json.specs.View.{number_view};
+ghost use Rattle.col_model.specs.ColumnType as types;
 ghost use Rattle.col_model.specs.Script.{as_u32, line_spelled};
 ghost use Rattle.col_types.specs.Kinds.{kind_of};
 ghost use Rattle.col_lines.specs.Lines.{script_line_of};
@@ -11,13 +13,13 @@ ghost use Rattle.col_lines.specs.Plain.{tokens_of, data_of, plain_line};
 ghost use Rattle.col_lines.specs.Values.{typed_as, typed_cell};
 
 use crate::line::{Call, Line};
-use crate::parts::type_named;
-use crate::value::{TypedValue, take_value};
-use col_common::DocId;
+use crate::parts::{bytes_spelled, ip_addr_spelled, type_named};
+use crate::value::TypedValue;
+use col_common::{DateTime, DocId};
 use col_types::ColumnType;
 use fast_float::Numeral;
 use json::{Reader, Scratch, Token};
-use serde_json::{Number, Value};
+use serde_json::Number;
 use std::alloc::{AllocError, Global};
 
 // The parts of a line in the plain form.
@@ -119,33 +121,81 @@ fn value_of(
         option_and_then (typed_as (kind_of column_type)) (data_of (token_of token.entry))
         ≡ Some (typed_cell v))) }
 {
-    match json_of(alloc, token)? {
-        Some(mut value) => take_value(alloc, column_type, &mut value),
-        None => Ok(None),
-    }
-}
-
-// The JSON value that a token is by itself.
-fn json_of(alloc: Global, token: Token<'_>) -> Result<Option<Value>, AllocError>
-    ensures { IfOk result
-        (λ value. IfSome value (λ v. data_of (token_of token.entry) ≡ Some (view v))) }
-{
     match token {
-        Token::String(text) => {
-            let text = String::from_str(alloc, text)?;
-            Ok(Some(Value::from(text)))
-        }
-        Token::Number(text) => Ok(json_number(text)),
-        Token::Bool(truth) => Ok(Some(Value::from(truth))),
+        Token::String(text) => text_value(alloc, column_type, text),
+        Token::Number(text) => Ok(numeral_value(column_type, text)),
+        Token::Bool(truth) => Ok(truth_value(column_type, truth)),
         _ => Ok(None),
     }
 }
 
-// The JSON value of a numeral.
-fn json_number(text: &str) -> Option<Value>
-    ensures { IfSome result (λ v. data_of (number text.now) ≡ Some (view v)) }
+// The value of a text.
+fn text_value(
+    alloc: Global,
+    column_type: ColumnType,
+    text: &str,
+) -> Result<Option<TypedValue>, AllocError>
+    ensures { IfOk result (λ found. IfSome found (λ v.
+        typed_as (kind_of column_type) (string text.now) ≡ Some (typed_cell v))) }
 {
-    Some(Value::from(as_number(text)?))
+    match column_type {
+        ColumnType::Bytes => bytes_of(alloc, text),
+        ColumnType::Str => str_of(alloc, text),
+        ColumnType::IpAddr => Ok(ip_addr_of(text)),
+        _ => Ok(None),
+    }
+}
+
+fn bytes_of(alloc: Global, digits: &str) -> Result<Option<TypedValue>, AllocError>
+    ensures { IfOk result (λ found. IfSome found (λ v.
+        typed_as types.bytes (string digits.now) ≡ Some (typed_cell v))) }
+{
+    match bytes_spelled(alloc, digits)? {
+        Some(bytes) => Ok(Some(TypedValue::Bytes(bytes))),
+        None => Ok(None),
+    }
+}
+
+fn str_of(alloc: Global, text: &str) -> Result<Option<TypedValue>, AllocError>
+    ensures { IfOk result (λ found. IfSome found (λ v.
+        typed_as types.str (string text.now) ≡ Some (typed_cell v))) }
+{
+    let text = String::from_str(alloc, text)?;
+    Ok(Some(TypedValue::Str(text)))
+}
+
+fn ip_addr_of(digits: &str) -> Option<TypedValue>
+    ensures { IfSome result (λ v. typed_as types.ip (string digits.now) ≡ Some (typed_cell v)) }
+{
+    Some(TypedValue::IpAddr(ip_addr_spelled(digits)?))
+}
+
+// The value of a numeral.
+fn numeral_value(column_type: ColumnType, text: &str) -> Option<TypedValue>
+    ensures { IfSome result (λ v. option_and_then (typed_as (kind_of column_type))
+        (data_of (number text.now)) ≡ Some (typed_cell v)) }
+{
+    let number = as_number(text)?;
+    match column_type {
+        ColumnType::I64 => Some(TypedValue::I64(number.as_i64()?)),
+        ColumnType::U64 => Some(TypedValue::U64(number.as_u64()?)),
+        ColumnType::DateTime => {
+            let nanos = number.as_i64()?;
+            Some(TypedValue::DateTime(DateTime::from_timestamp_nanos(nanos)))
+        }
+        _ => None,
+    }
+}
+
+// The value of true or false.
+fn truth_value(column_type: ColumnType, truth: bool) -> Option<TypedValue>
+    ensures { IfSome result (λ v.
+        typed_as (kind_of column_type) (boolean truth) ≡ Some (typed_cell v)) }
+{
+    match column_type {
+        ColumnType::Bool => Some(TypedValue::Bool(truth)),
+        _ => None,
+    }
 }
 
 // The number that a numeral without point and exponent is.

@@ -1,5 +1,5 @@
 //! The segments of a script, and the calls that record into them.
-ghost use Rattle.std.specs.Prelude.{◌≡◌, [], OnErr, OnOk};
+ghost use Rattle.std.specs.Prelude.{◌≡◌, [], IfSome, OnErr, OnOk};
 ghost use Rattle.col_model.specs.Recording.{content_after, recorded};
 ghost use Rattle.col_writer_columns.specs.Answers.{RecordsOrRefuses};
 ghost use Rattle.col_lines.specs.Lines.{call_of};
@@ -37,6 +37,8 @@ impl Segment {
     pub fn record(&mut self, call: &Call) -> Result<(), AllocError>
         ensures ok { OnOk result
             (segment_of self.new ≡ after_call (segment_of self.old) (call_of call.now)) }
+        ensures refused { OnOk result (IfSome self.new.refusal
+            (λ refusal. self.new.columns ≡ self.old.columns)) }
         ensures kept { OnErr result (self.new ≡ self.old) }
     {
         if self.refusal.is_some() {

@@ -2,7 +2,7 @@
 use Rattle.std.proofs.Common.{◌≡◌, ◌<◌, ◌≤◌, ℕ, zero, suc, ◌+◌, ◌-◌, List, [], ◌∷◌, length, map, sum, Bool, true, false, cond, Some, None, refl, sym, ◌∙◌, ap, arith, le-leb, lt-ltb, eq-eqb}
 use Rattle.std.specs.Prelude.{nat_lt, nat_le, ◌==◌, count_by, max, unwrap_or, option_map, slice_get}
 use Rattle.std.specs.List.{list_all, last_or, range_with_len}
-use Rattle.std.proofs.lemmas.Bool.{and_parts, and_from}
+use Rattle.std.proofs.lemmas.Bool.{and_parts, and_from, false_from_ne_true}
 use Rattle.std.proofs.lemmas.List.Sums.{sum_by-cons}
 use Rattle.std.proofs.lemmas.List.FromFn.{length-map-range_with_len}
 use Rattle.col_common.specs.Ascending.{is_never_falling, is_rising, are_below}
@@ -10,7 +10,8 @@ use Rattle.col_model.specs.Table.{full, optional, multivalued}
 use Rattle.col_index.proofs.RankLaws.{tail_rises}
 use Rattle.col_writer_rows.proofs.DocumentLemmas.{last_or-found}
 use Rattle.col_writer_rows.proofs.ShapeLemmas.{all_above, none_counted}
-use Rattle.col_writer_columns.specs.Cardinalities.{doc_counts, rows_up_to, cardinality_by}
+use Rattle.col_writer_rows.specs.Counted.{counts_of_rows}
+use Rattle.col_writer_columns.specs.Cardinalities.{rows_up_to, cardinality_by}
 
 -- ---- the last document
 
@@ -204,45 +205,40 @@ count_at a (suc n) docs e row low high =
 
 -- ---- the three ways
 
-by_tests : (n : ℕ) (docs : List ℕ) (a b : Bool) → list_all (λ c. c == 1) (doc_counts (rows_up_to n docs) docs) ≡ a
-    → list_all (λ c. nat_le c 1) (doc_counts (rows_up_to n docs) docs) ≡ b
+by_tests : (n : ℕ) (docs : List ℕ) (a b : Bool) → list_all (λ c. c == 1) (counts_of_rows (rows_up_to n docs) docs) ≡ a
+    → list_all (λ c. nat_le c 1) (counts_of_rows (rows_up_to n docs) docs) ≡ b
     → cardinality_by n docs ≡ cond a full (cond b optional multivalued)
 by_tests n docs a b e f = λ i. cond (e i) full (cond (f i) optional multivalued)
 
--- what isn't true
-not_true : (b : Bool) → (b ≡ true → ⊥) → b ≡ false
-not_true true h = absurd (h refl)
-not_true false h = refl
-
 -- documents that never fall, and don't rise, are Multivalued
 pub is-multivalued : (n : ℕ) (docs : List ℕ) → is_never_falling docs ≡ true → is_rising docs ≡ false → multivalued ≡ cardinality_by n docs
-unfolding doc_counts
+unfolding counts_of_rows
 is-multivalued n docs fall e =
     let m = rows_up_to n docs in
     let many : list_all (λ c. nat_le c 1) (counts_in 0 m docs) ≡ false =
-    not_true _ (λ small. let rises = few-rises m docs fall (below_rows n docs fall)
+    false_from_ne_true _ (λ small. let rises = few-rises m docs fall (below_rows n docs fall)
     (λ row l. count_at 0 m docs small row (omega arith) (omega arith)) in let no : false ≡ true = sym e ∙ rises
     in cc) in
     let no_ones : list_all (λ c. c == 1) (counts_in 0 m docs) ≡ false =
-    not_true _ (λ one. let no : false ≡ true = sym many ∙ small_ones (counts_in 0 m docs) one in cc) in
+    false_from_ne_true _ (λ one. let no : false ≡ true = sym many ∙ small_ones (counts_in 0 m docs) one in cc) in
     sym (by_tests n docs false false no_ones many)
 
 -- documents that rise and are fewer than the rows are Optional
 pub is-optional : (n : ℕ) (docs : List ℕ) → is_never_falling docs ≡ true → is_rising docs ≡ true
     → length docs < rows_up_to n docs → optional ≡ cardinality_by n docs
-unfolding doc_counts
+unfolding counts_of_rows
 is-optional n docs fall e few =
     let m = rows_up_to n docs in
     let total = sum-counts m docs (below_rows n docs fall) in
     let long = length-map-range_with_len (λ row. count_by (λ x. x == row) docs) 0 m in
     let no_ones : list_all (λ c. c == 1) (counts_in 0 m docs) ≡ false =
-    not_true _ (λ one. let same = ones (counts_in 0 m docs) one in omega (arith, same, total, long, few)) in
+    false_from_ne_true _ (λ one. let same = ones (counts_in 0 m docs) one in omega (arith, same, total, long, few)) in
     sym (by_tests n docs false true no_ones (small_counts 0 m docs e))
 
 -- documents that rise and are as many as the rows are Full
 pub is-full : (n : ℕ) (docs : List ℕ) → is_never_falling docs ≡ true → is_rising docs ≡ true
     → rows_up_to n docs ≤ length docs → full ≡ cardinality_by n docs
-unfolding doc_counts
+unfolding counts_of_rows
 is-full n docs fall e many =
     let m = rows_up_to n docs in
     let total = sum-counts m docs (below_rows n docs fall) in

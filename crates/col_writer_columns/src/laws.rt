@@ -9,6 +9,7 @@ use crate::ColumnWriter;
 pub fn count_operations<T: Copy>(column: &ColumnWriter<T>) -> u64
     ensures { result ≡ length (operations_of column.now) }
 {
+    // That 32 bits count the values, and so 64 the steps.
     let _num_values = column.num_values();
     let mut operations = column.operations();
     let mut count = 0;

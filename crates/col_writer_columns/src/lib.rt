@@ -20,6 +20,6 @@ pub use compatible_types::CompatibleNumericalTypes;
 pub use laws::count_operations;
 pub use numerical_column_writer::NumericalColumnWriter;
 pub use plain_column_writer::PlainColumnWriter;
-pub use sort_order::is_past;
+pub use sort_order::{SortedDocs, is_past};
 pub use str_or_bytes_column_writer::StrOrBytesColumnWriter;
 pub use type_list::TypeList;

@@ -18,7 +18,7 @@ ghost use Rattle.col_writer_columns.specs.Values.{value_type, stored_number};
 
 use crate::ranges::codes_fit;
 use crate::sort_keys::NumberKeys;
-use crate::sort_order::sort_docs;
+use crate::sort_order::{SortedDocs, sort_docs};
 use crate::{ColumnWriter, CompatibleNumericalTypes, TypeList};
 use col_common::{ColumnarError, DocId, RowId, SIGN_BIT};
 use col_index::Cardinality;
@@ -146,6 +146,7 @@ impl NumericalColumnWriter {
             accept_type self.now.records t ≡ true }
         ensures unsorted { self.now.sorts ≡ false }
     {
+        // That the writer's invariant holds.
         let _ = &self.column;
     }
 
@@ -158,12 +159,7 @@ impl NumericalColumnWriter {
     }
 
     /// The documents 0 to `num_docs` - 1 by their first number, or by falling ones.
-    pub fn sort_order(
-        &self,
-        alloc: Global,
-        num_docs: RowId,
-        reversed: bool,
-    ) -> Result<Vec<DocId>, ColumnarError>
+    pub fn sort_order(&self, alloc: Global, num_docs: RowId, reversed: bool) -> SortedDocs
         ensures { Gives (λ v. v.items) result (sorted_docs self.now.records num_docs reversed) }
     {
         let keys = NumberKeys::new(&self.types, self.column.values());

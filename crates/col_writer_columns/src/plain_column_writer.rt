@@ -14,7 +14,7 @@ ghost use Rattle.col_writer_columns.specs.Values.{time_cell};
 use crate::ColumnWriter;
 use crate::ranges::{addresses_fit, codes_fit};
 use crate::sort_keys::TimeKeys;
-use crate::sort_order::sort_docs;
+use crate::sort_order::{SortedDocs, sort_docs};
 use col_common::{ColumnarError, DocId, Ipv6Addr, RowId};
 use std::alloc::Global;
 
@@ -74,12 +74,7 @@ impl PlainColumnWriter<u64> {
 
     /// The documents 0 to `num_docs` - 1 by their first point in time, of which these are the
     /// codes, or by falling ones.
-    pub fn sort_order(
-        &self,
-        alloc: Global,
-        num_docs: RowId,
-        reversed: bool,
-    ) -> Result<Vec<DocId>, ColumnarError>
+    pub fn sort_order(&self, alloc: Global, num_docs: RowId, reversed: bool) -> SortedDocs
         ensures { Gives (λ v. v.items) result
             (sorted_docs (records_of types.datetime time_cell self.now.column) num_docs reversed) }
     {

@@ -8,6 +8,7 @@ use col_common::Ipv6Addr;
 pub(crate) fn codes_fit(codes: &[u64])
     ensures { AreBelow (2 ^ 64) codes.now }
 {
+    // That each item of such a list has the range of its type.
     let _ = codes;
 }
 
@@ -20,8 +21,10 @@ pub(crate) fn addresses_fit(addresses: &[Ipv6Addr])
     }
 }
 
+// That an address fits 128 bits.
 fn address_fits(address: Ipv6Addr)
     ensures { address < 2 ^ 128 }
 {
+    // That its bits have the range of their type.
     let _bits = address.to_bits();
 }

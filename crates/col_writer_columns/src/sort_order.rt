@@ -9,6 +9,9 @@ use col_common::{ColumnarError, DocId, RowId};
 use col_writer_rows::DocList;
 use std::alloc::{AllocError, Global};
 
+/// Documents in an order, or why there is none.
+pub type SortedDocs = Result<Vec<DocId>, ColumnarError>;
+
 // The key of a document without a value.
 const NO_KEY: u128 = 0;
 
@@ -20,7 +23,7 @@ pub(crate) fn sort_docs<K: SortKeys>(
     keys: &K,
     num_docs: RowId,
     reversed: bool,
-) -> Result<Vec<DocId>, ColumnarError>
+) -> SortedDocs
     requires { length docs.now ≡ length (K.keys keys.now) }
     ensures { Gives (λ v. v.items) result
         (docs_after (zip docs.now (K.keys keys.now)) num_docs reversed) }

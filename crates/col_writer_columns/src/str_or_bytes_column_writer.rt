@@ -14,7 +14,7 @@ ghost use Rattle.col_writer_columns.specs.Texts.{no_texts, HaveTexts};
 
 use crate::ColumnWriter;
 use crate::sort_keys::TextKeys;
-use crate::sort_order::sort_docs;
+use crate::sort_order::{SortedDocs, sort_docs};
 use col_common::{ColumnarError, DocId, RowId};
 use col_terms::{DictionaryBuilder, terms_are_those_given};
 use std::alloc::Global;
@@ -127,12 +127,7 @@ impl StrOrBytesColumnWriter {
     }
 
     /// The documents 0 to `num_docs` - 1 by their first text, or by falling ones.
-    pub fn sort_order(
-        &self,
-        alloc: Global,
-        num_docs: RowId,
-        reversed: bool,
-    ) -> Result<Vec<DocId>, ColumnarError>
+    pub fn sort_order(&self, alloc: Global, num_docs: RowId, reversed: bool) -> SortedDocs
         ensures { (t : types.ColumnType) → Gives (λ v. v.items) result
             (sorted_docs (records_of t text self.now.values) num_docs reversed) }
     {

@@ -58,6 +58,7 @@ impl TypeList {
     pub fn are_numerical(&self)
         ensures { list_all is_numerical self.now ≡ true }
     {
+        // That the list's invariant holds.
         let _ = &self.others;
     }
 

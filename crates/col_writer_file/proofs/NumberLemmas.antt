@@ -27,9 +27,15 @@ use Rattle.col_writer_rows.proofs.TextLemmas.{stores-all}
 use Rattle.col_writer_columns.specs.Numerical.{numerical_records, AreCodes}
 use Rattle.col_writer_columns.specs.Values.{stored_number, unsigned_of}
 use Rattle.col_writer_columns.proofs.NumericalLemmas.{docs-records}
-use Rattle.col_writer_file.specs.Numbers.{IsNumbersOf}
 use Rattle.col_writer_file.specs.OnRows.{Fit64, content_on}
 use Rattle.col_writer_file.proofs.OnRowLemmas.{plain-content, column-as}
+
+-- An entry of numbers with these codes, which a type holds. It has no tie start.
+pub record IsNumbersOf (t : ColumnType) (e : Entry) (ps : List (ℕ × ℕ)) : Type 0 where
+  pub codes : AreCodes e.records ps
+  pub holds : accept_type e.records t ≡ true
+  pub unsorted : e.sorts ≡ false
+  pub untied : e.tie_start ≡ None
 
 -- ---- a number by its code
 

@@ -20,7 +20,7 @@ use Rattle.col_writer_rows.specs.RowOrders.{docs_placed}
 use Rattle.col_writer_columns.specs.Answers.{Refuses, answer_of}
 use Rattle.col_writer_file.specs.OnRows.{recorded_docs}
 use Rattle.col_writer_file.specs.Tables.{named_entry, slot_type_of, made, WritesFile, WritesTable}
-use Rattle.col_writer_file.specs.declared.named_column.NamedColumn.{NamedColumn}
+use Rattle.col_writer_file.specs.declared.named_entry.NamedEntry.{NamedEntry}
 use Rattle.col_writer_file.proofs.OnRowLemmas.{length-placed}
 use Rattle.col_writer_file.proofs.WrittenLemmas.{named, written-past, written-misplaced, written-placed}
 
@@ -61,7 +61,7 @@ order-refused a w n perm e free (inl p) misplaced =
 order-refused a w n perm e free (inr p) misplaced = table-no_memory a (written w n perm) e p
 
 -- a test of some column
-pub any-named_entry : (test : Slot × Entry → Bool) (xs : List NamedColumn)
+pub any-named_entry : (test : Slot × Entry → Bool) (xs : List NamedEntry)
     → list_any (λ c. test (named_entry c)) xs ≡ list_any test (map named_entry xs)
 any-named_entry test [] = refl
 any-named_entry test (x ∷ xs) = ap (λ b. test (named_entry x) || b) (any-named_entry test xs)
@@ -75,7 +75,7 @@ pub record ArePlaced (w : Recorded) (n : ℕ) (perm : Option (List ℕ)) (ds : L
   pub placed : ds ≡ docs_placed n perm
 
 -- documents below the count that an order has placed
-pub placed-here : (xs : List NamedColumn) (n : ℕ) (perm : Option (List ℕ)) (ds : List ℕ) (past : Bool)
+pub placed-here : (xs : List NamedEntry) (n : ℕ) (perm : Option (List ℕ)) (ds : List ℕ) (past : Bool)
     → past ≡ list_any (λ c. is_past_docs n (named_entry c)) xs → past ≡ false
     → (ds ≡ docs_placed n perm) × (is_permutation n perm ≡ true) → ArePlaced (map named_entry xs) n perm ds
 placed-here xs n perm ds past told free order =
@@ -153,13 +153,13 @@ all-below n ((slot, entry) ∷ w) e = by (is_past_docs n (slot, entry)) refl e (
     by false p e later = kept (not (has_zero slot.name)) (docs-below n entry.records p) (later e)
 
 -- a test of the entries of named columns is that of the named columns
-pub all-named_entry : (test : Slot × Entry → Bool) (xs : List NamedColumn)
+pub all-named_entry : (test : Slot × Entry → Bool) (xs : List NamedEntry)
     → list_all (λ c. test (named_entry c)) xs ≡ list_all test (map named_entry xs)
 all-named_entry test [] = refl
 all-named_entry test (x ∷ xs) = ap (λ b. test (named_entry x) && b) (all-named_entry test xs)
 
 -- the documents of all columns are below the number of rows, where none was past it
-pub columns-below : (w : Recorded) (n : ℕ) (perm : Option (List ℕ)) (ds : List ℕ) (xs : List NamedColumn)
+pub columns-below : (w : Recorded) (n : ℕ) (perm : Option (List ℕ)) (ds : List ℕ) (xs : List NamedEntry)
     → ArePlaced w n perm ds → map named_entry xs ≡ named w
     → list_all (λ c. are_below (length ds) (recorded_docs (named_entry c).1)) xs ≡ true
 columns-below w n perm ds xs h same =
@@ -177,7 +177,7 @@ all-kept (p ∷ w) = by (not (has_zero p.0.name)) refl (all-kept w)
     by false e later = later
 
 -- no column has a name with a zero byte
-pub columns-named : (w : Recorded) (xs : List NamedColumn) → map named_entry xs ≡ named w
+pub columns-named : (w : Recorded) (xs : List NamedEntry) → map named_entry xs ≡ named w
     → list_all (λ c. not (has_zero (named_entry c).0.name)) xs ≡ true
 columns-named w xs same = all-named_entry (λ p. not (has_zero p.0.name)) xs ∙ ap (list_all (λ p. not (has_zero p.0.name))) same ∙ all-kept w
 
@@ -186,7 +186,7 @@ is-true true t = refl
 is-true false t = absurd t
 
 -- the named columns of a sorted content are sorted by their slots
-pub columns-sorted : (w : Recorded) (xs : List NamedColumn) → map named_entry xs ≡ named w
+pub columns-sorted : (w : Recorded) (xs : List NamedEntry) → map named_entry xs ≡ named w
     → is_sorted slot_cmp w ≡ true → is_sorted slot_cmp (map named_entry xs) ≡ true
 columns-sorted w xs same sorted =
     ap (is_sorted slot_cmp) same ∙ is-true _ (is_sorted-where_key slot_cmp (λ q. not (has_zero q.name)) w (subst T (sym sorted) tt))
@@ -196,6 +196,6 @@ past-in n [] = refl
 past-in n (r ∷ records) = ap (λ b. nat_le n r.doc || b) (past-in n records)
 
 -- a document past n among a column's is one among its entry's
-pub past-told : (n : ℕ) (docs : List ℕ) (c : NamedColumn) (b : Bool) → b ≡ list_any (λ d. nat_le n d) docs
+pub past-told : (n : ℕ) (docs : List ℕ) (c : NamedEntry) (b : Bool) → b ≡ list_any (λ d. nat_le n d) docs
     → docs ≡ recorded_docs (named_entry c).1 → b ≡ is_past_docs n (named_entry c)
 past-told n docs c b e same = e ∙ ap (list_any (λ d. nat_le n d)) same ∙ past-in n (named_entry c).1.records

@@ -14,32 +14,32 @@ use Rattle.col_types.specs.declared.column_type.ColumnType.{ColumnType as Kind}
 use Rattle.col_writer_file.specs.EntryColumns.{entry_in}
 use Rattle.col_writer_file.specs.OnRows.{recorded_docs, content_on}
 use Rattle.col_writer_file.specs.Tables.{named_entry, slot_type_of, made, PutsColumn, ArePut, PutsColumns}
-use Rattle.col_writer_file.specs.declared.named_column.NamedColumn.{NamedColumn}
+use Rattle.col_writer_file.specs.declared.named_entry.NamedEntry.{NamedEntry}
 use Rattle.col_writer_file.proofs.EachLemmas.{all-at, each-at, each-map}
 use Rattle.col_writer_file.proofs.PutColumnLemmas.{put-more}
 use Rattle.col_writer_file.proofs.TableLemmas.{made-more, types-long}
 
 -- its documents are below the count of rows
-pub below-at : (ds : List ℕ) (xs : List NamedColumn) (i : ℕ) (x : NamedColumn)
+pub below-at : (ds : List ℕ) (xs : List NamedEntry) (i : ℕ) (x : NamedEntry)
     → list_all (λ c. are_below (length ds) (recorded_docs (named_entry c).1)) xs ≡ true → i < length xs
     → x ≡ get_or xs i x → are_below (length ds) (recorded_docs (entry_in x.column)) ≡ true
 below-at ds xs i x all h is =
-    ap (λ (c : NamedColumn). are_below (length ds) (recorded_docs (named_entry c).1)) is
+    ap (λ (c : NamedEntry). are_below (length ds) (recorded_docs (named_entry c).1)) is
     ∙ all-at (λ c. are_below (length ds) (recorded_docs (named_entry c).1)) xs i x all h
 
 -- it refuses nothing
-pub typed-at : (ds : List ℕ) (xs : List NamedColumn) (ks : List Kind) (i : ℕ) (x : NamedColumn) (d : Kind)
+pub typed-at : (ds : List ℕ) (xs : List NamedEntry) (ks : List Kind) (i : ℕ) (x : NamedEntry) (d : Kind)
     → each_ok (slot_type_of ds) (map named_entry xs) ≡ Ok (map kind_of ks) → i < length xs → x ≡ get_or xs i x
     → slot_type_of ds (named_entry x) ≡ Ok (kind_of (get_or ks i d))
 typed-at ds xs ks i x d e h is =
-    ap (λ (c : NamedColumn). slot_type_of ds (named_entry c)) is
-    ∙ each-at (λ (c : NamedColumn). slot_type_of ds (named_entry c)) xs (map kind_of ks) i x (kind_of d)
+    ap (λ (c : NamedEntry). slot_type_of ds (named_entry c)) is
+    ∙ each-at (λ (c : NamedEntry). slot_type_of ds (named_entry c)) xs (map kind_of ks) i x (kind_of d)
     (sym (each-map (slot_type_of ds) named_entry xs) ∙ e) h
     ∙ ap Ok (get_or-map kind_of ks i d)
 
 -- one more column was put
-pub put-next : (start a b : SeenSink) (old new : PutColumns) (ds : List ℕ) (xs : List NamedColumn) (ks : List Kind)
-    (i j : ℕ) (x : NamedColumn) (d : Kind) (done : Unit {0})
+pub put-next : (start a b : SeenSink) (old new : PutColumns) (ds : List ℕ) (xs : List NamedEntry) (ks : List Kind)
+    (i j : ℕ) (x : NamedEntry) (d : Kind) (done : Unit {0})
     → ArePut start a old (length ds) (made ds (map named_entry (take i xs)) (take i (map kind_of ks)))
     → PutsColumn old new a b (Ok done) (key_at x.name.now (get_or ks i d)) (length ds)
     (content_on (entry_in x.column) ds) → is_utf8 x.name.now ≡ true → i < length xs → i < length ks → j ≡ suc i
@@ -59,7 +59,7 @@ put-next start a b old new ds xs ks i j x d done have puts text h g step is =
     (key_at x.name.now (get_or ks i d)) (content_on (entry_in x.column) ds) done have puts text)
 
 -- all columns were put
-pub put-all : (start now : SeenSink) (file : PutColumns) (ds : List ℕ) (xs : List NamedColumn) (ks : List Kind) (i : ℕ)
+pub put-all : (start now : SeenSink) (file : PutColumns) (ds : List ℕ) (xs : List NamedEntry) (ks : List Kind) (i : ℕ)
     (done : Unit {0})
     → ArePut start now file (length ds) (made ds (map named_entry (take i xs)) (take i (map kind_of ks)))
     → each_ok (slot_type_of ds) (map named_entry xs) ≡ Ok (map kind_of ks) → length xs ≤ i

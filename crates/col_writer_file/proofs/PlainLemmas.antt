@@ -20,6 +20,7 @@ use Rattle.col_writer_columns.specs.Columns.{records_of, plain_entry}
 use Rattle.col_writer_columns.specs.declared.plain_column_writer.PlainColumnWriter.{PlainColumnWriter}
 use Rattle.col_types.specs.Cells.{unsigned_cell}
 use Rattle.col_values.specs.Codes.{bool_code}
+use Rattle.std.proofs.lemmas.List.{map-id}
 use Rattle.col_writer_file.specs.OnRows.{rows_on, content_on}
 use Rattle.col_writer_file.proofs.OnRowLemmas.{by-doc, column-as}
 use Rattle.col_writer_file.proofs.NumberLemmas.{number-entry}
@@ -68,10 +69,6 @@ all-times (x ∷ xs) = all-times xs
 pub stores-times : (xs : List ℕ) → Stores64 types.datetime xs
 stores-times xs = record { list = λ bytes. refl; images = all-times xs }
 
-map-id : (xs : List ℕ) → map (λ x. x) xs ≡ xs
-map-id [] = refl
-map-id (x ∷ xs) = ap (λ r. x ∷ r) (map-id xs)
-
 -- numbers are the images of themselves
 pub same-numbers : (xs : List ℕ) → xs ≡ map (λ x. x) xs
 same-numbers xs = sym (map-id xs)
@@ -95,10 +92,6 @@ pub codes-of-rows : (ds docs numbers : List ℕ) (w : PlainColumnWriter ℕ) →
     ≡ nat_le (2 ^ 32) (least_codes (joined_lists (picked_rows ds (zip docs numbers))))
 codes-of-rows ds docs numbers w same_docs same =
     ap (has_many_codes types.ip) (address-rows ds docs numbers w same_docs same) ∙ codes-needed ds docs numbers
-
--- a count that isn't past 32 bits is below 2 ^ 32
-pub few-codes : (n : ℕ) → nat_le (2 ^ 32) n ≡ false → n < 2 ^ 32
-few-codes n e = grind arith
 
 -- an answer that tells a fact tells an equal one
 pub codes-told : {E : Type 0} (result : Result Bool E) (a b : Bool) → a ≡ b → IfOk result (λ x. x ≡ b) → IfOk result (λ x. x ≡ a)

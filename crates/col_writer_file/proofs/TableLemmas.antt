@@ -16,27 +16,27 @@ use Rattle.col_types.specs.declared.column_type.ColumnType.{ColumnType as Kind}
 use Rattle.col_writer_file.specs.EntryColumns.{category_in}
 use Rattle.col_writer_file.specs.OnRows.{content_on}
 use Rattle.col_writer_file.specs.Tables.{named_entry, slot_type_of, made}
-use Rattle.col_writer_file.specs.declared.named_column.NamedColumn.{NamedColumn}
+use Rattle.col_writer_file.specs.declared.named_entry.NamedEntry.{NamedEntry}
 use Rattle.col_writer_file.proofs.EachLemmas.{whole-at, each-stopped, each-length}
 
 -- ---- the tests
 
 -- the types of the columns up to a place
-pub record AreChecked (ds : List ℕ) (xs : List NamedColumn) (i : ℕ) (ks : List Kind) : Type 0 where
+pub record AreChecked (ds : List ℕ) (xs : List NamedEntry) (i : ℕ) (ks : List Kind) : Type 0 where
   pub typed : each_ok (slot_type_of ds) (map named_entry (take i xs)) ≡ Ok (map kind_of ks)
   pub categories : map (λ k. category_of (kind_of k)) ks ≡ map (λ c. category_in c.column) (take i xs)
 
 -- before the first column no types are told
-pub checked-none : (ds : List ℕ) (xs : List NamedColumn) (ks : List Kind) → ks ≡ [] → AreChecked ds xs 0 ks
+pub checked-none : (ds : List ℕ) (xs : List NamedEntry) (ks : List Kind) → ks ≡ [] → AreChecked ds xs 0 ks
 checked-none ds xs ks e = record { typed = ap (λ r. Ok (map kind_of r)) (sym e); categories = ap (map (λ k. category_of (kind_of k))) e }
 
-named_entry-more : (xs : List NamedColumn) (i : ℕ) (d : NamedColumn) → i < length xs
+named_entry-more : (xs : List NamedEntry) (i : ℕ) (d : NamedEntry) → i < length xs
     → map named_entry (take (suc i) xs) ≡ map named_entry (take i xs) ++ named_entry (get_or xs i d) ∷ []
 named_entry-more xs i d h = ap (map named_entry) (take-suc xs i d h) ∙ map-append named_entry (take i xs) (get_or xs i d ∷ [])
 
 -- one column more has its type told, in its own category
 pub checked-more :
-    (ds : List ℕ) (xs : List NamedColumn) (i j : ℕ) (d x : NamedColumn) (ks more : List Kind) (k : Kind)
+    (ds : List ℕ) (xs : List NamedEntry) (i j : ℕ) (d x : NamedEntry) (ks more : List Kind) (k : Kind)
     → AreChecked ds xs i ks → i < length xs → j ≡ suc i → x ≡ get_or xs i d
     → Gives kind_of (Ok k) (slot_type_of ds (named_entry x)) → category_of (kind_of k) ≡ category_in x.column
     → more ≡ ks ++ k ∷ [] → AreChecked ds xs j more
@@ -52,15 +52,15 @@ checked-more ds xs i j d x ks more k a h step is gives same grown =
           ∙ ap Ok (sym (ap (map kind_of) grown ∙ map-append kind_of ks (k ∷ [])));
       categories =
           ap (map (λ r. category_of (kind_of r))) grown ∙ map-append (λ r. category_of (kind_of r)) ks (k ∷ [])
-          ∙ (λ p. a.categories p ++ (same ∙ ap (λ (y : NamedColumn). category_in y.column) is) p ∷ [])
-          ∙ sym (map-append (λ (c : NamedColumn). category_in c.column) (take i xs) (get_or xs i d ∷ []))
-          ∙ ap (map (λ (c : NamedColumn). category_in c.column)) (sym (take-suc xs i d h))
-          ∙ ap (λ n. map (λ (c : NamedColumn). category_in c.column) (take n xs)) (sym step);
+          ∙ (λ p. a.categories p ++ (same ∙ ap (λ (y : NamedEntry). category_in y.column) is) p ∷ [])
+          ∙ sym (map-append (λ (c : NamedEntry). category_in c.column) (take i xs) (get_or xs i d ∷ []))
+          ∙ ap (map (λ (c : NamedEntry). category_in c.column)) (sym (take-suc xs i d h))
+          ∙ ap (λ n. map (λ (c : NamedEntry). category_in c.column) (take n xs)) (sym step);
     }
 
 -- a refusal of the next column is that of all
-pub checked-refused : {V : Type 0} (view : V → List ColumnType) (ds : List ℕ) (xs : List NamedColumn) (i : ℕ)
-    (d x : NamedColumn) (ks : List Kind) (e f : ColumnarError) → AreChecked ds xs i ks → i < length xs
+pub checked-refused : {V : Type 0} (view : V → List ColumnType) (ds : List ℕ) (xs : List NamedEntry) (i : ℕ)
+    (d x : NamedEntry) (ks : List Kind) (e f : ColumnarError) → AreChecked ds xs i ks → i < length xs
     → x ≡ get_or xs i d → Gives kind_of (Err e) (slot_type_of ds (named_entry x)) → f ≡ e
     → Gives view (Err f) (each_ok (slot_type_of ds) (map named_entry xs))
 checked-refused view ds xs i d x ks e f a h is gives same = record { ok = tt; refused = by gives.refused }
@@ -84,7 +84,7 @@ abbrev is_kept : Slot × Entry → Bool
 is_kept p = not (has_zero p.0.name)
 
 -- a column that is kept
-pub named-more : (xs : List NamedColumn) (i j : ℕ) (d x : NamedColumn) (ns more : List NamedColumn)
+pub named-more : (xs : List NamedEntry) (i j : ℕ) (d x : NamedEntry) (ns more : List NamedEntry)
     → map named_entry ns ≡ filter is_kept (map named_entry (take i xs)) → i < length xs → j ≡ suc i
     → x ≡ get_or xs i d → is_kept (named_entry x) ≡ true → more ≡ ns ++ x ∷ []
     → map named_entry more ≡ filter is_kept (map named_entry (take j xs))
@@ -96,7 +96,7 @@ named-more xs i j d x ns more e h step is kept grown =
     ∙ ap (filter is_kept) (sym (named_entry-more xs i d h)) ∙ ap (λ n. filter is_kept (map named_entry (take n xs))) (sym step)
 
 -- and one that isn't
-pub named-less : (xs : List NamedColumn) (i j : ℕ) (d x : NamedColumn) (ns : List NamedColumn)
+pub named-less : (xs : List NamedEntry) (i j : ℕ) (d x : NamedEntry) (ns : List NamedEntry)
     → map named_entry ns ≡ filter is_kept (map named_entry (take i xs)) → i < length xs → j ≡ suc i
     → x ≡ get_or xs i d → is_kept (named_entry x) ≡ false
     → map named_entry ns ≡ filter is_kept (map named_entry (take j xs))
@@ -123,7 +123,7 @@ made-push ds (f ∷ es) (u ∷ ts) e t h =
 
 -- one column more is made behind the others, of its entry and its type
 pub made-more :
-    (ds : List ℕ) (xs : List NamedColumn) (ts : List ColumnType) (i j : ℕ) (d : NamedColumn) (g : ColumnType)
+    (ds : List ℕ) (xs : List NamedEntry) (ts : List ColumnType) (i j : ℕ) (d : NamedEntry) (g : ColumnType)
     → i < length xs → i < length ts → j ≡ suc i
     → made ds (map named_entry (take j xs)) (take j ts)
     ≡ made ds (map named_entry (take i xs)) (take i ts)
@@ -143,14 +143,14 @@ made-more ds xs ts i j d g h k step =
     ))
 
 -- as many types as columns
-pub types-long : (ds : List ℕ) (xs : List NamedColumn) (ks : List Kind)
+pub types-long : (ds : List ℕ) (xs : List NamedEntry) (ks : List Kind)
     → each_ok (slot_type_of ds) (map named_entry xs) ≡ Ok (map kind_of ks) → length ks ≡ length xs
 types-long ds xs ks e =
     sym (length-map ks kind_of) ∙ each-length (slot_type_of ds) (map named_entry xs) (map kind_of ks) e
     ∙ length-map xs named_entry
 
 -- the categories of entries are those of their types
-pub categories-of : (ks : List Kind) (xs : List NamedColumn)
+pub categories-of : (ks : List Kind) (xs : List NamedEntry)
     → map (λ k. category_of (kind_of k)) ks ≡ map (λ c. category_in c.column) xs
     → map category_of (map kind_of ks) ≡ map (λ p. p.0.category) (map named_entry xs)
 categories-of ks xs e = kinds ks ∙ e ∙ slots xs
@@ -159,6 +159,6 @@ categories-of ks xs e = kinds ks ∙ e ∙ slots xs
     kinds [] = refl
     kinds (k ∷ ks) = ap (λ r. category_of (kind_of k) ∷ r) (kinds ks)
 
-    slots : (xs : List NamedColumn) → map (λ (c : NamedColumn). category_in c.column) xs ≡ map (λ p. p.0.category) (map named_entry xs)
+    slots : (xs : List NamedEntry) → map (λ (c : NamedEntry). category_in c.column) xs ≡ map (λ p. p.0.category) (map named_entry xs)
     slots [] = refl
     slots (x ∷ xs) = ap (λ r. category_in x.column ∷ r) (slots xs)

@@ -18,10 +18,10 @@ use Rattle.col_keys.specs.Put.{PutColumns, Puts, HavePut, part_put}
 use Rattle.col_writer_columns.specs.Answers.{answer_of}
 use Rattle.col_writer_file.specs.EntryColumns.{category_in, entry_in}
 use Rattle.col_writer_file.specs.OnRows.{type_on, content_on}
-use Rattle.col_writer_file.specs.declared.named_column.NamedColumn.{NamedColumn}
+use Rattle.col_writer_file.specs.declared.named_entry.NamedEntry.{NamedEntry}
 
 -- the entry of a column, under its slot
-abbrev pub named_entry : NamedColumn → Slot × Entry
+abbrev pub named_entry : NamedEntry → Slot × Entry
 named_entry c = (record { name = c.name.now; category = category_in c.column }, entry_in c.column)
 
 -- the type of the column of an entry, or its first refusal

@@ -29,6 +29,7 @@ pub(crate) fn check_numbers(
     ensures gives { Gives kind_of result (type_on categories.numerical column.now order.now) }
     ensures category { IfOk result (λ t. category_of (kind_of t) ≡ categories.numerical) }
 {
+    // That 32 bits count the rows and the numbers, and that their type holds these.
     order.documents_have_rows();
     column.numbers_have_its_type();
     let codes = column.codes();
@@ -62,6 +63,7 @@ pub(crate) fn check_bytes(
         (type_on categories.bytes (text_entry types.bytes column.now) order.now) }
     ensures category { IfOk result (λ t. category_of (kind_of t) ≡ categories.bytes) }
 {
+    // That 32 bits count the rows and the values.
     order.documents_have_rows();
     let _num_values = column.num_values();
     if have_too_long_terms(column) {
@@ -79,6 +81,7 @@ pub(crate) fn check_strs(
         (type_on categories.str (text_entry types.str column.now) order.now) }
     ensures category { IfOk result (λ t. category_of (kind_of t) ≡ categories.str) }
 {
+    // That 32 bits count the rows and the values.
     order.documents_have_rows();
     let _num_values = column.num_values();
     if have_too_long_terms(column) {
@@ -96,6 +99,7 @@ pub(crate) fn check_bools(
         (type_on categories.bool (plain_entry types.bool bool_cell column.now) order.now) }
     ensures category { IfOk result (λ t. category_of (kind_of t) ≡ categories.bool) }
 {
+    // That 32 bits count the rows and the values.
     order.documents_have_rows();
     let _num_values = column.column.num_values();
     Ok(ColumnType::Bool)
@@ -110,6 +114,7 @@ pub(crate) fn check_times(
         (type_on categories.datetime (plain_entry types.datetime time_cell column.now) order.now) }
     ensures category { IfOk result (λ t. category_of (kind_of t) ≡ categories.datetime) }
 {
+    // That 32 bits count the rows and the values.
     order.documents_have_rows();
     let _num_values = column.column.num_values();
     Ok(ColumnType::DateTime)
@@ -126,6 +131,7 @@ pub(crate) fn check_addresses(
         (type_on categories.ip (plain_entry types.ip unsigned_cell column.now) order.now) }
     ensures category { IfOk result (λ t. category_of (kind_of t) ≡ categories.ip) }
 {
+    // That 32 bits count the rows and the values.
     order.documents_have_rows();
     let _num_values = column.column.num_values();
     if have_too_many_codes(alloc, column, order)? {

@@ -4,12 +4,12 @@
 
 mod checks;
 mod entry_column;
-mod named_column;
+mod named_entry;
 mod numbers;
 mod plain;
 mod table;
 mod texts;
 
 pub use entry_column::EntryColumn;
-pub use named_column::NamedColumn;
+pub use named_entry::NamedEntry;
 pub use table::serialize_table;

@@ -3,16 +3,14 @@ ghost use Rattle.std.specs.Prelude.{◌≡◌, ◌<◌, ◌^◌, true, false, ma
 ghost use Rattle.col_common.specs.Ascending.{are_below};
 ghost use Rattle.col_model.specs.Category as categories;
 ghost use Rattle.col_model.specs.ColumnType as types;
-ghost use Rattle.col_model.specs.Written.{Entry, entry_type, is_past_ties};
+ghost use Rattle.col_model.specs.Written.{entry_type, is_past_ties};
 ghost use Rattle.col_writer_rows.specs.Counted.{SerializesColumn};
-ghost use Rattle.col_writer_rows.specs.Documents.{docs_of};
 ghost use Rattle.col_writer_columns.specs.Values.{unsigned_of};
-ghost use Rattle.col_writer_file.specs.Numbers.{IsNumbersOf};
 ghost use Rattle.col_writer_file.specs.OnRows.{recorded_docs, content_on, Fit64, CanStand, WritesOn};
 
 use col_common::{ColumnarError, SIGN_BIT, Sink};
 use col_types::NumericalType;
-use col_writer_columns::{ColumnWriter, NumericalColumnWriter};
+use col_writer_columns::NumericalColumnWriter;
 use col_writer_rows::{RowOrder, serialize_number_column, serialize_tie_column};
 use std::alloc::{AllocError, Global};
 
@@ -46,6 +44,7 @@ fn serialize_ties<K: Sink>(
     ensures { SerializesColumn (K.seen sink.old) (K.seen sink.new) result types.i64
         (length order.now) (content_on column.now order.now) }
 {
+    // That what was recorded are numbers, which have no texts.
     let _codes = column.codes();
     serialize_tie_column(alloc, start, order.num_rows(), sink)
 }
@@ -64,10 +63,14 @@ fn serialize_untied<K: Sink>(
 {
     column.numbers_have_its_type();
     let codes = column.codes();
+    let stored = codes.values();
+    numbers_fit(stored);
     if is_unsigned(column) {
-        return serialize_unsigned(alloc, codes, order, sink);
+        let numbers = unsigned_numbers(alloc, stored)?;
+        return serialize_number_column(alloc, codes.docs(), &numbers, order, sink);
     }
-    serialize_signed(alloc, codes, order, sink)
+    // Signed numbers have the codes that a column stores.
+    serialize_number_column(alloc, codes.docs(), stored, order, sink)
 }
 
 // Whether the numbers are of the unsigned type.
@@ -81,41 +84,6 @@ fn is_unsigned(column: &NumericalColumnWriter) -> bool
         Some(NumericalType::U64) => true,
         _ => false,
     }
-}
-
-// Writes signed numbers, which have the codes that a column stores.
-fn serialize_signed<K: Sink>(
-    alloc: Global,
-    codes: &ColumnWriter<u64>,
-    order: &RowOrder,
-    sink: &mut K,
-) -> Result<(), ColumnarError>
-    requires { are_below (length order.now) (docs_of codes.now) ≡ true }
-    ensures { (e : Entry) → IsNumbersOf types.i64 e codes.now →
-        SerializesColumn (K.seen sink.old) (K.seen sink.new) result types.i64 (length order.now)
-        (content_on e order.now) }
-{
-    let numbers = codes.values();
-    numbers_fit(numbers);
-    serialize_number_column(alloc, codes.docs(), numbers, order, sink)
-}
-
-// Writes unsigned numbers.
-fn serialize_unsigned<K: Sink>(
-    alloc: Global,
-    codes: &ColumnWriter<u64>,
-    order: &RowOrder,
-    sink: &mut K,
-) -> Result<(), ColumnarError>
-    requires { are_below (length order.now) (docs_of codes.now) ≡ true }
-    ensures { (e : Entry) → IsNumbersOf types.u64 e codes.now →
-        SerializesColumn (K.seen sink.old) (K.seen sink.new) result types.u64 (length order.now)
-        (content_on e order.now) }
-{
-    let stored = codes.values();
-    numbers_fit(stored);
-    let numbers = unsigned_numbers(alloc, stored)?;
-    serialize_number_column(alloc, codes.docs(), &numbers, order, sink)
 }
 
 // The unsigned numbers that have these codes.
@@ -132,5 +100,6 @@ fn unsigned_numbers(alloc: Global, codes: &[u64]) -> Result<Vec<u64>, AllocError
 fn numbers_fit(numbers: &[u64])
     ensures { Fit64 numbers.now }
 {
+    // That each item of such a list has the range of its type.
     let _ = numbers;
 }

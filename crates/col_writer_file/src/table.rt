@@ -15,7 +15,7 @@ ghost use Rattle.col_writer_file.specs.EntryColumns.{category_in, entry_in};
 ghost use Rattle.col_writer_file.specs.OnRows.{recorded_docs, content_on, type_on};
 ghost use Rattle.col_writer_file.specs.Tables.{named_entry, slot_type_of, made, PutsColumn, PutsColumns, WritesFile, WritesTable};
 
-use crate::{EntryColumn, NamedColumn};
+use crate::{EntryColumn, NamedEntry};
 use col_common::{ColumnarError, RowId, Sink};
 use col_keys::ColumnarSerializer;
 use col_types::ColumnType;
@@ -26,7 +26,7 @@ use std::alloc::{AllocError, Global};
 /// documents, each at the row that the list has for it, or at its own where there is none.
 pub fn serialize_table<K: Sink>(
     alloc: Global,
-    columns: &[NamedColumn<'_>],
+    columns: &[NamedEntry<'_>],
     num_docs: RowId,
     old_to_new_row_ids: Option<&[RowId]>,
     sink: &mut K,
@@ -48,11 +48,11 @@ pub fn serialize_table<K: Sink>(
 // The types of the columns, or the first refusal.
 fn check_columns(
     alloc: Global,
-    columns: &[NamedColumn<'_>],
+    columns: &[NamedEntry<'_>],
     order: &RowOrder,
 ) -> Result<Vec<ColumnType>, ColumnarError>
-    requires { list_all (λ c. are_below (length order.now) (recorded_docs (named_entry c).1)) columns.now
-        ≡ true }
+    requires { list_all (λ c. are_below (length order.now) (recorded_docs (named_entry c).1))
+        columns.now ≡ true }
     ensures types { Gives (λ v. map kind_of v.items) result
         (each_ok (slot_type_of order.now) (map named_entry columns.now)) }
     ensures categories { IfOk result (λ v. map (λ t. category_of (kind_of t)) v.items
@@ -68,7 +68,7 @@ fn check_columns(
 // Writes a file of columns that refuse nothing.
 fn serialize_file<K: Sink>(
     alloc: Global,
-    columns: &[NamedColumn<'_>],
+    columns: &[NamedEntry<'_>],
     types: &[ColumnType],
     order: &RowOrder,
     sink: &mut K,
@@ -94,7 +94,7 @@ fn serialize_file<K: Sink>(
 // Puts columns that refuse nothing into a file without columns.
 fn serialize_columns<K: Sink>(
     alloc: Global,
-    columns: &[NamedColumn<'_>],
+    columns: &[NamedEntry<'_>],
     types: &[ColumnType],
     order: &RowOrder,
     file: &mut ColumnarSerializer,
@@ -147,7 +147,7 @@ fn put_column<K: Sink>(
 }
 
 // Whether a document of a column isn't below a number.
-fn have_docs_past(columns: &[NamedColumn<'_>], num_docs: RowId) -> bool
+fn have_docs_past(columns: &[NamedEntry<'_>], num_docs: RowId) -> bool
     ensures { result ≡ list_any (λ c. is_past_docs num_docs (named_entry c)) columns.now }
 {
     columns.iter().any(|column| column.has_doc_past(num_docs))
@@ -156,8 +156,8 @@ fn have_docs_past(columns: &[NamedColumn<'_>], num_docs: RowId) -> bool
 // The columns whose names have no zero byte.
 fn columns_of_table<'a>(
     alloc: Global,
-    columns: &[NamedColumn<'a>],
-) -> Result<Vec<NamedColumn<'a>>, AllocError>
+    columns: &[NamedEntry<'a>],
+) -> Result<Vec<NamedEntry<'a>>, AllocError>
     ensures { IfOk result (λ v. map named_entry v.items
         ≡ filter (λ p. not (has_zero p.0.name)) (map named_entry columns.now)) }
 {

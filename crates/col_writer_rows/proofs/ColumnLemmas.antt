@@ -15,16 +15,16 @@ use Rattle.col_model.specs.Column.{number_rows, number_cell, is_stored, term_col
 use Rattle.col_model.specs.ColumnType.{ColumnType, has_terms}
 use Rattle.col_model.specs.Dictionary.{cut}
 use Rattle.col_model.specs.Limits.{tightest}
-use Rattle.col_model.specs.Table.{Content}
-use Rattle.col_model.specs.Table as tables
 use Rattle.col_model.specs.U64List.{joined_lists}
 use Rattle.col_model.specs.Version.{current_version}
 use Rattle.col_indexer.specs.Counted.{tightest_of}
 use Rattle.col_indexer.proofs.TightestLemmas.{tightest-counts}
 use Rattle.col_column.specs.Written.{Stores64}
+use Rattle.col_model.proofs.CutLaws.{lengths-map, cut-joined}
 use Rattle.col_writer_rows.specs.Counted.{counts_of_rows, SerializesCounted, SerializesColumn}
-use Rattle.col_writer_rows.specs.Rows.{values_at, picked_rows, ord_rows, cell_rows, number_cells, number_content}
-use Rattle.col_writer_rows.proofs.RowLemmas.{cut-joined, joined-zip, lengths-zip}
+use Rattle.col_writer_rows.specs.Rows.{values_at, picked_rows, numbers_in_order, ord_rows, cell_rows, number_cells, number_content}
+use Rattle.col_writer_rows.proofs.RowLemmas.{joined-zip, lengths-zip}
+use Rattle.col_writer_rows.proofs.SortLemmas.{ordered-rows}
 
 -- ---- rows of values that are mapped
 
@@ -77,11 +77,6 @@ unfolding picked_rows
 length-picked ds ps = length-map ds (values_at ps)
 
 -- ---- the tightest cardinality
-
--- turning their values leaves rows as long as they are
-pub lengths-map : {X Y : Type 0} (f : X → Y) (xss : List (List X)) → map length (map (map f) xss) ≡ map length xss
-lengths-map f [] = refl
-lengths-map f (xs ∷ xss) = λ i. length-map xs f i ∷ lengths-map f xss i
 
 -- ---- columns of numbers
 
@@ -183,6 +178,17 @@ pub counted-as : (old new : SeenSink) (result : Result (Unit {0}) ColumnarError)
 counted-as old new result cs ds xs ys e f h =
     subst (λ zs. (t : ColumnType) → Stores64 t zs → SerializesCounted old new result t ds zs) f
     (subst (λ ks. (t : ColumnType) → Stores64 t xs → SerializesCounted old new result t ks xs) e h)
+
+-- what is written of picked values whose rows are then put in order is so of rows in order
+pub ordered-as : (old new : SeenSink) (result : Result (Unit {0}) ColumnarError) (sorts : Bool) (ds : List ℕ)
+    (ps : List (ℕ × ℕ)) (cs xs : List ℕ) → cs ≡ map length (picked_rows ds ps) → xs ≡ joined_lists (picked_rows ds ps)
+    → ((t : ColumnType) → Stores64 t (joined_lists (map (numbers_in_order sorts) (cut cs xs)))
+    → SerializesCounted old new result t cs (joined_lists (map (numbers_in_order sorts) (cut cs xs))))
+    → (t : ColumnType) → Stores64 t (joined_lists (ord_rows sorts ds ps))
+    → SerializesCounted old new result t (map length (ord_rows sorts ds ps)) (joined_lists (ord_rows sorts ds ps))
+ordered-as old new result sorts ds ps cs xs e f =
+    let both = ordered-rows sorts ds ps cs xs _ e f refl in
+    counted-as old new result _ _ _ _ both.0 both.1
 
 -- what is written of counts and values under a type is so of equal ones
 pub typed-as :

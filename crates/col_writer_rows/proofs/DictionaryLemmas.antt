@@ -1,15 +1,12 @@
 -- The bytes of a dictionary that is written.
-use Rattle.std.proofs.Common.{◌≡◌, ℕ, ◌<◌, ◌^◌, nat_le, false, List, [], length, unwrap_or, Some, sym, ap, ◌∙◌, arith}
+use Rattle.std.proofs.Common.{◌≡◌, ℕ, ◌<◌, ◌^◌, false, List, [], length, unwrap_or, Some, sym, ap, ◌∙◌}
 use Rattle.col_model.specs.Dictionary.{terms}
 use Rattle.col_model.specs.Limits.{dictionary_length}
 use Rattle.col_terms.specs.Building.{ordered, is_too_long}
 use Rattle.col_terms.specs.Laws.{TermsAreThoseGiven, DictionariesAreReadBack}
 use Rattle.col_terms.specs.TermTable.{dictionary_bytes, terms_of, IsTable}
 use Rattle.col_terms.proofs.TableLemmas.{table_length}
-
--- a number that isn't past 32 bits
-pub within : (m : ℕ) → nat_le (2 ^ 32) m ≡ false → m < 2 ^ 32
-within m e = grind arith
+use Rattle.std.proofs.lemmas.Bool.{leb-false}
 
 -- the bytes of terms stand for them, and 32 bits count them
 pub record AreWritten (ts : List (List ℕ)) : Type 0 where
@@ -21,7 +18,7 @@ pub record AreWritten (ts : List (List ℕ)) : Type 0 where
 pub written : (ts : List (List ℕ)) → TermsAreThoseGiven → DictionariesAreReadBack → is_too_long ts ≡ false → AreWritten ts
 unfolding terms_of
 written ts given back fits =
-    let short : dictionary_length (ordered ts) < 2 ^ 32 = within (dictionary_length (ordered ts)) fits in
+    let short : dictionary_length (ordered ts) < 2 ^ 32 = leb-false (2 ^ 32) (dictionary_length (ordered ts)) fits in
     let read = back (ordered ts) (given.ascend ts) short in
     let own : terms_of (dictionary_bytes (ordered ts)) ≡ ordered ts = ap (λ o. unwrap_or o []) read in
     let table : IsTable (dictionary_bytes (ordered ts)) (length (ordered ts)) =

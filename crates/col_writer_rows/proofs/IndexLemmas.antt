@@ -29,7 +29,8 @@ use Rattle.col_indexer.proofs.MergeLemmas.{all_ones}
 use Rattle.col_column.specs.Columns.{row_count, counts_by, IsCounted, rows_by}
 use Rattle.col_column.specs.Opened.{counted_rows}
 use Rattle.col_column.specs.Written.{number_column_bytes, column_codecs, StandForRows, Stores64, SerializesRows}
-use Rattle.col_writer_rows.specs.Counted.{counts_of_rows, index_by, CountsRows, SerializesCounted}
+use Rattle.col_writer_rows.specs.Counted.{counts_of_rows, CountsRows, SerializesCounted}
+use Rattle.col_indexer.specs.Written.{index_by}
 use Rattle.col_writer_rows.proofs.RowLemmas.{sum-counts}
 use Rattle.col_writer_rows.proofs.ShapeLemmas.{counts-all, counts-rising, few-ones}
 use Rattle.col_writer_rows.proofs.StartLemmas.{length-counts}

@@ -1,6 +1,6 @@
 -- Which columns are too large.
 use Rattle.std.proofs.Common.{◌≡◌, ◌<◌, ◌≤◌, ℕ, suc, ◌+◌, ◌-◌, ◌*◌, ◌^◌, List, [], ◌∷◌, ◌++◌, length, map, sum, not, Bool, true, false, cond, refl, sym, ap, ◌∙◌, arith}
-use Rattle.std.specs.Prelude.{pos, negsuc, nat_le, max, ◌&&◌, ◌||◌, ◌==◌, count_by, filter_map}
+use Rattle.std.specs.Prelude.{nat_le, max, ◌&&◌, ◌||◌, ◌==◌, count_by, filter_map}
 use Rattle.std.specs.List.{list_all, zip}
 use Rattle.std.specs.declared.cmp.Ordering.{Ordering}
 use Rattle.std.specs.declared.cmp.Ordering.TheVariants.{Less, Equal, Greater}
@@ -15,9 +15,10 @@ use Rattle.col_model.specs.ColumnType as types
 use Rattle.col_model.specs.Limits.{tightest, cell_count, is_multivalued, dictionary_length, unsigned_number, has_many_codes, is_too_large}
 use Rattle.col_model.specs.Lookup.{is_at_most}
 use Rattle.col_model.specs.Sorted.{inserted, sorted_items, with_item, distinct_items}
-use Rattle.col_model.specs.Table.{Cell, number, text, full, optional, multivalued}
+use Rattle.col_model.specs.Table.{Cell, full, optional, multivalued}
 use Rattle.col_model.specs.U64List.{joined_lists}
 use Rattle.col_model.proofs.ListLaws.{cell_count-cons}
+use Rattle.std.proofs.lemmas.List.Elements.{filter_map-append}
 use Rattle.col_writer_rows.specs.Documents.{docs_of}
 use Rattle.col_writer_rows.specs.RowOrders.{AreRowDocs}
 use Rattle.col_writer_rows.specs.Rows.{picked_rows, cells_in_order, cell_rows, number_cells}
@@ -135,17 +136,10 @@ numbers-again : (xs : List ℕ) → filter_map unsigned_number (map (number_cell
 numbers-again [] = refl
 numbers-again (x ∷ xs) = ap (λ r. x ∷ r) (numbers-again xs)
 
-filter_map-append : (xs ys : List Cell)
-    → filter_map unsigned_number (xs ++ ys) ≡ filter_map unsigned_number xs ++ filter_map unsigned_number ys
-filter_map-append [] ys = refl
-filter_map-append (number (pos n) ∷ xs) ys = ap (λ r. n ∷ r) (filter_map-append xs ys)
-filter_map-append (number (negsuc n) ∷ xs) ys = filter_map-append xs ys
-filter_map-append (text s ∷ xs) ys = filter_map-append xs ys
-
 rows-again : (rows : List (List ℕ)) → filter_map unsigned_number (joined_lists (map (map (number_cell types.ip)) rows)) ≡ joined_lists rows
 rows-again [] = refl
 rows-again (xs ∷ rows) =
-    filter_map-append (map (number_cell types.ip) xs) (joined_lists (map (map (number_cell types.ip)) rows))
+    filter_map-append unsigned_number (map (number_cell types.ip) xs) (joined_lists (map (map (number_cell types.ip)) rows))
     ∙ (λ i. numbers-again xs i ++ rows-again rows i)
 
 map-plain : (rows : List (List Cell)) → map (cells_in_order false) rows ≡ rows

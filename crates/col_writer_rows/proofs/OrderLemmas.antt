@@ -4,7 +4,7 @@ use Rattle.std.specs.Prelude.{nat_lt, ◌&&◌, ◌||◌, ◌==◌, count_by}
 use Rattle.std.specs.List.{list_all, list_any, range_with_len, position_from}
 use Rattle.std.proofs.lemmas.Bool.{and_parts, and_from}
 use Rattle.std.proofs.lemmas.Iterator.Adapters.{position_from-zero}
-use Rattle.std.proofs.lemmas.List.{take_more}
+use Rattle.std.proofs.lemmas.List.{take_more, map-id}
 use Rattle.std.proofs.lemmas.List.FromFn.{length-map-range_with_len, get_or-map-range_with_len, length-range_with_len}
 use Rattle.std.proofs.lemmas.List.Sums.{sum_by-cons}
 use Rattle.std.proofs.lemmas.Grind.{same_number_lists}
@@ -342,10 +342,6 @@ placed-docs n rows docs count e h =
       once = λ d. once-from (first_doc rows) (λ x. get_or rows x 0) 0 n d (record { back = has-back rows 0 n each });
     })
 
-map-same : (xs : List ℕ) → map (λ x. x) xs ≡ xs
-map-same [] = refl
-map-same (x ∷ xs) = ap (λ r. x ∷ r) (map-same xs)
-
 below-range : (n a m : ℕ) → a + m ≤ n → are_below n (range_with_len a m) ≡ true
 below-range n a zero h = refl
 below-range n a (suc m) h =
@@ -358,6 +354,6 @@ own-docs n = record {
   count = length-range_with_len 0 n;
   below = below-range n 0 n (omega arith);
   once =
-      λ d. subst (λ r. count_by (λ x. x == d) r ≤ 1) (map-same (range_with_len 0 n))
+      λ d. subst (λ r. count_by (λ x. x == d) r ≤ 1) (map-id (range_with_len 0 n))
       (once-from (λ x. x) (λ x. x) 0 n d (record { back = λ r low high. refl }));
 }

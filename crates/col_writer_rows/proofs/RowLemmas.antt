@@ -9,6 +9,8 @@ use Rattle.std.proofs.lemmas.List.{length-map}
 use Rattle.col_common.specs.Ascending.{is_never_falling, are_below}
 use Rattle.col_model.specs.U64List.{joined_lists}
 use Rattle.col_model.specs.Dictionary.{cut}
+use Rattle.col_model.proofs.CutLaws.{cut-joined}
+use Rattle.std.proofs.Math.Seq.{take-append_seam}
 use Rattle.col_writer_rows.specs.Documents.{docs_of}
 use Rattle.col_writer_rows.specs.Counted.{counts_of_rows}
 use Rattle.col_writer_rows.specs.RowOrders.{AreRowDocs}
@@ -85,24 +87,6 @@ joined-rows n (p ∷ ps) e h =
     ∙ ap (λ r. p.1 ∷ r) (joined-rows n ps (falls_later p.0 (docs_of ps) e) parts.1)
 
 -- ---- cuts
-
-take_front : {A : Type 0} (xs ys : List A) → take (length xs) (xs ++ ys) ≡ xs
-take_front [] [] = refl
-take_front [] (y ∷ ys) = refl
-take_front (x ∷ xs) ys = ap (λ r. x ∷ r) (take_front xs ys)
-
-drop_front : {A : Type 0} (xs ys : List A) → drop (length xs) (xs ++ ys) ≡ ys
-drop_front [] [] = refl
-drop_front [] (y ∷ ys) = refl
-drop_front (x ∷ xs) ys = drop_front xs ys
-
--- lists that are joined are cut apart by their lengths
-pub cut-joined : {A : Type 0} (xss : List (List A)) → cut (map length xss) (joined_lists xss) ≡ xss
-unfolding cut
-cut-joined [] = refl
-cut-joined (xs ∷ xss) =
-    λ i. take_front xs (joined_lists xss) i
-    ∷ (ap (cut (map length xss)) (drop_front xs (joined_lists xss)) ∙ cut-joined xss) i
 
 map-take : {A B : Type 0} (f : A → B) (n : ℕ) (xs : List A) → map f (take n xs) ≡ take n (map f xs)
 map-take f zero xs = refl
@@ -255,4 +239,4 @@ placed-count ds docs xs = length-map (map (values_at (zip docs xs)) ds) length �
 
 -- a list that is lent whole has what was written
 pub lent-whole : {A : Type 0} (n : ℕ) (new rest : List A) → length new ≡ n → take n (new ++ rest) ≡ new
-lent-whole n new rest e = ap (λ k. take k (new ++ rest)) (sym e) ∙ take_front new rest
+lent-whole n new rest e = ap (λ k. take k (new ++ rest)) (sym e) ∙ take-append_seam new rest

@@ -1,15 +1,15 @@
 -- Columns of texts, by the ordinals of their terms.
 use Rattle.std.proofs.Common.{◌≡◌, ◌<◌, ◌≤◌, ℕ, zero, suc, ◌+◌, ◌*◌, ◌-◌, ◌^◌, List, [], ◌∷◌, ◌++◌, length, map, take, get_or, Bool, true, false, cond, not, min, Some, unwrap_or, Result, Ok, refl, sym, ap, ◌∙◌, subst, arith, lt-ltb, le-ltb, append_assoc}
-use Rattle.std.specs.Prelude.{nat_lt, nat_le, ◌&&◌, slice_get, slice_index, slice_index_or, bytes_eq, sum_by}
+use Rattle.std.specs.Prelude.{nat_lt, nat_le, ◌&&◌, slice_get, slice_index_or, bytes_eq, sum_by}
 use Rattle.std.specs.Int.{w32, to_le_bytes}
 use Rattle.std.specs.List.{list_all, zip, IsDistinct}
 use Rattle.std.specs.Ordering.{nat_cmp, is_gt}
 use Rattle.std.specs.Cmp.Lexicographic.{slice_cmp}
-use Rattle.std.proofs.lemmas.Bool.{and_parts, and_from}
+use Rattle.std.proofs.lemmas.Bool.{and_parts, and_from, leb-false}
 use Rattle.std.proofs.lemmas.List.{take_more, length-map}
 use Rattle.std.proofs.lemmas.List.Sorted.{length_permutation, sum_by-IsPermutation}
 use Rattle.std.proofs.lemmas.Nat.{from_le_bytes-to_le_bytes_4}
-use Rattle.std.proofs.lemmas.Option.{slice_get_within}
+use Rattle.std.proofs.lemmas.Option.{slice_get_within, get_or_from_slice_get}
 use Rattle.col_common.specs.Outside.{SeenSink}
 use Rattle.col_common.specs.Reading.{parts_by_first}
 use Rattle.col_common.specs.Serializing.{Serializes}
@@ -38,12 +38,12 @@ use Rattle.col_terms.specs.Laws.{OrdinalsAreInOrder, DictionariesAreReadBack, Te
 use Rattle.col_terms.specs.TermTable.{dictionary_bytes}
 use Rattle.col_terms.proofs.OrderedLemmas.{permutation-ordered}
 use Rattle.col_indexer.proofs.TightestLemmas.{tightest-counts}
+use Rattle.col_model.proofs.CutLaws.{lengths-map, cut-joined}
 use Rattle.col_writer_rows.specs.Counted.{SerializesCounted, SerializesColumn}
 use Rattle.col_writer_rows.specs.Rows.{values_at, picked_rows, numbers_in_order, ord_rows, cells_in_order, cell_rows}
 use Rattle.col_writer_rows.specs.Terms.{ord_by, text_cells, text_content, SerializesBehindTerms}
-use Rattle.col_writer_rows.proofs.RowLemmas.{cut-joined}
-use Rattle.col_writer_rows.proofs.ColumnLemmas.{picked-map, all-values, lengths-map, length-picked}
-use Rattle.col_writer_rows.proofs.DictionaryLemmas.{within, written}
+use Rattle.col_writer_rows.proofs.ColumnLemmas.{picked-map, all-values, length-picked}
+use Rattle.col_writer_rows.proofs.DictionaryLemmas.{written}
 
 -- ---- how long a dictionary is
 
@@ -59,7 +59,7 @@ pub short-length : (ts : List (List ℕ)) → IsDistinct bytes_eq ts → is_too_
     × (4 + 4 * length ts + sum_by length ts < 2 ^ 32)
 short-length ts d e =
     let total = total-length ts d in
-    (total, omega (arith, total, within (dictionary_length (ordered ts)) e))
+    (total, omega (arith, total, leb-false (2 ^ 32) (dictionary_length (ordered ts)) e))
 
 over : (n s a e r : ℕ) → a ≡ min (n * 4) (2 ^ 64 - 1) → e ≡ min (a + 4) (2 ^ 64 - 1)
     → r ≡ min (e + min s (2 ^ 64 - 1)) (2 ^ 64 - 1) → nat_lt (2 ^ 32 - 1) r ≡ nat_le (2 ^ 32) (4 + 4 * n + s)
@@ -70,7 +70,7 @@ over n s a e r f g h = by (nat_le (2 ^ 32) (4 + 4 * n + s)) refl
 
     by : (b : Bool) → nat_le (2 ^ 32) (4 + 4 * n + s) ≡ b → nat_lt (2 ^ 32 - 1) r ≡ b
     by true t = lt-ltb (2 ^ 32 - 1) r (omega (arith, reached (4 + 4 * n + s) t, f, g, h))
-    by false t = le-ltb (2 ^ 32 - 1) r (omega (arith, within (4 + 4 * n + s) t, f, g, h))
+    by false t = le-ltb (2 ^ 32 - 1) r (omega (arith, leb-false (2 ^ 32) (4 + 4 * n + s) t, f, g, h))
 
 -- the test of a dictionary's length by saturating numbers
 pub long-test : (ts : List (List ℕ)) (n b a e r : ℕ) → IsDistinct bytes_eq ts → n ≡ length ts → b ≡ counted_bytes ts
@@ -350,20 +350,12 @@ map-more : (f : ℕ → ℕ) (xs : List ℕ) (x : ℕ) → map f (xs ++ x ∷ []
 map-more f [] x = refl
 map-more f (y ∷ xs) x = ap (λ r. f y ∷ r) (map-more f xs x)
 
-get-same : (xs : List ℕ) (i v : ℕ) → slice_get xs i ≡ Some v → slice_index xs i ≡ v
-get-same [] i v e = absurd (cc)
-get-same (x ∷ xs) zero v e = some-same x v e
-  where
-    some-same : (a b : ℕ) → Some a ≡ Some b → a ≡ b
-    some-same a b f = cc
-get-same (x ∷ xs) (suc i) v e = get-same xs i v e
-
 -- one id more
 pub ords-next : (mapping ids old new : List ℕ) (i id v : ℕ) → old ≡ map (ord_by mapping) (take i ids)
     → i < length ids → id ≡ get_or ids i 0 → slice_get mapping id ≡ Some v → new ≡ old ++ v ∷ []
     → new ≡ map (ord_by mapping) (take (i + 1) ids)
 ords-next mapping ids old new i id v e low is found f =
-    f ∙ (λ j. e j ++ sym (get-same mapping id v found) j ∷ []) ∙ sym (map-more (ord_by mapping) (take i ids) id)
+    f ∙ (λ j. e j ++ sym (get_or_from_slice_get mapping id v 0 found) j ∷ []) ∙ sym (map-more (ord_by mapping) (take i ids) id)
     ∙ ap (λ k. map (ord_by mapping) (take i ids ++ k ∷ [])) is ∙ ap (map (ord_by mapping)) (sym (take_more ids i 0 low))
 
 -- an id at any place is below the number of terms

@@ -11,10 +11,8 @@ use Rattle.col_model.specs.Positions.{rows_with_value, starts_of}
 use Rattle.col_model.specs.Table.{Content}
 use Rattle.col_model.specs.Version.{current_version}
 use Rattle.col_index.specs.Offsets.{cardinality_in}
-use Rattle.col_index.specs.declared.cardinality.Cardinality.{Cardinality}
-use Rattle.col_index.specs.declared.cardinality.Cardinality.TheVariants.{Full, Optional, Multivalued}
 use Rattle.col_indexer.specs.Counted.{tightest_of}
-use Rattle.col_indexer.specs.Spelling.{Index, full_index, optional_index, multivalued_index, IsIndex, index_shape, is_past_limit, offsets_by_rows}
+use Rattle.col_indexer.specs.Spelling.{Index, IsIndex, index_shape, is_past_limit}
 use Rattle.col_column.specs.Columns.{row_count, counts_by}
 
 -- how many of the documents each of n rows is
@@ -31,12 +29,6 @@ pub record HasNoted (cs rows starts : List ℕ) (len : ℕ) : Type 0 where
   pub within : len ≤ length cs
   pub rows_are : take len rows ≡ rows_with_value cs
   pub starts_are : take (len + 1) starts ≡ starts_of cs
-
--- an index of a cardinality, of so many rows: the rows with a value, and their start offsets
-abbrev pub index_by : Cardinality → ℕ → List ℕ → List ℕ → Index
-index_by Full n rows starts = full_index
-index_by Optional n rows starts = optional_index (record { num_rows = n; rows = rows })
-index_by Multivalued n rows starts = multivalued_index (offsets_by_rows n rows starts)
 
 -- The index can be written, counts the values of the rows, and has their tightest cardinality.
 pub record CountsRows (cs : List ℕ) (i : Index) : Type 0 where

@@ -1,5 +1,5 @@
 -- The rows of a column, by the documents of its values.
-use Rattle.std.specs.Prelude.{ℕ, ℤ, pos, ◌+ℤ◌, nat_le, ◌∷◌, ◌==◌, Bool, false, List, [], map, filter, zip, if◌then◌else◌}
+use Rattle.std.specs.Prelude.{ℕ, ℤ, pos, ◌+ℤ◌, nat_le, ◌∷◌, ◌==◌, Bool, false, List, [], map, filter, zip, if◌then◌else◌, ◌≡◌, ◌<◌, ◌^◌, true, length}
 use Rattle.std.specs.List.{range_with_len}
 use Rattle.col_model.specs.Column.{number_cell}
 use Rattle.col_model.specs.ColumnType.{ColumnType}
@@ -7,6 +7,7 @@ use Rattle.col_model.specs.Limits.{tightest}
 use Rattle.col_model.specs.Lookup.{is_at_most}
 use Rattle.col_model.specs.Sorted.{sorted_items}
 use Rattle.col_model.specs.Table.{Cell, number, Content, full}
+use Rattle.col_common.specs.Ascending.{are_below}
 
 -- the values of a document, in order
 abbrev pub values_at : {X : Type 0} → List (ℕ × X) → ℕ → List X
@@ -54,3 +55,9 @@ tie_content start n = record {
   terms = [];
   rows = map (λ r. number (start +ℤ pos r) ∷ []) (range_with_len 0 n);
 }
+
+-- values beside their documents, which are below a count of rows; 32 bits count the values
+pub record StandBeside (count : ℕ) (docs values : List ℕ) : Type 0 where
+  pub below : are_below count docs ≡ true
+  pub beside : length docs ≡ length values
+  pub few : length values < 2 ^ 32

@@ -78,6 +78,7 @@ impl DocList {
     pub fn never_fall(&self)
         ensures { is_never_falling self.now ≡ true }
     {
+        // That the list's invariant holds.
         let _ = &self.others;
     }
 

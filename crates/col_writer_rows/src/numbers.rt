@@ -2,16 +2,17 @@
 ghost use Rattle.std.specs.Prelude.{◌≡◌, ◌<◌, ◌^◌, true, false, map, sum, zip, length};
 ghost use Rattle.col_common.specs.Ascending.{are_below};
 ghost use Rattle.col_model.specs.ColumnType.{ColumnType, has_terms};
+ghost use Rattle.col_model.specs.Dictionary.{cut};
 ghost use Rattle.col_model.specs.U64List.{joined_lists};
 ghost use Rattle.col_indexer.specs.Spelling.{IsIndex, index_shape, is_past_limit};
 ghost use Rattle.col_column.specs.Columns.{IsCounted};
 ghost use Rattle.col_column.specs.Written.{Stores64, SerializesRows};
 ghost use Rattle.col_writer_rows.specs.RowOrders.{AreRowDocs};
-ghost use Rattle.col_writer_rows.specs.Rows.{number_content, picked_rows};
+ghost use Rattle.col_writer_rows.specs.Rows.{number_content, numbers_in_order, picked_rows};
 ghost use Rattle.col_writer_rows.specs.Counted.{counts_of_rows, SerializesCounted, SerializesColumn};
 
 use crate::row_index::RowIndex;
-use crate::row_values::place_values;
+use crate::row_values::{place_values, sort_rows_if};
 use crate::{DocList, RowOrder};
 use col_column::serialize_column_mappable_to_u64;
 use col_common::{ColumnarError, DocId, RowId, Sink};
@@ -81,6 +82,26 @@ fn serialize_placed<K: Sink>(
 {
     let (counts, placed) = place_values(alloc, docs, numbers, row_docs)?;
     serialize_counted(alloc, &counts, &placed, sink)
+}
+
+/// Writes numbers of rows with so many each, those of a row sorted where the flag is set.
+pub(crate) fn serialize_sorted<K: Sink>(
+    alloc: Global,
+    sorts: bool,
+    counts: &[u32],
+    numbers: &mut [u64],
+    sink: &mut K,
+) -> Result<(), ColumnarError>
+    requires rows { length counts.now < 2 ^ 32 }
+    requires counted { sum counts.now ≡ length numbers.old }
+    requires few { length numbers.old < 2 ^ 32 }
+    ensures { let rows = map (numbers_in_order sorts) (cut counts.now numbers.old) in
+        (t : ColumnType) → Stores64 t (joined_lists rows) →
+        SerializesCounted (K.seen sink.old) (K.seen sink.new) result t
+        counts.now (joined_lists rows) }
+{
+    sort_rows_if(sorts, counts, numbers);
+    serialize_counted(alloc, counts, numbers, sink)
 }
 
 /// Writes numbers of rows with so many each.

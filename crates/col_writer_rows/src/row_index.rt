@@ -2,17 +2,14 @@
 ghost use Rattle.std.specs.Prelude.{◌≡◌, ◌<◌, ◌^◌, true, sum, length, IfOk};
 ghost use Rattle.col_common.specs.Ascending.{are_below};
 ghost use Rattle.col_indexer.specs.Spelling as spelled;
-ghost use Rattle.col_indexer.specs.Written.{index_of, set_of};
+ghost use Rattle.col_indexer.specs.Written.{index_of};
 ghost use Rattle.col_writer_rows.specs.Counted.{counts_of_rows, CountsRows};
 
 use crate::DocList;
 use crate::row_counts::{row_starts, tightest_cardinality};
 use col_common::RowId;
 use col_index::Cardinality;
-use col_indexer::{
-    RowIds, SerializableColumnIndex, SerializableMultivalueIndex, SerializableOptionalIndex,
-    StartOffsets,
-};
+use col_indexer::{RowIds, SerializableColumnIndex, StartOffsets};
 use std::alloc::{AllocError, Global};
 use std::marker::Model;
 
@@ -27,7 +24,7 @@ pub(crate) struct RowIndex {
 
 impl Model for RowIndex {
     ghost use Rattle.col_indexer.specs.Spelling.{Index};
-    ghost use Rattle.col_writer_rows.specs.Counted.{index_by};
+    ghost use Rattle.col_indexer.specs.Written.{index_by};
 
     ghost Value = { Index };
 
@@ -106,28 +103,11 @@ impl RowIndex {
     pub(crate) fn as_serializable(&self) -> SerializableColumnIndex<'_>
         ensures { index_of result ≡ self.now }
     {
-        match self.cardinality {
-            Cardinality::Full => SerializableColumnIndex::Full,
-            Cardinality::Optional => SerializableColumnIndex::Optional(rows_with_value(
-                &self.rows,
-                self.num_rows,
-            )),
-            Cardinality::Multivalued => {
-                SerializableColumnIndex::Multivalued(SerializableMultivalueIndex {
-                    doc_ids_with_values: rows_with_value(&self.rows, self.num_rows),
-                    start_offsets: StartOffsets::Slice(&self.starts),
-                })
-            }
-        }
-    }
-}
-
-// Rows with a value, of so many rows.
-fn rows_with_value(rows: &[RowId], num_rows: RowId) -> SerializableOptionalIndex<'_>
-    ensures { set_of result ≡ record { num_rows = num_rows; rows = rows.now } }
-{
-    SerializableOptionalIndex {
-        non_null_row_ids: RowIds::Slice(rows),
-        num_rows,
+        SerializableColumnIndex::from_lists(
+            self.cardinality,
+            self.num_rows,
+            RowIds::Slice(&self.rows),
+            StartOffsets::Slice(&self.starts),
+        )
     }
 }

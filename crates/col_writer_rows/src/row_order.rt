@@ -103,6 +103,7 @@ impl RowOrder {
         ensures rows { AreRowDocs (length self.now) self.now }
         ensures few { length self.now < 2 ^ 32 }
     {
+        // That its invariant holds, and that its count has 32 bits.
         let _ = &self.docs;
         let _num_docs = self.num_docs;
     }

@@ -9,11 +9,11 @@ ghost use Rattle.col_column.specs.Written.{Stores64};
 ghost use Rattle.col_terms.specs.Building.{ordered, is_too_long};
 ghost use Rattle.col_writer_rows.specs.Counted.{SerializesCounted, SerializesColumn};
 ghost use Rattle.col_writer_rows.specs.RowOrders.{AreRowDocs};
-ghost use Rattle.col_writer_rows.specs.Rows.{ord_rows};
+ghost use Rattle.col_writer_rows.specs.Rows.{ord_rows, StandBeside};
 ghost use Rattle.col_writer_rows.specs.Terms.{AreTermIds, SerializesBehindTerms, text_content, ord_by};
 
-use crate::numbers::{serialize_counted, serialize_in_order};
-use crate::row_values::{place_values, sort_rows_if};
+use crate::numbers::{serialize_in_order, serialize_sorted};
+use crate::row_values::place_values;
 use crate::{DocList, RowOrder};
 use col_common::{ColumnarError, DocId, RowId, Sink, serialize_bytes};
 use col_terms::{
@@ -68,9 +68,7 @@ fn serialize_behind<K: Sink>(
     dictionary_len: u32,
     sink: &mut K,
 ) -> Result<(), ColumnarError>
-    requires below { are_below (length order.now) docs.now ≡ true }
-    requires beside { length docs.now ≡ length ords.items }
-    requires few { length ords.items < 2 ^ 32 }
+    requires { StandBeside (length order.now) docs.now ords.items }
     ensures { let rows = ord_rows sorts order.now (zip docs.now ords.items) in
         (t : ColumnType) → Stores64 t (joined_lists rows) →
         SerializesBehindTerms (K.seen sink.old) (K.seen sink.new) result t
@@ -111,9 +109,7 @@ fn serialize_ords<K: Sink>(
     order: &RowOrder,
     sink: &mut K,
 ) -> Result<(), ColumnarError>
-    requires below { are_below (length order.now) docs.now ≡ true }
-    requires beside { length docs.now ≡ length ords.items }
-    requires few { length ords.items < 2 ^ 32 }
+    requires { StandBeside (length order.now) docs.now ords.items }
     ensures { let rows = ord_rows sorts order.now (zip docs.now ords.items) in
         (t : ColumnType) → Stores64 t (joined_lists rows) →
         SerializesCounted (K.seen sink.old) (K.seen sink.new) result t
@@ -147,8 +143,7 @@ fn serialize_placed_ords<K: Sink>(
         (map length rows) (joined_lists rows) }
 {
     let (counts, mut placed) = place_values(alloc, docs, ords, row_docs)?;
-    sort_rows_if(sorts, &counts, &mut placed);
-    serialize_counted(alloc, &counts, &placed, sink)
+    serialize_sorted(alloc, sorts, &counts, &mut placed, sink)
 }
 
 // Writes ordinals whose documents stand at their own rows.
@@ -173,6 +168,5 @@ fn serialize_own_ords<K: Sink>(
         return serialize_in_order(alloc, docs, &ords, num_rows, sink);
     }
     let counts = docs.counts(alloc, num_rows)?;
-    sort_rows_if(sorts, &counts, &mut ords);
-    serialize_counted(alloc, &counts, &ords, sink)
+    serialize_sorted(alloc, sorts, &counts, &mut ords, sink)
 }

@@ -12,6 +12,7 @@ pub(super) fn place_of<C>(columns: &IndexMap<String, C>, last: usize, name: &str
     ensures found { IfSome result (λ at. IsPlace name.now columns.now at) }
     ensures absent { IfNone result (get_by_text columns.now name.now ≡ None) }
 {
+    // That each name stands at one place, which the walk of a map tells.
     let _ = columns.into_iter();
     let next = last.wrapping_add(1);
     if is_at(columns, next, name) {

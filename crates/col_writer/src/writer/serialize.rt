@@ -18,7 +18,7 @@ use super::ColumnarWriter;
 use super::named_columns::NamedColumns;
 use col_common::{ColumnarError, Ipv6Addr, RowId, Sink};
 use col_writer_columns::{NumericalColumnWriter, PlainColumnWriter, StrOrBytesColumnWriter};
-use col_writer_file::{EntryColumn, NamedColumn, serialize_table};
+use col_writer_file::{EntryColumn, NamedEntry, serialize_table};
 use std::alloc::AllocError;
 
 impl ColumnarWriter {
@@ -41,7 +41,7 @@ impl ColumnarWriter {
     }
 
     // The columns in the order of their slots.
-    fn sorted_columns(&self) -> Result<Vec<NamedColumn<'_>>, AllocError>
+    fn sorted_columns(&self) -> Result<Vec<NamedEntry<'_>>, AllocError>
         ensures { IfOk result (λ v. map named_entry v.items ≡ self.now) }
     {
         let mut columns = self.all_columns()?;
@@ -50,7 +50,7 @@ impl ColumnarWriter {
     }
 
     // The columns, category by category.
-    fn all_columns(&self) -> Result<Vec<NamedColumn<'_>>, AllocError>
+    fn all_columns(&self) -> Result<Vec<NamedEntry<'_>>, AllocError>
         ensures { IfOk result (λ v. IsListed (map named_entry v.items) self.now) }
     {
         names_differ(&self.numerical);
@@ -74,6 +74,7 @@ impl ColumnarWriter {
 fn names_differ<C>(columns: &NamedColumns<C>)
     ensures { IsDistinct bytes_eq (map (λ p. string_bytes p.0) columns.now.columns.entries) }
 {
+    // That a map's keys differ, which its walk tells.
     let _ = (&columns.columns).into_iter();
 }
 
@@ -163,14 +164,14 @@ impl Listing<PlainColumnWriter<u64>> for DateTimes {
 
 // Lists the columns of a category.
 fn list<'a, C, L: Listing<C>>(
-    found: &mut Vec<NamedColumn<'a>>,
+    found: &mut Vec<NamedEntry<'a>>,
     columns: &'a NamedColumns<C>,
 ) -> Result<(), AllocError>
     ensures { OnOk result (map named_entry found.new.items ≡ map named_entry found.old.items
         ++ under L.category (each_entry L.entry columns.now.columns.entries)) }
 {
     for (name, column) in &columns.columns {
-        found.push(NamedColumn {
+        found.push(NamedEntry {
             name: name.as_str(),
             column: L::listed(column),
         })?;

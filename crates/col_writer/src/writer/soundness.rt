@@ -90,8 +90,10 @@ fn columns_are_sound<C: SoundColumn>(columns: &NamedColumns<C>)
     }
 }
 
+// That a name is UTF-8.
 fn name_is_utf8(name: &String)
     ensures { IsTrue (is_utf8 (string_bytes name.now)) }
 {
+    // That a text's bytes are UTF-8.
     let _text = name.as_str();
 }

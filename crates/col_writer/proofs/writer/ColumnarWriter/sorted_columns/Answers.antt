@@ -3,13 +3,13 @@ use Rattle.std.proofs.lemmas.List.Sorted.{answers_always}
 use Rattle.col_model.specs.Category.{category_place}
 use Rattle.col_writer_file.specs.EntryColumns.{category_in}
 use Rattle.col_writer_file.specs.Tables.{named_entry}
-use Rattle.col_writer_file.specs.declared.named_column.NamedColumn.{NamedColumn}
+use Rattle.col_writer_file.specs.declared.named_entry.NamedEntry.{NamedEntry}
 use Rattle.col_writer.proofs.ListedLemmas.{sorted-is}
 use Rattle.col_writer.proofs.SortedColumnLemmas.{columns-sorted}
 use Rattle.col_writer.proofs.writer.ColumnarWriter.sorted_columns.Goals as goal
 
 -- what columns are sorted by
-key : NamedColumn → Bor (List ℕ) × ℕ
+key : NamedEntry → Bor (List ℕ) × ℕ
 key n = (n.name, category_place (category_in n.column))
 
 pub returns : goal.returns

@@ -1,4 +1,4 @@
-use Rattle.std.proofs.Common.{◌∙◌, sym, arith}
+use Rattle.std.proofs.Common.{arith}
 use Rattle.col_writer_rows.proofs.DocPlaceLemmas.{dense-place, others-within, others-place}
 use Rattle.col_writer_rows.proofs.doc_list.DocList.get.Goals as goal
 

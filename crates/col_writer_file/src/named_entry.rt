@@ -1,4 +1,4 @@
-//! A column that records, with its name.
+//! The column of an entry, with its name.
 ghost use Rattle.std.specs.Prelude.{◌≡◌, not};
 ghost use Rattle.col_model.specs.Written.{has_zero, is_past_docs};
 
@@ -6,14 +6,14 @@ use crate::EntryColumn;
 use col_common::RowId;
 use col_writer_columns::is_past;
 
-/// A column that records, with its name.
+/// The column of an entry, with its name.
 #[derive(Clone, Copy)]
-pub struct NamedColumn<'a> {
+pub struct NamedEntry<'a> {
     pub name: &'a str,
     pub column: EntryColumn<'a>,
 }
 
-impl NamedColumn<'_> {
+impl NamedEntry<'_> {
     ghost use Rattle.col_writer_file.specs.Tables.{named_entry};
 
     /// Whether a document isn't below a number.
