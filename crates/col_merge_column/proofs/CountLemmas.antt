@@ -62,6 +62,14 @@ segment-at (n ∷ ns) (s ∷ ss) (suc k) fit h =
     let rest = segment-at ns ss k (and_parts (is_over n s) (pointwise is_over ns ss) fit).1 (omega arith) in
     record { there = omega (arith, rest.there); over = rest.over; within = omega (arith, rest.within); total = rest.total }
 
+-- what is counted in a segment's rows is one of the totals
+pub segment-counted : (ns : List ℕ) (ss : List Shape) (k n count : ℕ) → FitSegments ns ss → k < length ns
+    → n ≡ get_or ns k 0 → count ≡ sum (counts_in n (get_or ss k (empty_shape 0)))
+    → (k < length (totals ns ss)) × (count ≡ get_or (totals ns ss) k 0)
+segment-counted ns ss k n count fit h rows is =
+    let segment = segment-at ns ss k fit h in
+    (segment.within, is ∙ ap (λ n. sum (counts_in n (get_or ss k (empty_shape 0)))) rows ∙ sym segment.total)
+
 -- there is one total for each segment
 pub length-totals : (ns : List ℕ) (ss : List Shape) → FitSegments ns ss → length (totals ns ss) ≡ length ns
 length-totals [] ss fit = refl

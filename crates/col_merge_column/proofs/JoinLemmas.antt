@@ -33,6 +33,7 @@ use Rattle.col_merge_values.proofs.MergedCellLemmas.{merged-counts}
 use Rattle.col_merge_values.proofs.MergedRowLemmas.{merged-rows, length-merged, picks-there}
 use Rattle.col_merge_values.specs.Laws.{IsOrdered}
 use Rattle.col_merge_values.specs.Merges.{Merge, IsMerge, merged_rows, merged_values, values_of}
+use Rattle.std.proofs.lemmas.List.Elements.{filter_map-append}
 use Rattle.col_merge_column.proofs.LimitLemmas.{too_large-is}
 use Rattle.col_merge_column.proofs.NumberLemmas.{rows-joined, merged-stored}
 use Rattle.col_merge_column.specs.Joins.{picked_content, JoinsColumn}
@@ -113,19 +114,10 @@ cells-again : (xs : List ℕ) → filter_map unsigned_number (map unsigned_cell 
 cells-again [] = refl
 cells-again (x ∷ xs) = ap (λ ys. x ∷ ys) (cells-again xs)
 
-filter-append : (cs ds : List Cell) → filter_map unsigned_number (cs ++ ds) ≡ filter_map unsigned_number cs ++ filter_map unsigned_number ds
-filter-append [] ds = refl
-filter-append (c ∷ cs) ds = ap (cons_option (unsigned_number c)) (filter-append cs ds) ∙ go (unsigned_number c)
-  where
-    go : (o : Option ℕ) → cons_option o (filter_map unsigned_number cs ++ filter_map unsigned_number ds)
-        ≡ cons_option o (filter_map unsigned_number cs) ++ filter_map unsigned_number ds
-    go None = refl
-    go (Some x) = refl
-
 rows-again : (rows : List (List ℕ)) → filter_map unsigned_number (joined_lists (map (map unsigned_cell) rows)) ≡ joined_lists rows
 rows-again [] = refl
 rows-again (r ∷ rows) =
-    filter-append (map unsigned_cell r) (joined_lists (map (map unsigned_cell) rows))
+    filter_map-append unsigned_number (map unsigned_cell r) (joined_lists (map (map unsigned_cell) rows))
     ∙ ap₂ (λ a b. a ++ b) (cells-again r) (rows-again rows)
 
 -- the codes that a column of addresses needs are those of the picked addresses

@@ -21,6 +21,7 @@ use Rattle.col_order.specs.Orders.{counts_of, picks_of}
 use Rattle.col_merge_values.proofs.MergedRowLemmas.{picked-lengths, picks-there, only_if-true}
 use Rattle.col_merge_values.specs.Laws.{IsOrdered}
 use Rattle.col_merge_values.specs.Merges.{Merge, IsMerge, merged_rows}
+use Rattle.col_model.proofs.CutLaws.{lengths-map}
 use Rattle.col_merge_column.specs.Joins.{picked_content}
 use Rattle.col_merge_column.specs.Limits.{counts_picked, is_past_limits, IsMergedWithin}
 
@@ -41,11 +42,6 @@ count-some (xs ∷ xss) =
     sum_by-cons (λ ys. cond (not (length ys == 0)) 1 0) xs xss
     ∙ ap (λ n. cond (not (length xs == 0)) 1 0 + n) (count-some xss)
     ∙ sym (sum_by-cons (λ c. cond (not (c == 0)) 1 0) (length xs) (map length xss))
-
--- turning their values leaves rows as long as they are
-pub lengths-map : {A B : Type 0} (f : A → B) (xss : List (List A)) → map length (map (map f) xss) ≡ map length xss
-lengths-map f [] = refl
-lengths-map f (xs ∷ xss) = ap₂ (λ n ns. n ∷ ns) (length-map xs f) (lengths-map f xss)
 
 one-more : (b : Bool) (a : ℕ) (rows : List ℕ) → length (cond b (a ∷ rows) rows) ≡ cond b 1 0 + length rows
 one-more true a rows = omega arith

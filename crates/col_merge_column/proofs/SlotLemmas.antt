@@ -28,7 +28,7 @@ use Rattle.col_column.specs.Columns.{rows_by, row_at}
 use Rattle.col_column.proofs.CellLemmas.{row-map}
 use Rattle.col_merge_values.proofs.MergedRowLemmas.{picked-lengths, picks-there, slice_get-first}
 use Rattle.col_merge_values.specs.Merges.{SegmentColumns, segment_shape, segment_values, merged_rows, merge_of, AreColumns}
-use Rattle.col_merge_column.proofs.LimitLemmas.{lengths-map}
+use Rattle.col_model.proofs.CutLaws.{lengths-map}
 use Rattle.col_merge_column.specs.Joins.{picked_content}
 use Rattle.col_merge_column.specs.Slots.{AreNoTexts, IsKeptAs, AreKeptAs, PickedContentIsJoined}
 

@@ -10,7 +10,6 @@ use Rattle.col_common.specs.declared.error.ColumnarError.{ColumnarError}
 use Rattle.col_common.specs.declared.error.ColumnarError.TheVariants.{TooLarge, OutOfMemory}
 use Rattle.col_common.proofs.SerializingLemmas.{appends_none, serializes-no_memory}
 use Rattle.col_model.specs.ColumnType.{ColumnType, has_terms}
-use Rattle.col_model.specs.ColumnType as types
 use Rattle.col_model.specs.Index.{Shape, empty_shape, full_shape, optional_shape, multivalued_shape}
 use Rattle.col_model.specs.Limits.{cell_count, is_multivalued, is_too_large}
 use Rattle.col_model.specs.Order.{Order, picks}

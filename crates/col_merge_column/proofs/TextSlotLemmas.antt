@@ -28,7 +28,7 @@ use Rattle.col_numbers.specs.NumValues.{num_values_of}
 use Rattle.col_indexer.proofs.TightestLemmas.{segment_named, tightest-counts}
 use Rattle.col_column.proofs.CellLemmas.{row-map}
 use Rattle.col_text.specs.Texts.{Texts, texts_content}
-use Rattle.col_merge_terms.specs.Numbering.{terms_of}
+use Rattle.col_merge_texts.specs.Items.{terms_of}
 use Rattle.col_merge_texts.specs.Merged.{shapes_of, picked_cells}
 use Rattle.col_merge_texts.proofs.CallerLemmas.{texts-lengths}
 use Rattle.col_merge_values.proofs.MergedRowLemmas.{picks-there, slice_get-first}

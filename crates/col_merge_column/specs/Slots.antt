@@ -22,8 +22,8 @@ IsKeptAs cell n None s xs = s ≡ empty_shape n
 IsKeptAs cell n (Some c) s xs = c.content ≡ content_seen [] cell s xs
 
 -- The columns that are merged are those that the parts keep under the slot.
-abbrev pub AreKeptAs : {T : Type 0} → (T → Cell) → Slot → List (ℕ × ℕ) → List Part → SegmentColumns T
-    → Type 0
+abbrev pub AreKeptAs : {T : Type 0} → (T → Cell) → Slot → List (ℕ × ℕ) → List Part
+    → SegmentColumns T → Type 0
 AreKeptAs cell slot picked parts c = (k : ℕ) (p : Part) → slice_get parts k ≡ Some p
     → IsKeptAs cell p.row_count (kept_column slot picked (k, p)) (segment_shape c k)
     (segment_values c k)

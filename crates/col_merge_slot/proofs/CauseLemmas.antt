@@ -1,5 +1,5 @@
 -- Why the column of a slot isn't written.
-use Rattle.std.proofs.Common.{◌≡◌, ◌⊎◌, inl, inr, Bool, true, false, List, [], Option, Result, Err, refl, sym, ap, subst, ◌∙◌, unwrap_or, arith}
+use Rattle.std.proofs.Common.{◌≡◌, inl, inr, Bool, true, false, List, [], Option, Result, Err, refl, sym, ap, subst, ◌∙◌, unwrap_or, arith}
 use Rattle.col_common.specs.Outside.{SeenSink}
 use Rattle.col_common.specs.declared.error.ColumnarError.{ColumnarError}
 use Rattle.col_common.specs.declared.error.ColumnarError.TheVariants.{OutOfMemory, WriteFault, CannotCoerce, TooLarge}
@@ -9,11 +9,8 @@ use Rattle.col_model.specs.Limits.{is_too_large}
 use Rattle.col_model.specs.Order.{Order}
 use Rattle.col_order.specs.Orders.{error_of}
 use Rattle.col_dynamic.specs.declared.dynamic_column.DynamicColumn.{DynamicColumn}
+use Rattle.col_common.proofs.OnOkLemmas.{same-error}
 use Rattle.col_merge_slot.specs.JoinedSlots.{HasSlotCause, IsSlotRefusal, WritesSlot}
-
--- equal refusals have equal causes
-same-cause : {A : Type 0} (e f : ColumnarError) → ◌≡◌ {A = Result A ColumnarError} (Err e) (Err f) → e ≡ f
-same-cause e f h = ap (λ r. unwrap_or (error_of r) e) h
 
 -- a refusal before the first byte, which is no fault of the sink
 cause-stopped : {A : Type 0} (old new : SeenSink) (e f : ColumnarError) → new ≡ old → e ≡ f
@@ -22,7 +19,7 @@ cause-stopped {A = A} old new e f same is no_fault refused =
     subst (λ s. HasSlotCause {A = A} old s (Err e)) (sym same) (record {
       grown = ([], appends_none old);
       later = omega arith;
-      write_fault = λ h. absurd (no_fault (sym is ∙ same-cause e WriteFault h));
+      write_fault = λ h. absurd (no_fault (sym is ∙ same-error e WriteFault h));
       causes = refused;
     })
 
@@ -30,10 +27,10 @@ cause-stopped {A = A} old new e f same is no_fault refused =
 pub slot-cause : {A : Type 0} (order : Order) (kept : List (Option DynamicColumn)) (t : types.ColumnType)
     (old new : SeenSink) (e : ColumnarError) → WritesSlot order kept t old new (Err e) → HasSlotCause {A = A} old new (Err e)
 slot-cause order kept t old new e (inl h) =
-    let is = same-cause e OutOfMemory h.1 in
+    let is = same-error e OutOfMemory h.1 in
     cause-stopped old new e OutOfMemory h.0 is (λ g. cc) (inl is)
 slot-cause order kept t old new e (inr (inl h)) =
-    let is = same-cause e CannotCoerce h.1 in
+    let is = same-error e CannotCoerce h.1 in
     cause-stopped old new e CannotCoerce h.0 is (λ g. cc) (inr (inr (inl is)))
 slot-cause {A = A} order kept t old new e (inr (inr h)) = by (is_too_large t h.1.content) refl
   where
@@ -43,12 +40,12 @@ slot-cause {A = A} order kept t old new e (inr (inr h)) = by (is_too_large t h.1
         record {
           grown = r.grown;
           later = r.later;
-          write_fault = λ g. r.write_fault (ap Err (same-cause e WriteFault g));
+          write_fault = λ g. r.write_fault (ap Err (same-error e WriteFault g));
           causes = elim r.refused [
-            | inl f ↦ inr (inr (inr (inr (same-cause e TooLarge f))))
+            | inl f ↦ inr (inr (inr (inr (same-error e TooLarge f))))
             | inr f ↦ elim f [
-              | inl g ↦ inl (same-cause e OutOfMemory g)
-              | inr g ↦ inr (inl (same-cause e WriteFault g))
+              | inl g ↦ inl (same-error e OutOfMemory g)
+              | inr g ↦ inr (inl (same-error e WriteFault g))
             ]
           ];
         }
@@ -57,6 +54,6 @@ slot-cause {A = A} order kept t old new e (inr (inr h)) = by (is_too_large t h.1
         record {
           grown = s.grown;
           later = s.later;
-          write_fault = λ g. s.write_fault (ap Err (same-cause e WriteFault g));
+          write_fault = λ g. s.write_fault (ap Err (same-error e WriteFault g));
           causes = elim s.causes [ inl f ↦ inl f | inr f ↦ inr (inl f) ];
         }

@@ -21,13 +21,15 @@ use Rattle.col_model.specs.Refusal.{Refusal, ◌>>=◌, refuse_if, or_refuse, in
 use Rattle.col_model.specs.Table.{Cell, Column, Content}
 use Rattle.col_order.specs.Orders.{counts_of, picks_of, error_of}
 use Rattle.col_column.specs.Columns.{content_seen}
+use Rattle.col_types.specs.Kinds.{kind_of}
 use Rattle.col_types.specs.declared.column_type.ColumnType.{ColumnType}
 use Rattle.col_dynamic.specs.declared.dynamic_column.DynamicColumn.{DynamicColumn}
 use Rattle.col_merge_values.proofs.MergedRowLemmas.{picks-there}
 use Rattle.col_merge_values.specs.Merges.{SegmentColumns, segment_shape, segment_values, merge_of}
 use Rattle.col_merge_column.specs.Joins.{picked_content, JoinsColumn}
 use Rattle.col_merge_column.specs.Slots.{AreNoTexts, IsKeptAs, AreKeptAs, PickedContentIsJoined}
-use Rattle.col_merge_slot.specs.JoinedSlots.{AreOpened, AddsJoined, IsRefusedAs, AreKept, IsJoinedContent, WritesJoined, WritesSlot, AreFlags, IsTypeFor}
+use Rattle.col_common.proofs.OnOkLemmas.{same-error}
+use Rattle.col_merge_slot.specs.JoinedSlots.{AreOpened, AddsJoined, IsRefusedAs, AreKept, IsJoinedContent, WritesJoined, WritesSlot, AreFlags, IsTypeFor, IsKeptType}
 use Rattle.col_merge_slot.specs.Kept.{has_value, keeps, kept_flags, IsCountedIn, IsOwn, IsOwnIn}
 use Rattle.col_merge_slot.specs.Segments.{where_set, kept_of, column_seen, IsOfCategory, HaveRows, IsSegmentAs, AreSegmentColumns, is_read_as}
 use Rattle.col_merge_slot.proofs.PartLemmas.{are-kept, kept-columns, kept-category, not-bad, required-category, kept-each}
@@ -115,9 +117,6 @@ module _ (order : Order) (picked : List (ℕ × ℕ)) (parts : List Part) (requi
 
 -- ---- refusals
 
-same-err : {A : Type 0} (e f : ColumnarError) → ◌≡◌ {A = Result A ColumnarError} (Err e) (Err f) → e ≡ f
-same-err e f h = ap (λ r. unwrap_or (error_of r) e) h
-
 -- the refusals of a column that is too large
 abbrev IsRefusal : Result (Unit {0}) ColumnarError → Type 0
 IsRefusal result = (result ≡ Err TooLarge) ⊎ (result ≡ Err OutOfMemory) ⊎ (result ≡ Err WriteFault)
@@ -203,7 +202,7 @@ module _ (order : Order) (cols : List (Option DynamicColumn)) (flags : List Bool
       ∙ ap (λ fs. map (column_seen slot.name) (kept_of cols fs)) (sym flags_are)
 
   -- the columns that are kept are of the slot's category
-  pub kept-within : AllByRecursion (IsOfCategory slot.category) (kept_of cols flags)
+  kept-within : AllByRecursion (IsOfCategory slot.category) (kept_of cols flags)
   kept-within = kept-category (counts_of order) cols (picks_of order) slot parts have counted named same opened flags
 
   own-at : (os : List (Option DynamicColumn)) (k : ℕ) (c : DynamicColumn) → AllByRecursion IsOwnIn os → get_or os k None ≡ Some c → IsOwn c
@@ -243,23 +242,30 @@ module _ (order : Order) (cols : List (Option DynamicColumn)) (flags : List Bool
   abbrev expected : Result (Option Column) Refusal
   expected = joined_column order (picks_of order) parts required slot
 
+  -- the type that the columns share, under the slot's name
+  type-here : (r : Result (Option ColumnType) ColumnarError) → IsKeptType wanted (kept_of cols flags) r
+      → IsTypeFor wanted ds r
+  type-here r typed = typed slot.category slot.name kept-within
+
   -- a slot that keeps no column, with no type asked for, has no column
-  pub slot-none : (wanted ≡ None) × (map (column_seen slot.name) (kept_of cols flags) ≡ [])
+  pub slot-none : IsKeptType wanted (kept_of cols flags) (Ok None)
       → joined_column order (picks_of order) parts required slot ≡ Ok None
-  slot-none h =
+  slot-none typed =
+      let h = type-here (Ok None) typed in
       joined-none order (picks_of order) parts required slot ds wanted whole kept_is wanted_is
       (ap₂ (λ w ks. is_none w && (length ks == 0)) h.0 h.1)
 
   -- a refusal of the type of the kept columns is that of the slot
-  pub slot-conflict : (e : ColumnarError)
-      → IsTypeFor wanted (map (column_seen slot.name) (kept_of cols flags)) (Err e)
+  pub slot-conflict : (e : ColumnarError) → IsKeptType wanted (kept_of cols flags) (Err e)
       → IsRefusedAs e (joined_column order (picks_of order) parts required slot)
-  slot-conflict e h = inr (inr (inr (inl (
-    h.0,
-    joined-refused order (picks_of order) parts required slot ds wanted whole kept_is wanted_is numerical_conflict
-        (ap (λ w. is_none w && (length ds == 0)) h.1 ∙ h.3)
-        (ap (λ w. joined_type w ds) h.1 ∙ ap (λ o. or_refuse o numerical_conflict) h.2),
-  ))))
+  slot-conflict e typed =
+      let h = type-here (Err e) typed in
+      inr (inr (inr (inl (
+        h.0,
+        joined-refused order (picks_of order) parts required slot ds wanted whole kept_is wanted_is numerical_conflict
+            (ap (λ w. is_none w && (length ds == 0)) h.1 ∙ h.3)
+            (ap (λ w. joined_type w ds) h.1 ∙ ap (λ o. or_refuse o numerical_conflict) h.2),
+      ))))
 
   -- the content that was written is the joined one
   joined-content : (u : types.ColumnType) (old new : SeenSink) (result : Result (Unit {0}) ColumnarError)
@@ -273,32 +279,31 @@ module _ (order : Order) (cols : List (Option DynamicColumn)) (flags : List Bool
       → IsRefusedAs e (joined_column order (picks_of order) parts required slot)
   refused-large u old new e w typed reads large (inl f) =
       inr (inr (inr (inr (
-        same-err e TooLarge f,
+        same-error e TooLarge f,
         joined-large order (picks_of order) parts required slot ds wanted
             whole kept_is wanted_is u (present u typed) (type-ok u typed reads)
             (ap (is_too_large u) (sym (joined-content u old new (Err e) w)) ∙ large),
       ))))
-  refused-large u old new e w typed reads large (inr (inl f)) = inl (same-err e OutOfMemory f)
-  refused-large u old new e w typed reads large (inr (inr f)) = inr (inl (same-err e WriteFault f))
+  refused-large u old new e w typed reads large (inr (inl f)) = inl (same-error e OutOfMemory f)
+  refused-large u old new e w typed reads large (inr (inr f)) = inr (inl (same-error e WriteFault f))
 
   refused-written : (e : ColumnarError) → (e ≡ OutOfMemory) ⊎ (e ≡ WriteFault)
       → IsRefusedAs e (joined_column order (picks_of order) parts required slot)
   refused-written e (inl f) = inl f
   refused-written e (inr f) = inr (inl f)
 
-  -- a refusal of the call that writes
-  pub slot-refused : (u : types.ColumnType) (old new : SeenSink) (e : ColumnarError)
-      → IsTypedBy wanted (map (column_seen slot.name) (kept_of cols flags)) u
+  -- a refusal of the call that writes a type
+  type-not-written : (u : types.ColumnType) (old new : SeenSink) (e : ColumnarError) → IsTypedBy wanted ds u
       → WritesSlot order (where_set cols flags) u old new (Err e)
       → IsRefusedAs e (joined_column order (picks_of order) parts required slot)
-  slot-refused u old new e typed (inl h) = inl (same-err e OutOfMemory h.1)
-  slot-refused u old new e typed (inr (inl h)) =
+  type-not-written u old new e typed (inl h) = inl (same-error e OutOfMemory h.1)
+  type-not-written u old new e typed (inr (inl h)) =
       inr (inr (inl (
-        same-err e CannotCoerce h.1,
+        same-error e CannotCoerce h.1,
         joined-refused order (picks_of order) parts required slot ds
             wanted whole kept_is wanted_is cannot_coerce (present u typed) (type-refused u typed h.2),
       )))
-  slot-refused u old new e typed (inr (inr h)) = by (is_too_large u h.1.content) refl
+  type-not-written u old new e typed (inr (inr h)) = by (is_too_large u h.1.content) refl
     where
       by : (b : Bool) → is_too_large u h.1.content ≡ b → IsRefusedAs e (joined_column order (picks_of order) parts required slot)
       by true large = refused-large u old new e h.1 typed h.0 large (h.1.joins.too_large large).refused
@@ -309,15 +314,14 @@ module _ (order : Order) (cols : List (Option DynamicColumn)) (flags : List Bool
   no-refused done (inr (inl e)) = absurd cc
   no-refused done (inr (inr e)) = absurd cc
 
-  -- the column that was written
-  pub slot-made : (u : types.ColumnType) (old new : SeenSink) (done : Unit {0})
-      → IsTypedBy wanted (map (column_seen slot.name) (kept_of cols flags)) u
+  -- the column of a type that was written
+  type-written : (u : types.ColumnType) (old new : SeenSink) (done : Unit {0}) → IsTypedBy wanted ds u
       → WritesSlot order (where_set cols flags) u old new (Ok done)
       → AddsJoined slot.name (length (picks_of order)) old new u
       (joined_column order (picks_of order) parts required slot)
-  slot-made u old new done typed (inl h) = absurd (let e = h.1 in cc)
-  slot-made u old new done typed (inr (inl h)) = absurd (let e = h.1 in cc)
-  slot-made u old new done typed (inr (inr h)) = by (is_too_large u h.1.content) refl
+  type-written u old new done typed (inl h) = absurd (let e = h.1 in cc)
+  type-written u old new done typed (inr (inl h)) = absurd (let e = h.1 in cc)
+  type-written u old new done typed (inr (inr h)) = by (is_too_large u h.1.content) refl
     where
       by : (b : Bool) → is_too_large u h.1.content ≡ b
           → AddsJoined slot.name (length (picks_of order)) old new u
@@ -336,6 +340,22 @@ module _ (order : Order) (cols : List (Option DynamicColumn)) (flags : List Bool
                   (present u typed) (type-ok u typed h.0) (ap (is_too_large u) (sym same-content) ∙ small);
             };
           }
+
+  module _ (found : Option ColumnType) (t : ColumnType) (is : found ≡ Some t)
+      (typed : IsKeptType wanted (kept_of cols flags) (Ok found)) (old new : SeenSink) where
+    typed-by : IsTypedBy wanted ds (kind_of t)
+    typed-by = subst (λ o. IsTypeFor wanted ds (Ok o)) is (type-here (Ok found) typed)
+
+    -- a refusal of the call that writes
+    pub slot-refused : (e : ColumnarError) → WritesSlot order (where_set cols flags) (kind_of t) old new (Err e)
+        → IsRefusedAs e (joined_column order (picks_of order) parts required slot)
+    slot-refused e written = type-not-written (kind_of t) old new e typed-by written
+
+    -- the column that was written
+    pub slot-made : (done : Unit {0}) → WritesSlot order (where_set cols flags) (kind_of t) old new (Ok done)
+        → AddsJoined slot.name (length (picks_of order)) old new (kind_of t)
+        (joined_column order (picks_of order) parts required slot)
+    slot-made done written = type-written (kind_of t) old new done typed-by written
 
 -- ---- calls
 

@@ -1,6 +1,6 @@
 pub mod SegmentLemmas
-mod TakenLemmas
 mod CauseLemmas
+mod TakenLemmas
 mod SlotTypeLemmas
 mod BoundLemmas
 mod ReadLemmas

@@ -1,51 +1,77 @@
 -- Which of the columns are left that are taken one by one.
-use Rattle.std.proofs.Common.{◌≡◌, ◌∙◌, ℕ, zero, suc, ◌+◌, ◌<◌, ◌≤◌, Bool, true, false, if◌then◌else◌, List, [], ◌∷◌, length, drop, get_or, set, Option, Some, None, refl, sym, ap, arith}
-use Rattle.std.proofs.lemmas.Bool.{true≢false}
+use Rattle.std.proofs.Common.{◌≡◌, ◌⊎◌, inl, inr, ◌∙◌, IsErrAnd, ℕ, zero, suc, ◌+◌, ◌<◌, ◌≤◌, not, Bool, true, false, if◌then◌else◌, List, [], ◌∷◌, ◌++◌, append-nil, length, drop, get_or, set, Option, None, Result, Ok, Err, refl, sym, ap, ap₂, subst, arith}
+use Rattle.std.proofs.lemmas.List.{take_all, drop_all}
+use Rattle.col_common.specs.Outside.{SeenSink}
+use Rattle.col_common.specs.declared.error.ColumnarError.{ColumnarError}
+use Rattle.col_common.specs.declared.error.ColumnarError.TheVariants.{OutOfMemory, WriteFault, TooLarge}
+use Rattle.col_model.specs.ColumnType.{ColumnType}
+use Rattle.col_model.specs.Limits.{is_too_large}
+use Rattle.col_model.specs.Table.{Content}
+use Rattle.col_merge_column.specs.Joins.{JoinsColumn}
+use Rattle.col_common.proofs.OnOkLemmas.{same-error}
+use Rattle.col_merge_slot.specs.Taken.{not_kept, left_after, LeavesFor, TakesKept}
 use Rattle.col_merge_slot.proofs.SegmentLemmas.{next-left}
-use Rattle.col_merge_slot.specs.Taken.{left_after, TakesKept}
 
 -- one more is taken
 set-left : {A : Type 0} (os : List (Option A)) (flags : List Bool) (n : ℕ) (o : Option A) → n < length os
-    → o ≡ (if get_or flags n false then None else get_or os n None)
+    → length flags ≡ length os → o ≡ (if get_or flags n false then None else get_or os n None)
     → set (left_after n os flags) n o ≡ left_after (suc n) os flags
-set-left [] flags n o h e = absurd (omega (arith, h))
-set-left (x ∷ os) [] zero o h e = ap (λ y. y ∷ os) e
-set-left (x ∷ os) [] (suc n) o h e = ap (λ ys. x ∷ ys) (set-left os [] n o (omega (arith, h)) e)
-set-left (x ∷ os) (flag ∷ flags) zero o h e = ap (λ y. y ∷ os) e
-set-left (x ∷ os) (flag ∷ flags) (suc n) o h e =
-    ap (λ ys. (if flag then None else x) ∷ ys) (set-left os flags n o (omega (arith, h)) e)
+set-left [] flags n o h long e = absurd (omega (arith, h))
+set-left (x ∷ os) [] n o h long e = absurd (omega (arith, long))
+set-left (x ∷ os) (true ∷ flags) zero o h long e = ap (λ y. y ∷ os) e
+set-left (x ∷ os) (false ∷ flags) zero o h long e = ap (λ y. y ∷ os) e
+set-left (x ∷ os) (flag ∷ flags) (suc n) o h long e =
+    ap (λ ys. (if not flag then x else None) ∷ ys) (set-left os flags n o (omega (arith, h)) (omega (arith, long)) e)
 
 -- the same, where those behind it are as they were
 pub taken-more : {A : Type 0} (left whole : List (Option A)) (flags : List Bool) (i : ℕ) (d o : Option A)
-    → i < length whole → drop i left ≡ drop i whole → left ≡ left_after i whole flags
+    → i < length whole → length flags ≡ length whole → drop i left ≡ drop i whole → left ≡ left_after i whole flags
     → o ≡ (if get_or flags i false then None else get_or left i d)
     → set left i o ≡ left_after (i + 1) whole flags
-taken-more left whole flags i d o h same were is =
+taken-more left whole flags i d o h long same were is =
     let more : suc i ≡ i + 1 = omega arith in
     ap (λ os. set os i o) were
-    ∙ set-left whole flags i o h (is ∙ ap (λ p. if get_or flags i false then None else p) (next-left left whole i d h same))
+    ∙ set-left whole flags i o h long
+    (is ∙ ap (λ p. if get_or flags i false then None else p) (next-left left whole i d h same))
     ∙ ap (λ n. left_after n whole flags) more
 
--- a call that refuses has taken those of the first n
-pub takes-refused : {A : Type 0} (old : List (Option A)) (flags : List Bool) (new : List (Option A)) (n : ℕ) (done : Bool)
-    → new ≡ left_after n old flags → done ≡ false → TakesKept old flags new done
-takes-refused old flags new n done left refused = record {
-  count = n;
-  left = left;
-  all = λ e. absurd (true≢false (sym e ∙ refused));
-}
+-- behind the last segment all were taken
+pub taken-all : {A : Type 0} (whole : List (Option A)) (flags : List Bool) (left : List (Option A)) (n : ℕ)
+    → left ≡ left_after n whole flags → length whole ≤ n → left ≡ not_kept whole flags
+taken-all whole flags left n were high =
+    were ∙ ap₂ (λ os more. not_kept os flags ++ more) (take_all n whole high) (drop_all n whole high)
+    ∙ append-nil (not_kept whole flags)
 
--- a call that is done has taken all
-pub takes-done : {A : Type 0} (old : List (Option A)) (flags : List Bool) (new : List (Option A)) (n : ℕ) (done : Bool)
-    → new ≡ left_after n old flags → length old ≤ n → TakesKept old flags new done
-takes-done old flags new n done left whole = record { count = n; left = left; all = λ e. whole }
+-- a refusal that is handed on leaves what it left
+pub takes-still : {A X : Type 0} (old : List (Option A)) (flags : List Bool) (new : List (Option A))
+    (result : Result X ColumnarError) (e : ColumnarError) → IsErrAnd result (λ f. f ≡ e) → LeavesFor old flags new e
+    → TakesKept old flags new result
+takes-still old flags new (Ok x) e is leaves = absurd is
+takes-still old flags new (Err f) e is leaves = subst (LeavesFor old flags new) (sym is) leaves
 
--- what was refused is refused behind it
-pub takes-still : {A : Type 0} (old : List (Option A)) (flags : List Bool) (new : List (Option A)) (was done : Bool)
-    → TakesKept old flags new was → done ≡ false → TakesKept old flags new done
-takes-still old flags new was done t refused = takes-refused old flags new t.count done t.left refused
+-- where all were taken, what is left is left by each refusal that a column may meet
+leaves-all : {A : Type 0} (old : List (Option A)) (flags : List Bool) (new : List (Option A)) (e : ColumnarError)
+    → new ≡ not_kept old flags → (e ≡ OutOfMemory) ⊎ (e ≡ WriteFault) ⊎ (e ≡ TooLarge) → LeavesFor old flags new e
+leaves-all old flags new e all (inl is) = subst (LeavesFor old flags new) (sym is) (record {
+  count = length old;
+  left = all ∙ sym (taken-all old flags (left_after (length old) old flags) (length old) refl (omega arith));
+})
+leaves-all old flags new e all (inr (inl is)) = subst (LeavesFor old flags new) (sym is) all
+leaves-all old flags new e all (inr (inr is)) = subst (LeavesFor old flags new) (sym is) all
 
--- what has taken all has done so whatever comes behind it
-pub takes-then : {A : Type 0} (old : List (Option A)) (flags : List Bool) (new : List (Option A)) (done : Bool)
-    → TakesKept old flags new true → TakesKept old flags new done
-takes-then old flags new done t = takes-done old flags new t.count done t.left (t.all refl)
+-- where all were taken, they are so whether the column is written or not
+pub takes-joined : {A : Type 0} (old : List (Option A)) (flags : List Bool) (new : List (Option A))
+    (before after : SeenSink) (result : Result (Unit {0}) ColumnarError) (t : ColumnType) (n : ℕ) (content : Content)
+    → new ≡ not_kept old flags → JoinsColumn before after result t n content → TakesKept old flags new result
+takes-joined old flags new before after (Ok x) t n content all joins = all
+takes-joined old flags new before after (Err e) t n content all joins = by (is_too_large t content) refl
+  where
+    by : (b : Bool) → is_too_large t content ≡ b → LeavesFor old flags new e
+    by true large = leaves-all old flags new e all (elim (joins.too_large large).refused [
+      | inl f ↦ inr (inr (same-error e TooLarge f))
+      | inr f ↦ elim f [ inl g ↦ inl (same-error e OutOfMemory g) | inr g ↦ inr (inl (same-error e WriteFault g)) ]
+    ])
+    by false small = leaves-all old flags new e all (elim (joins.written small).causes [
+      | inl f ↦ inl f
+      | inr f ↦ inr (inl f)
+    ])

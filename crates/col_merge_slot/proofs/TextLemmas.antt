@@ -36,7 +36,7 @@ use Rattle.col_column.specs.Columns.{rows_by, row_at, num_docs_in}
 use Rattle.col_column.proofs.CellLemmas.{row-map}
 use Rattle.col_text.specs.Texts.{Texts, texts_content}
 use Rattle.col_dynamic.specs.declared.dynamic_column.DynamicColumn.{DynamicColumn}
-use Rattle.col_merge_terms.specs.Numbering.{terms_of}
+use Rattle.col_merge_texts.specs.Items.{terms_of}
 use Rattle.col_merge_values.proofs.MergedRowLemmas.{picks-there, slice_get-first}
 use Rattle.col_merge_values.specs.Merges.{FitsShape}
 use Rattle.col_merge_column.specs.Joins.{JoinsColumn}

@@ -1,10 +1,10 @@
 -- The column that a merge makes of a slot. States docs/RULES.md, Merged tables.
-use Rattle.std.specs.Prelude.{◌≡◌, ◌⊎◌, ℕ, ◌≤◌, ◌==◌, Bool, true, false, List, [], length, filter_map, option_map, is_some, slice_get, slice_index_or, IfErr, Option, Some, None, Result, Ok, Err}
-use Rattle.std.specs.List.{list_all}
+use Rattle.std.specs.Prelude.{◌≡◌, ◌⊎◌, ℕ, ◌≤◌, ◌==◌, Bool, true, false, List, [], length, map, filter_map, option_map, is_some, slice_get, slice_index_or, IfErr, Option, Some, None, Result, Ok, Err}
+use Rattle.std.specs.List.{list_all, AllByRecursion}
 use Rattle.col_common.specs.Outside.{SeenSink, Appends, Faulted, Grows}
 use Rattle.col_common.specs.declared.error.ColumnarError.{ColumnarError}
 use Rattle.col_common.specs.declared.error.ColumnarError.TheVariants.{OutOfMemory, WriteFault, CannotCoerce, NumericalConflict, TooLarge}
-use Rattle.col_model.specs.Category.{Slot}
+use Rattle.col_model.specs.Category.{Category, Slot}
 use Rattle.col_model.specs.Column.{column}
 use Rattle.col_model.specs.ColumnType as types
 use Rattle.col_model.specs.File.{Part, PartColumn}
@@ -19,7 +19,7 @@ use Rattle.col_order.specs.Orders.{counts_of, picks_of}
 use Rattle.col_dynamic.specs.Dynamic.{type_of, content_of}
 use Rattle.col_dynamic.specs.declared.dynamic_column.DynamicColumn.{DynamicColumn}
 use Rattle.col_merge_column.specs.Joins.{JoinsColumn}
-use Rattle.col_merge_slot.specs.Segments.{column_seen, is_read_as}
+use Rattle.col_merge_slot.specs.Segments.{column_seen, is_read_as, IsOfCategory}
 
 -- a column as a part has it, under a name
 abbrev pub part_seen : List ℕ → DynamicColumn → PartColumn
@@ -130,3 +130,10 @@ IsTypeFor wanted kept (Ok (Some t)) = (wanted ≡ Some (kind_of t))
     ⊎ ((wanted ≡ None) × (shared_type kept ≡ Some (kind_of t)))
 IsTypeFor wanted kept (Err e) = (e ≡ NumericalConflict) × (wanted ≡ None)
     × (shared_type kept ≡ None) × ((length kept == 0) ≡ false)
+
+-- The same of columns that are kept, under any name, where they are of one category.
+abbrev pub IsKeptType : Option types.ColumnType → List DynamicColumn
+    → Result (Option ColumnType) ColumnarError → Type 0
+IsKeptType wanted kept result = (category : Category) (name : List ℕ)
+    → AllByRecursion (IsOfCategory category) kept
+    → IsTypeFor wanted (map (column_seen name) kept) result

@@ -1,17 +1,16 @@
 //! Writes the column that a merge makes of a slot.
-ghost use Rattle.std.specs.Prelude.{◌≡◌, ℕ, List, length, map, option_map, is_ok, true, false, if◌then◌else◌, Ok, Err, None, IfErr};
-ghost use Rattle.std.specs.List.{list_any, AllByRecursion};
+ghost use Rattle.std.specs.Prelude.{◌≡◌, length, option_map, true, false, if◌then◌else◌, Ok, Err, None, IfErr};
+ghost use Rattle.std.specs.List.{list_any};
 ghost use Rattle.col_common.specs.declared.error.ColumnarError.TheVariants as refusals;
-ghost use Rattle.col_model.specs.Category.{Category};
 ghost use Rattle.col_model.specs.ColumnType as types;
 ghost use Rattle.col_order.specs.Orders.{counts_of, picks_of};
 ghost use Rattle.col_order.specs.RowOrders.{order_of};
 ghost use Rattle.col_types.specs.Kinds.{kind_of};
 ghost use Rattle.col_merge_column.specs.Limits.{HasNoCodes};
 ghost use Rattle.col_merge_column.specs.Slots.{AreNoTexts};
-ghost use Rattle.col_merge_slot.specs.JoinedSlots.{AreFlags, IsTypeFor, WritesSlot, HasSlotCause, IsSlotJoined};
+ghost use Rattle.col_merge_slot.specs.JoinedSlots.{AreFlags, IsKeptType, WritesSlot, HasSlotCause, IsSlotJoined};
 ghost use Rattle.col_merge_slot.specs.Kept.{kept_flags};
-ghost use Rattle.col_merge_slot.specs.Segments.{where_set, kept_of, column_seen, IsOfCategory, HaveRows};
+ghost use Rattle.col_merge_slot.specs.Segments.{where_set, kept_of, HaveRows};
 ghost use Rattle.col_merge_slot.specs.Taken.{TakesKept, TakesSlot};
 
 use crate::kept::kept_segments;
@@ -80,10 +79,7 @@ fn joined_type(
     wanted: Option<ColumnType>,
 ) -> Result<Option<ColumnType>, ColumnarError>
     requires { AreFlags kept.now columns.now }
-    ensures joined { (category : Category) (name : List ℕ) →
-        AllByRecursion (IsOfCategory category) (kept_of columns.now kept.now) →
-        IsTypeFor (option_map kind_of wanted)
-        (map (column_seen name) (kept_of columns.now kept.now)) result }
+    ensures joined { IsKeptType (option_map kind_of wanted) (kept_of columns.now kept.now) result }
     ensures err { IfErr result (λ e. e ≡ refusals.NumericalConflict) }
 {
     match wanted {
@@ -98,9 +94,7 @@ fn kept_type(
     kept: &[bool],
 ) -> Result<Option<ColumnType>, ColumnarError>
     requires { AreFlags kept.now columns.now }
-    ensures joined { (category : Category) (name : List ℕ) →
-        AllByRecursion (IsOfCategory category) (kept_of columns.now kept.now) →
-        IsTypeFor None (map (column_seen name) (kept_of columns.now kept.now)) result }
+    ensures joined { IsKeptType None (kept_of columns.now kept.now) result }
     ensures err { IfErr result (λ e. e ≡ refusals.NumericalConflict) }
 {
     match slot_type(columns, kept) {
@@ -144,8 +138,9 @@ fn write_slot<K: Sink>(
     requires rows { HaveRows (counts_of (order_of merge_row_order.now)) columns.old }
     requires flags { length kept.now ≡ length columns.old }
     ensures written { WritesSlot (order_of merge_row_order.now)
-        (where_set columns.old kept.now) (kind_of column_type) (K.seen sink.old) (K.seen sink.new) result }
-    ensures taken { TakesKept columns.old kept.now columns.new (is_ok result) }
+        (where_set columns.old kept.now) (kind_of column_type) (K.seen sink.old) (K.seen sink.new)
+        result }
+    ensures taken { TakesKept columns.old kept.now columns.new result }
 {
     match column_type {
         ColumnType::I64 => write_numbers::<i64, K>(alloc, columns, kept, merge_row_order, sink),
@@ -177,7 +172,7 @@ where
     requires numbers { AreNoTexts T.cell }
     ensures written { WritesSlot (order_of merge_row_order.now)
         (where_set columns.old kept.now) T.kind (K.seen sink.old) (K.seen sink.new) result }
-    ensures taken { TakesKept columns.old kept.now columns.new (is_ok result) }
+    ensures taken { TakesKept columns.old kept.now columns.new result }
 {
     orders_are_picks(merge_row_order);
     picked_content_is_joined::<T>();
@@ -197,7 +192,7 @@ fn write_addresses<K: Sink>(
     requires flags { length kept.now ≡ length columns.old }
     ensures written { WritesSlot (order_of merge_row_order.now)
         (where_set columns.old kept.now) types.ip (K.seen sink.old) (K.seen sink.new) result }
-    ensures taken { TakesKept columns.old kept.now columns.new (is_ok result) }
+    ensures taken { TakesKept columns.old kept.now columns.new result }
 {
     orders_are_picks(merge_row_order);
     picked_content_is_joined::<u64>();

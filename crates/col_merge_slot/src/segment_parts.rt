@@ -1,5 +1,5 @@
 //! The columns of segments that are kept, taken apart: an index and values for each segment.
-ghost use Rattle.std.specs.Prelude.{◌≡◌, ℕ, ◌++◌, ◌∷◌, [], map, length, is_ok, is_some, if◌then◌else◌, Some, None, OnOk, IfOk, IfErr, IfSome};
+ghost use Rattle.std.specs.Prelude.{◌≡◌, ℕ, ◌++◌, ◌∷◌, [], map, length, is_some, if◌then◌else◌, Some, None, OnOk, IfOk, IfErr, IfSome};
 ghost use Rattle.col_model.specs.ColumnType.{ColumnType};
 ghost use Rattle.col_model.specs.Index.{Shape, empty_shape};
 ghost use Rattle.col_model.specs.Table.{Content};
@@ -55,7 +55,7 @@ pub fn segment_parts<V: SegmentValues>(
         (counts_of (order_of merge_row_order.now)) (where_set columns.old kept.now)
         (map shape_of r.0.items) r.1.items) }
     ensures err { IfErr result (IsRefusedFor V.kind (kept_of columns.old kept.now)) }
-    ensures taken { TakesKept columns.old kept.now columns.new (is_ok result) }
+    ensures taken { TakesKept columns.old kept.now columns.new result }
 {
     let mut indexes = Vec::with_capacity(alloc, columns.len())?;
     let mut values = Vec::with_capacity(alloc, columns.len())?;

@@ -1,5 +1,5 @@
 //! Columns of segments as indexes and lists of numbers, or of addresses.
-ghost use Rattle.std.specs.Prelude.{◌≡◌, [], map, length, is_ok, is_some, true, Some, IfOk, IfErr, IfSome};
+ghost use Rattle.std.specs.Prelude.{◌≡◌, [], map, length, is_some, true, Some, IfOk, IfErr, IfSome};
 ghost use Rattle.col_model.specs.ColumnType as types;
 ghost use Rattle.col_order.specs.Orders.{counts_of};
 ghost use Rattle.col_order.specs.RowOrders.{order_of};
@@ -103,6 +103,7 @@ fn address_parts(column: IpColumn) -> (ColumnIndex, IpValues)
         (row_count (dynamic_shape c) (value_count c)) (Some c) (shape_of result.0) result.1 }
 {
     column.values_are_counted();
+    // That the greatest address has 128 bits is known of its bits, and so of each address.
     let _greatest = column.max_value().to_bits();
     column.into_parts()
 }
@@ -122,7 +123,7 @@ pub fn segment_numbers<T: FromDynamic>(
         (counts_of (order_of merge_row_order.now)) (where_set columns.old kept.now)
         (columns_by (map shape_of r.0.items) (map num_values_of r.1.items))) }
     ensures err { IfErr result (IsRefusedFor T.kind (kept_of columns.old kept.now)) }
-    ensures taken { TakesKept columns.old kept.now columns.new (is_ok result) }
+    ensures taken { TakesKept columns.old kept.now columns.new result }
 {
     segment_parts::<NumValues<T>>(alloc, columns, kept, merge_row_order)
 }
@@ -140,7 +141,7 @@ pub fn segment_addresses(
         (counts_of (order_of merge_row_order.now)) (where_set columns.old kept.now)
         (columns_by (map shape_of r.0.items) (map ip_values_of r.1.items))) }
     ensures err { IfErr result (IsRefusedFor types.ip (kept_of columns.old kept.now)) }
-    ensures taken { TakesKept columns.old kept.now columns.new (is_ok result) }
+    ensures taken { TakesKept columns.old kept.now columns.new result }
 {
     segment_parts::<IpValues>(alloc, columns, kept, merge_row_order)
 }

@@ -101,6 +101,7 @@ fn addresses_are_own(column: &IpColumn)
     ensures { IsOwn (columns.IpAddr column.now) }
 {
     column.values_are_counted();
+    // That the greatest address has 128 bits is known of its bits, and so of each address.
     let _greatest = column.max_value().to_bits();
 }
 

@@ -9,7 +9,7 @@ use Rattle.std.specs.FinMap.{IsAntisymmetric}
 use Rattle.std.proofs.lemmas.Bool.{true≢false}
 use Rattle.std.proofs.lemmas.Cmp.{nat_list_cmp_total, nat_cmp_total, on_total, then_total, tied_itself, alike_right, ranked, by_ranked}
 use Rattle.std.proofs.lemmas.Map.Text.{is_eq-slice_cmp}
-use Rattle.col_common.proofs.OctetLemmas.{then_equal}
+use Rattle.col_common.proofs.OctetLemmas.{then_equal, cmp_equal}
 use Rattle.col_model.proofs.OrderingLaws.{bytes_eq-same}
 use Rattle.col_model.proofs.SeenLaws.{text_cmp-antisymmetric}
 use Rattle.col_merge_terms.specs.declared.terms_with_segment_ord.TermsWithSegmentOrd.{TermsWithSegmentOrd}
@@ -25,17 +25,6 @@ then-not_less : (a b : Ordering) → is_lt (ordering_then a b) ≡ false → is_
 then-not_less Less b e = e
 then-not_less Equal b e = refl
 then-not_less Greater b e = refl
-
-nat-tied : (a b : ℕ) → nat_cmp a b ≡ Equal → a ≡ b
-nat-tied a b e =
-    by_ranked (a < b) (a ≡ b) (b < a) (nat_cmp a b) (ranked a b (nat_cmp a b) refl)
-    (λ f h. absurd (less_not_equal f)) (λ f h. h) (λ f h. absurd (greater_not_equal f))
-  where
-    less_not_equal : nat_cmp a b ≡ Less → ⊥
-    less_not_equal f = true≢false (sym (ap is_lt f) ∙ ap is_lt e)
-
-    greater_not_equal : nat_cmp a b ≡ Greater → ⊥
-    greater_not_equal f = true≢false (sym (ap is_gt f) ∙ ap is_gt e)
 
 -- ---- terms of segments
 
@@ -53,7 +42,7 @@ pub term_cmp-apart : IsAntisymmetric term_cmp
 term_cmp-apart a b e =
     let first = then_equal (by_bytes a.key b.key) _ e in
     let rest = then_equal (nat_cmp a.segment b.segment) _ first.1 in
-    same-term a b (text_cmp-antisymmetric a.key b.key first.0) (nat-tied a.segment b.segment rest.0) (nat-tied a.ord b.ord rest.1)
+    same-term a b (text_cmp-antisymmetric a.key b.key first.0) (cmp_equal a.segment b.segment rest.0) (cmp_equal a.ord b.ord rest.1)
 
 -- a term of a lesser key stands before
 pub before-term : (t u : SegmentTerm) → by_bytes t.key u.key ≡ Less → not (is_gt (term_cmp t u)) ≡ true

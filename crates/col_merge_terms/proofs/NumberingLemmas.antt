@@ -12,14 +12,17 @@ use Rattle.col_model.proofs.OrderingLaws.{bytes_eq-true, bytes_eq-same}
 use Rattle.col_model.proofs.StatsLaws.{all_by, mapped_all}
 use Rattle.col_terms.specs.Building.{id_of}
 use Rattle.col_terms.specs.Streams.{TermStream, numbered, stream_of}
+use Rattle.col_model.proofs.ListLaws.{all-filter, filter-few}
 use Rattle.col_merge_terms.specs.declared.terms_with_segment_ord.TermsWithSegmentOrd.{TermsWithSegmentOrd}
 use Rattle.col_text.specs.Texts.{Texts}
 use Rattle.col_merge_terms.specs.Merging.{SegmentTerm, term_cmp, has_key, in_segment, in_order, terms_left, Merging, merged_step, is_on_key, places_of}
-use Rattle.col_merge_terms.specs.Numbering.{terms_of, term_count, terms_from, terms_in_order, kept_terms, keys_of, item_at, IsAmong, Numbers, AreNumbered, merged_places, places_among}
+use Rattle.col_merge_texts.specs.Items.{terms_of, item_at, IsAmong}
+use Rattle.col_merge_terms.specs.Numbering.{term_count, terms_from, terms_in_order, kept_terms, keys_of, Numbers, AreNumbered, merged_places, places_among}
 use Rattle.col_merge_terms.proofs.SortLemmas.{moved-sorted}
 use Rattle.col_merge_terms.proofs.PermutationLemmas.{all-moved}
-use Rattle.col_merge_terms.proofs.ItemLemmas.{in-all, in-map, in-filter, in-moved, all-filtered, some-same, item-map, same-lists}
-use Rattle.col_merge_terms.proofs.PlaceLemmas.{genuine-all, in-all-terms, keys-ordered, never_fall-ordered, never_fall-filtered, keys-step, is_other, others-first, rising-terms, rising-filtered, place-dropped, drop-next, length-joined, length-distinct, length-filtered}
+use Rattle.col_merge_texts.proofs.AmongLemmas.{in-all, in-map, some-same}
+use Rattle.col_merge_terms.proofs.ItemLemmas.{in-filter, in-moved, item-map, same-lists}
+use Rattle.col_merge_terms.proofs.PlaceLemmas.{genuine-all, in-all-terms, keys-ordered, never_fall-ordered, never_fall-filtered, keys-step, is_other, others-first, rising-terms, rising-filtered, place-dropped, drop-next, length-joined, length-distinct}
 
 -- ---- walks over the terms of columns
 
@@ -73,7 +76,7 @@ pub step-shorter : (left : List SegmentTerm) → is_on_key (merged_step left) �
 step-shorter [] on = absurd (true≢false (sym on))
 step-shorter (t ∷ ts) on =
     let same = ap length (others-first t ts) in
-    omega (arith, same, length-filtered (is_other t.key) ts)
+    omega (arith, same, filter-few (is_other t.key) ts)
 
 -- one that doesn't had none
 pub step-none : (left : List SegmentTerm) → is_on_key (merged_step left) ≡ false → left ≡ []
@@ -195,7 +198,7 @@ module _ (tss : List (List (List ℕ))) (kept : List ℕ → Bool) (t : SegmentT
     next-fits few =
         let long = ap length rest-is in
         let dropped = length-drop next (kept_terms kept tss) in
-        omega (arith, long, dropped, length-filtered kept (terms_in_order tss), length-distinct (joined_lists tss), length-joined tss)
+        omega (arith, long, dropped, filter-few kept (terms_in_order tss), length-distinct (joined_lists tss), length-joined tss)
 
   -- and its terms got the next number
   module _ (keeps : kept t.key ≡ true) (new : List (List ℕ)) (numbers : Numbers (places_of current) next mapping new) where
@@ -208,7 +211,7 @@ module _ (tss : List (List (List ℕ))) (kept : List ℕ → Bool) (t : SegmentT
     pub numbered-more : AreNumbered tss kept left (next + 1) new
     numbered-more = record {
       never_fall = never_fall-filtered (is_other t.key) (t ∷ ts) h.never_fall;
-      genuine = all-filtered (λ u. item_at tss (u.segment, u.ord) ≡ Some u.key) (is_other t.key) (t ∷ ts) h.genuine;
+      genuine = all-filter (λ u. item_at tss (u.segment, u.ord) ≡ Some u.key) (is_other t.key) (t ∷ ts) h.genuine;
       lengths = numbers.lengths ∙ h.lengths;
       rest = drop-next next (kept_terms kept tss) t.key (filter kept (keys_of left)) (rest-is keeps);
       told = told;

@@ -20,14 +20,15 @@ use Rattle.col_model.proofs.DistinctLaws.{has, has-distinct, sorted-with_item}
 use Rattle.col_model.proofs.OrderingLaws.{bytes_eq-true, bytes_eq-same}
 use Rattle.col_model.proofs.RangeCodes.{all-distinct}
 use Rattle.col_model.proofs.StatsLaws.{all_by, mapped_all, map-map}
-use Rattle.col_model.proofs.ListLaws.{all-two}
+use Rattle.col_model.proofs.ListLaws.{all-two, all-filter}
 use Rattle.col_terms.specs.Building.{id_of}
 use Rattle.col_terms.specs.Streams.{OrdTerm, numbered}
 use Rattle.col_terms.proofs.WalkLemmas.{numbered-terms}
 use Rattle.col_merge_terms.specs.Merging.{SegmentTerm, term_cmp, has_key, in_segment, in_order}
-use Rattle.col_merge_terms.specs.Numbering.{terms_from, terms_in_order, keys_of, KeysNeverFall, item_at, IsAmong}
+use Rattle.col_merge_texts.specs.Items.{item_at, IsAmong}
+use Rattle.col_merge_terms.specs.Numbering.{terms_from, terms_in_order, keys_of, KeysNeverFall}
 use Rattle.col_merge_terms.proofs.SortLemmas.{all-inserted, moved-sorted}
-use Rattle.col_merge_terms.proofs.ItemLemmas.{in-left, in-right, in-map, all-filtered}
+use Rattle.col_merge_texts.proofs.AmongLemmas.{in-left, in-right, in-map}
 use Rattle.col_merge_terms.proofs.KeyLemmas.{by_bytes, own-key, key-behind, key-further, key-tied}
 
 abbrev term_key : SegmentTerm → List ℕ
@@ -224,7 +225,7 @@ never_fall-filtered p [] h = tt
 never_fall-filtered p (t ∷ ts) h = go (p t) refl (never_fall-filtered p ts h.1)
   where
     go : (b : Bool) → p t ≡ b → KeysNeverFall (filter p ts) → KeysNeverFall (filter p (t ∷ ts))
-    go true e rest = rw e (all-filtered (NotBefore t) p ts h.0, rest)
+    go true e rest = rw e (all-filter (NotBefore t) p ts h.0, rest)
     go false e rest = rw e rest
 
 -- ---- the first key, and the others
@@ -303,7 +304,7 @@ rising-filtered p [] h = tt
 rising-filtered p (k ∷ ks) h = go (p k) refl (rising-filtered p ks h.1)
   where
     go : (b : Bool) → p k ≡ b → IsStrictlySortedBy by_bytes (filter p ks) → IsStrictlySortedBy by_bytes (filter p (k ∷ ks))
-    go true e rest = rw e (all-filtered (λ j. by_bytes k j ≡ Less) p ks h.0, rest)
+    go true e rest = rw e (all-filter (λ j. by_bytes k j ≡ Less) p ks h.0, rest)
     go false e rest = rw e rest
 
 no-items : {X : Type 0} (y : X) (ys : List X) → [] ≡ y ∷ ys → ⊥
@@ -369,12 +370,3 @@ pub length-distinct : (xs : List (List ℕ)) → length (distinct_items by_bytes
 unfolding distinct_items
 length-distinct [] = omega arith
 length-distinct (x ∷ xs) = omega (arith, length-distinct xs, length-with_item x (distinct_items by_bytes xs))
-
--- there are at most as many items that pass a test as items
-pub length-filtered : {X : Type 0} (p : X → Bool) (xs : List X) → length (filter p xs) ≤ length xs
-length-filtered p [] = omega arith
-length-filtered p (x ∷ xs) = go (p x) refl (length-filtered p xs)
-  where
-    go : (b : Bool) → p x ≡ b → length (filter p xs) ≤ length xs → length (filter p (x ∷ xs)) ≤ length (x ∷ xs)
-    go true e h = rw e (omega arith)
-    go false e h = rw e (omega arith)

@@ -1,21 +1,16 @@
 -- The places of terms of columns among the terms of all columns.
-use Rattle.std.specs.Prelude.{◌≡◌, ◌⊎◌, ℕ, ◌+◌, Bool, true, List, [], ◌∷◌, ◌++◌, map, filter, length, sum_by, drop, slice_get, is_some, false, Option, Some, option_and_then}
+use Rattle.std.specs.Prelude.{◌≡◌, ◌⊎◌, ℕ, ◌+◌, Bool, true, List, [], ◌∷◌, ◌++◌, map, filter, length, sum_by, drop, is_some, false, Some}
 use Rattle.std.specs.List.{AllByRecursion}
 use Rattle.std.specs.Ordering.{nat_cmp}
 use Rattle.std.specs.Cmp.Lexicographic.{slice_cmp}
-use Rattle.std.specs.declared.vec.Vec.{Vec}
-use Rattle.std.specs.declared.alloc.Global.{Global}
 use Rattle.col_common.specs.Ascending.{is_before}
 use Rattle.col_model.specs.Sorted.{distinct_items}
 use Rattle.col_model.specs.U64List.{joined_lists}
 use Rattle.col_terms.specs.Building.{id_of}
 use Rattle.col_terms.specs.Streams.{numbered}
 use Rattle.col_text.specs.Texts.{Texts}
+use Rattle.col_merge_texts.specs.Items.{item_at, IsAmong}
 use Rattle.col_merge_terms.specs.Merging.{SegmentTerm, in_segment}
-
--- the terms of each column
-abbrev pub terms_of : List Texts → List (List (List ℕ))
-terms_of columns = map (λ c. c.terms) columns
 
 -- how many terms they have in all
 abbrev pub term_count : List Texts → ℕ
@@ -38,20 +33,7 @@ places_among all tss = map (map (id_of all)) tss
 abbrev pub merged_places : List (List (List ℕ)) → List (List ℕ)
 merged_places tss = places_among (terms_in_order tss) tss
 
--- the lists that are held
-abbrev pub lists_of : List (Vec ℕ Global) → List (List ℕ)
-lists_of vs = map (λ v. v.items) vs
-
 -- ---- numbers that are given one after another
-
--- an item of one of several lists
-abbrev pub item_at : {X : Type 0} → List (List X) → ℕ × ℕ → Option X
-item_at xss p = option_and_then (λ xs. slice_get xs p.1) (slice_get xss p.0)
-
--- it is one of the items
-abbrev pub IsAmong : {X : Type 0} → X → List X → Type 0
-IsAmong x [] = ⊥
-IsAmong x (y ∷ ys) = (x ≡ y) ⊎ IsAmong x ys
 
 -- The items at these places are this number, and others stay.
 pub record Numbers (places : List (ℕ × ℕ)) (n : ℕ) (old new : List (List ℕ)) : Type 0 where

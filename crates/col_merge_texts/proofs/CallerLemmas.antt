@@ -19,7 +19,7 @@ use Rattle.col_model.proofs.ListLaws.{item-at}
 use Rattle.col_order.specs.Orders.{counts_of, picks_of}
 use Rattle.col_column.specs.Written.{Refused}
 use Rattle.col_text.specs.Texts.{Texts}
-use Rattle.col_merge_terms.specs.Numbering.{IsAmong}
+use Rattle.col_merge_texts.specs.Items.{IsAmong}
 use Rattle.col_merge_values.specs.Merges.{picked_row, merged_rows}
 use Rattle.col_merge_values.specs.TermColumns.{term_columns}
 use Rattle.col_merge_values.proofs.MergedRowLemmas.{picked-lengths, picks-there}

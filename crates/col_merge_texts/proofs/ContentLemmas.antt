@@ -19,7 +19,7 @@ use Rattle.col_terms.specs.Building.{ordered, ordinals, is_too_long}
 use Rattle.col_terms.specs.Laws.{TermsAreThoseGiven}
 use Rattle.col_terms.specs.TermTable.{dictionary_bytes}
 use Rattle.col_text.specs.Texts.{Texts}
-use Rattle.col_merge_terms.specs.Numbering.{terms_of, IsAmong}
+use Rattle.col_merge_texts.specs.Items.{terms_of, IsAmong}
 use Rattle.col_merge_values.specs.Merges.{picked_row, merged_rows}
 use Rattle.col_merge_values.specs.TermColumns.{term_columns, remapped_columns}
 use Rattle.col_writer_rows.proofs.TextLemmas.{term_column-read}

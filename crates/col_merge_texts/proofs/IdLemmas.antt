@@ -6,7 +6,7 @@ use Rattle.col_common.specs.Ascending.{AreBelow}
 use Rattle.col_model.specs.U64List.{joined_lists}
 use Rattle.col_model.proofs.CutLaws.{joined_lists-push}
 use Rattle.col_text.specs.Texts.{Texts}
-use Rattle.col_merge_terms.specs.Numbering.{item_at}
+use Rattle.col_merge_texts.specs.Items.{item_at}
 use Rattle.col_merge_values.specs.Merges.{picked_row}
 use Rattle.col_merge_values.specs.TermColumns.{term_columns}
 use Rattle.col_merge_texts.specs.Noting.{Noted, Notes}

@@ -9,7 +9,7 @@ use Rattle.col_model.specs.U64List.{joined_lists}
 use Rattle.col_model.proofs.ListLaws.{item-at}
 use Rattle.col_order.specs.Orders.{picks_of}
 use Rattle.col_text.specs.Texts.{Texts}
-use Rattle.col_merge_terms.specs.Numbering.{item_at, IsAmong}
+use Rattle.col_merge_texts.specs.Items.{item_at, IsAmong}
 use Rattle.col_merge_values.specs.Merges.{picked_row, merged_rows, merged_values, merge_of, values_of}
 use Rattle.col_merge_values.specs.TermColumns.{remapped, term_columns, remapped_columns}
 use Rattle.col_merge_texts.specs.Noting.{Noted, ord_by, ords_by}

@@ -11,8 +11,8 @@ use Rattle.col_model.proofs.OrderingLaws.{bytes_eq-true, bytes_eq-same}
 use Rattle.col_model.proofs.SoundTables.{among-has}
 use Rattle.col_terms.specs.Building.{is_known}
 use Rattle.col_terms.proofs.OrderedLemmas.{AreInOrder}
-use Rattle.col_merge_terms.specs.Numbering.{IsAmong}
-use Rattle.col_merge_terms.proofs.ItemLemmas.{in-left, in-right}
+use Rattle.col_merge_texts.specs.Items.{IsAmong}
+use Rattle.col_merge_texts.proofs.AmongLemmas.{in-left, in-right}
 
 -- ---- lists of terms
 

@@ -4,8 +4,8 @@ use Rattle.std.proofs.lemmas.Bool.{true≢false}
 use Rattle.std.proofs.lemmas.Option.{slice_get_within}
 use Rattle.col_text.specs.Texts.{Texts}
 use Rattle.col_terms.specs.Building.{is_known, with_term, Allocates}
-use Rattle.col_merge_terms.specs.Numbering.{terms_of, item_at}
-use Rattle.col_merge_terms.proofs.ItemLemmas.{some-same}
+use Rattle.col_merge_texts.specs.Items.{terms_of, item_at}
+use Rattle.col_merge_texts.proofs.AmongLemmas.{some-same}
 use Rattle.col_merge_texts.specs.Noting.{Noted, no_ids_of, nothing_noted, HasIdIf, Sets, Notes, IsNoted}
 use Rattle.col_merge_texts.specs.Taking.{Place, IsPlace, StandsAt, AreNoted}
 

@@ -4,7 +4,7 @@ use Rattle.std.specs.Prelude.{option_and_then, nat_lt}
 use Rattle.std.specs.List.{AllByRecursion, list_all}
 use Rattle.std.proofs.lemmas.Bool.{and_from, and_parts, lt-ltb}
 use Rattle.std.proofs.lemmas.List.{length-map}
-use Rattle.std.proofs.lemmas.Option.{slice_get-map, none-some, slice_get_within}
+use Rattle.std.proofs.lemmas.Option.{slice_get-map, none-some, slice_get_within, get_or_from_slice_get}
 use Rattle.col_common.specs.Ascending.{are_below}
 use Rattle.col_model.specs.Column.{term_cell}
 use Rattle.col_model.specs.Order.{Order, has_row, picks}
@@ -15,8 +15,8 @@ use Rattle.col_terms.specs.Laws.{TermsAreThoseGiven}
 use Rattle.col_text.specs.Texts.{Texts}
 use Rattle.col_column.specs.Columns.{rows_by, row_at, num_docs_in}
 use Rattle.col_numbers.specs.NumValues.{num_values_of}
-use Rattle.col_merge_terms.specs.Numbering.{terms_of, item_at, IsAmong}
-use Rattle.col_merge_terms.proofs.ItemLemmas.{in-all}
+use Rattle.col_merge_texts.specs.Items.{terms_of, item_at, IsAmong}
+use Rattle.col_merge_texts.proofs.AmongLemmas.{in-all}
 use Rattle.col_merge_values.specs.Merges.{picked_row, AreColumns, columns_by}
 use Rattle.col_merge_values.specs.TermColumns.{ords_of, remapped, term_columns, remapped_columns}
 use Rattle.col_merge_values.proofs.ColumnListLemmas.{columns-none, columns-more}
@@ -64,11 +64,6 @@ ids-below columns Whole Left n h = all-lists n.ids (λ i j id e. id-below column
 
 -- ---- the ordinals of a picked row
 
-index-of : (xs : List ℕ) (i x : ℕ) → slice_get xs i ≡ Some x → slice_index xs i ≡ x
-index-of [] i x e = cc
-index-of (y ∷ xs) zero x e = (let f : Some y ≡ Some x = e in cc)
-index-of (y ∷ xs) (suc i) x e = index-of xs i x e
-
 -- a picked row of turned ordinals
 pub picked-remapped : (columns : List Texts) (maps : List (List ℕ)) (k d : ℕ) (m : List ℕ)
     → slice_get maps k ≡ Some m → k < length columns
@@ -96,7 +91,7 @@ module _ (columns : List Texts) (Whole : Place → Type 0) (n : Noted) (h : AreN
       by id f =
           let own : slice_get ids o ≡ Some (Some id) = sym (ap (option_and_then (λ xs. slice_get xs o)) e) ∙ f in
           let at : slice_index (map (ord_by (ordinals n.terms)) ids) o ≡ slice_index (ordinals n.terms) id =
-          index-of (map (ord_by (ordinals n.terms)) ids) o (slice_index (ordinals n.terms) id)
+          get_or_from_slice_get (map (ord_by (ordinals n.terms)) ids) o (slice_index (ordinals n.terms) id) 0
           (slice_get-map (ord_by (ordinals n.terms)) ids o ∙ ap (option_map (ord_by (ordinals n.terms))) own) in
           let low = id-below columns Whole IsNowhere n h (k, o) id f in
           let same : slice_get (ordered n.terms) (slice_index (map (ord_by (ordinals n.terms)) ids) o) ≡ item_at
@@ -143,6 +138,14 @@ turned-are columns counts Whole Left n maps fit told h e =
     let many = ap length e ∙ length-map n.ids (map (ord_by (ordinals n.terms))) ∙ ids
     ∙ sym (length-map columns (λ (c : Texts). num_docs_in num_values_of c.ords)) ∙ ap length fit in
     remapped-are counts columns maps many (fit-columns counts columns fit told)
+
+-- the columns with the ordinals of noted terms are those of an order's segments
+pub noted-are :
+    (columns : List Texts) (order : Order) (Whole Left : Place → Type 0) (n : Noted)
+    → map (λ (c : Texts). num_docs_in num_values_of c.ords) columns ≡ counts_of order → AllByRecursion AreTold columns
+    → AreNoted columns Whole Left n
+    → AreColumns (counts_of order) (remapped_columns columns (ords_by (ordinals n.terms) n.ids))
+noted-are columns order Whole Left n fit told h = turned-are columns (counts_of order) Whole Left n _ fit told h refl
 
 -- picked rows lie in segments
 pub picks-low : (columns : List Texts) (order : Order)

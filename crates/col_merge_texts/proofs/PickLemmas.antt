@@ -9,8 +9,8 @@ use Rattle.col_model.specs.Order.{Order, stack, shuffle, has_row}
 use Rattle.col_column.specs.Columns.{counts_by, rows_by, row_at, num_docs_in, rows_of_values}
 use Rattle.col_numbers.specs.NumValues.{num_values_of}
 use Rattle.col_text.specs.Texts.{Texts}
-use Rattle.col_merge_terms.specs.Numbering.{terms_of, item_at, IsAmong}
-use Rattle.col_merge_terms.proofs.ItemLemmas.{in-all}
+use Rattle.col_merge_texts.specs.Items.{terms_of, item_at, IsAmong}
+use Rattle.col_merge_texts.proofs.AmongLemmas.{in-all}
 use Rattle.col_merge_values.specs.Merges.{picked_row}
 use Rattle.col_merge_values.specs.TermColumns.{ords_of, term_columns}
 use Rattle.col_merge_texts.specs.Taking.{AreTold, Place, IsPlace, IsPicked, IsTaken, IsAhead, IsNowhere}

@@ -8,8 +8,8 @@ use Rattle.col_model.specs.Order.{shuffle, has_row}
 use Rattle.col_column.specs.Columns.{row_at, num_docs_in, rows_of_values}
 use Rattle.col_numbers.specs.NumValues.{num_values_of}
 use Rattle.col_text.specs.Texts.{Texts}
-use Rattle.col_merge_terms.specs.Numbering.{terms_of, item_at, IsAmong}
-use Rattle.col_merge_terms.proofs.ItemLemmas.{all-in}
+use Rattle.col_merge_texts.specs.Items.{terms_of, item_at, IsAmong}
+use Rattle.col_merge_texts.proofs.AmongLemmas.{all-in}
 use Rattle.col_merge_values.specs.Merges.{picked_row}
 use Rattle.col_merge_values.specs.TermColumns.{term_columns}
 use Rattle.col_merge_texts.specs.Noting.{Noted, HasIdIf, Notes, IsNoteRefusal}

@@ -9,8 +9,8 @@ use Rattle.std.specs.Vec.{with_item}
 use Rattle.std.specs.declared.vec.Vec.{Vec}
 use Rattle.std.specs.declared.alloc.Global.{Global}
 use Rattle.std.proofs.Math.ListN.{length-set}
-use Rattle.col_merge_terms.specs.Numbering.{item_at}
-use Rattle.col_merge_terms.proofs.ItemLemmas.{get-set-same, get-set-other}
+use Rattle.col_merge_texts.specs.Items.{item_at}
+use Rattle.col_merge_texts.proofs.AmongLemmas.{get-set-same, get-set-other}
 use Rattle.col_merge_texts.specs.Noting.{ids_of, Sets}
 
 lengths-set : {X : Type 0} (m : List (List X)) (i j : ℕ) (x : X) (row : List X) → slice_get m i ≡ Some row

@@ -7,7 +7,7 @@ use Rattle.std.proofs.lemmas.List.{take_more}
 use Rattle.std.proofs.lemmas.Option.{slice_get-map, slice_get-get_or, slice_get_within}
 use Rattle.col_model.proofs.ListLaws.{all_push}
 use Rattle.col_text.specs.Texts.{Texts}
-use Rattle.col_merge_terms.specs.Numbering.{terms_of, item_at}
+use Rattle.col_merge_texts.specs.Items.{terms_of, item_at}
 use Rattle.col_merge_texts.specs.Taking.{Place, IsPlace, IsFrom}
 use Rattle.col_merge_texts.proofs.NoteLemmas.{some-item}
 

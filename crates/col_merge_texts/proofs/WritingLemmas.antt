@@ -3,7 +3,7 @@ use Rattle.std.proofs.Common.{◌≡◌, ◌⊎◌, ℕ, ◌<◌, ◌^◌, sum, 
 use Rattle.std.specs.Int.{w32, to_le_bytes}
 use Rattle.std.specs.List.{AllByRecursion}
 use Rattle.std.specs.Prelude.{OnOk}
-use Rattle.std.proofs.lemmas.Bool.{true≢false, eq-eqb}
+use Rattle.std.proofs.lemmas.Bool.{true≢false}
 use Rattle.std.proofs.lemmas.List.{length-map, map-id}
 use Rattle.col_common.specs.Outside.{SeenSink}
 use Rattle.col_common.specs.Serializing.{Serializes}
@@ -13,7 +13,7 @@ use Rattle.col_common.proofs.SerializingLemmas.{serializes-then, serializes-no_m
 use Rattle.col_common.proofs.OnOkLemmas.{on_ok-always, on_ok-map}
 use Rattle.col_model.specs.Column.{number_rows}
 use Rattle.col_model.specs.ColumnType.{ColumnType, has_terms}
-use Rattle.col_model.specs.Index.{Counts, Shape, empty_shape, full_shape, optional_shape, multivalued_shape, counts_over}
+use Rattle.col_model.specs.Index.{Counts, Shape, counts_over}
 use Rattle.col_model.specs.Limits.{dictionary_length}
 use Rattle.col_model.specs.Positions.{picked_counts}
 use Rattle.col_model.specs.Order.{Order}
@@ -29,13 +29,14 @@ use Rattle.col_column.specs.Columns.{row_count, counts_seen, IsCounted}
 use Rattle.col_column.specs.Written.{StandForRows}
 use Rattle.col_writer_rows.specs.Counted.{SerializesColumn}
 use Rattle.col_text.specs.Texts.{Texts}
-use Rattle.col_merge_terms.specs.Numbering.{IsAmong}
+use Rattle.col_merge_texts.specs.Items.{IsAmong}
 use Rattle.col_merge_values.specs.Merges.{Merge, IsMerge, picked_row, merged_rows, values_of}
 use Rattle.col_merge_values.specs.Laws.{MergedValuesAreRows, IsOrdered, HasPickedRows}
 use Rattle.col_merge_values.proofs.MergedRowLemmas.{length-merged, picks-there}
 use Rattle.col_merge_values.specs.TermColumns.{remapped_columns}
 use Rattle.col_writer_rows.proofs.TextLemmas.{stores-terms}
 use Rattle.col_writer_rows.proofs.DictionaryLemmas.{written}
+use Rattle.col_column.proofs.SerializeRowLemmas.{counts_over-seen}
 use Rattle.col_merge_texts.specs.Noting.{Noted, ords_by}
 use Rattle.col_merge_texts.specs.Merged.{shapes_of, merged_content, MergesTexts, has_long_terms}
 use Rattle.col_merge_texts.specs.Taking.{AreTold, IsTaken, IsNowhere, AreNoted}
@@ -139,15 +140,8 @@ module _ (columns : List Texts) (order : Order) (n : Noted) (told : AllByRecursi
 
 -- ---- ordinals behind a dictionary
 
--- a shape that counts rows has their counts
-counts-own : (s : Shape) (m : ℕ) → counts_over (row_count s m) s ≡ Some (counts_seen s m)
-counts-own (empty_shape k) m = rw (eq-eqb k k refl) refl
-counts-own full_shape m = refl
-counts-own (optional_shape cs) m = rw (eq-eqb (length cs) (length cs) refl) refl
-counts-own (multivalued_shape cs) m = rw (eq-eqb (length cs) (length cs) refl) refl
-
 counts-whole : (n m : ℕ) (s : Shape) (counts : Counts) → row_count s m ≡ n → counts_over n s ≡ Some counts → counts_seen s m ≡ counts
-counts-whole n m s counts rows e = ap (λ o. unwrap_or o counts) (sym (counts-own s m) ∙ ap (λ k. counts_over k s) rows ∙ e)
+counts-whole n m s counts rows e = ap (λ o. unwrap_or o counts) (sym (counts_over-seen s m) ∙ ap (λ k. counts_over k s) rows ∙ e)
 
 -- ordinals were written, and then the dictionary's length
 pub ords-then : (s : Shape) (ords : List ℕ) (old mid new : SeenSink) (done : Unit {0})

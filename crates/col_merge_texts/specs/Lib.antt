@@ -1,3 +1,4 @@
+pub mod Items
 pub mod Noting
 pub mod Merged
 pub mod Taking

@@ -19,7 +19,7 @@ use Rattle.col_column.specs.Columns.{num_docs_in}
 use Rattle.col_numbers.specs.NumValues.{num_values_of}
 use Rattle.col_terms.specs.Building.{ordered}
 use Rattle.col_text.specs.Texts.{Texts, texts_content}
-use Rattle.col_merge_terms.specs.Numbering.{terms_of}
+use Rattle.col_merge_texts.specs.Items.{terms_of}
 
 -- one column for each segment of an order, of the segment's rows
 abbrev pub FitTexts : Order → List Texts → Type 0

@@ -6,7 +6,7 @@ use Rattle.col_common.specs.declared.error.ColumnarError.TheVariants.{OutOfMemor
 use Rattle.std.specs.declared.vec.Vec.{Vec}
 use Rattle.std.specs.declared.alloc.Global.{Global}
 use Rattle.col_terms.specs.Building.{is_past_ids}
-use Rattle.col_merge_terms.specs.Numbering.{item_at}
+use Rattle.col_merge_texts.specs.Items.{item_at}
 
 -- the lists that are held
 abbrev pub ids_of : List (Vec (Option ℕ) Global) → List (List (Option ℕ))

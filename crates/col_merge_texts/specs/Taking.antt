@@ -7,7 +7,7 @@ use Rattle.col_model.specs.Order.{Order, stack, shuffle}
 use Rattle.col_column.specs.Columns.{IsCounted}
 use Rattle.col_numbers.specs.NumValues.{num_values_of}
 use Rattle.col_text.specs.Texts.{Texts, AreOrdinals}
-use Rattle.col_merge_terms.specs.Numbering.{terms_of, item_at, IsAmong}
+use Rattle.col_merge_texts.specs.Items.{terms_of, item_at, IsAmong}
 use Rattle.col_merge_values.specs.Merges.{picked_row}
 use Rattle.col_merge_values.specs.TermColumns.{term_columns}
 use Rattle.col_merge_texts.specs.Merged.{has_long_terms}

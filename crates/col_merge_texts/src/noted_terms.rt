@@ -2,7 +2,7 @@
 ghost use Rattle.std.specs.Prelude.{◌≡◌, ◌<◌, true, is_some, map, length, None, IfOk, IfErr, OnOk, Some, slice_get, slice_index, unwrap_or};
 ghost use Rattle.std.specs.List.{AllByRecursion};
 ghost use Rattle.col_common.specs.Ascending.{AreBelow};
-ghost use Rattle.col_merge_terms.specs.Numbering.{item_at, lists_of, terms_of};
+ghost use Rattle.col_merge_texts.specs.Items.{item_at, lists_of, terms_of};
 ghost use Rattle.col_merge_texts.specs.Noting.{ids_of, noted_by, no_ids_of, ord_by, ords_by, Sets, Notes, IsNoteRefusal, IsIdBelow};
 
 use col_common::{ColumnarError, Sink};

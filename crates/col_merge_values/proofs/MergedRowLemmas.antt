@@ -2,7 +2,6 @@
 use Rattle.std.proofs.Common.{◌≡◌, ℕ, zero, suc, ◌+◌, ◌<◌, ◌≤◌, ◌==◌, ◌&&◌, nat_eq, Bool, true, false, List, [], ◌∷◌, length, map, take, drop, sum, get_or, replicate, slice_get, unwrap_or, option_map, nat_lt, Option, Some, refl, sym, ap, ap₂, ◌∙◌, arith}
 use Rattle.std.specs.List.{list_all, flat_map, range_with_len, enumerate_from}
 use Rattle.std.specs.Cmp.Lexicographic.{pointwise}
-use Rattle.std.proofs.Math.Seq.{take-append_seam, drop-append_seam}
 use Rattle.std.proofs.lemmas.Bool.{and_parts, and_from, eqb-true, lt-ltb}
 use Rattle.std.proofs.lemmas.List.{length-append, length-take-le, length-drop, drop-drop}
 use Rattle.std.proofs.lemmas.List.Folds.{list_all-append, sum_by-replicate}
@@ -18,19 +17,12 @@ use Rattle.col_model.proofs.MergedSound.{chosen-is}
 use Rattle.col_order.specs.Orders.{counts_of, picks_of}
 use Rattle.col_column.specs.Columns.{row_count, counts_by, IsCounted, rows_by, row_at}
 use Rattle.col_column.proofs.RowLemmas.{row_at-cut, row-empty, single, one, end-within}
+use Rattle.col_model.proofs.CutLaws.{cut-joined}
 use Rattle.col_merge_values.proofs.RunLemmas.{row-within}
 use Rattle.col_merge_values.specs.Laws.{MergedValuesAreRows}
 use Rattle.col_merge_values.specs.Merges.{SegmentColumns, AreColumns, FitsShape, segment_shape, segment_values, picked_row, merged_rows, merged_values, values_of}
 
 -- ---- rows, cut from their values
-
--- lists that are joined and cut again
-pub cut-joined : {T : Type 0} (xss : List (List T)) → cut (map length xss) (joined_lists xss) ≡ xss
-unfolding cut
-cut-joined [] = refl
-cut-joined (xs ∷ xss) =
-    ap₂ (λ a b. a ∷ b) (take-append_seam xs (joined_lists xss))
-    (ap (cut (map length xss)) (drop-append_seam xs (joined_lists xss)) ∙ cut-joined xss)
 
 -- how many items they have
 pub length-joined : {T : Type 0} (xss : List (List T)) → length (joined_lists xss) ≡ sum (map length xss)

@@ -18,7 +18,8 @@ use Rattle.col_indexer.specs.Spelling.{Index, full_index, optional_index, multiv
 use Rattle.col_indexer.proofs.CountedLemmas.{rows_behind-from, rows_behind-none, rows_behind-some, starts_after-some}
 use Rattle.col_column.specs.Columns.{AreOf}
 use Rattle.col_merge_values.specs.Merges.{SegmentColumns, AreColumns, segment_values, picked_row, merged_rows, merged_values, Merge, IsMerge, values_of}
-use Rattle.col_merge_values.specs.Picked.{ArePicked, HasLists}
+use Rattle.col_indexer.specs.Written.{HasLists}
+use Rattle.col_merge_values.specs.Picked.{ArePicked}
 use Rattle.col_merge_values.proofs.MergedRowLemmas.{picked-lengths, length-joined, length-merged, picks-there}
 
 -- Of lists the first k are told by their places, their starts and their values.

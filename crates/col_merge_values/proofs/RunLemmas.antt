@@ -17,6 +17,12 @@ use Rattle.col_column.proofs.RowLemmas.{row_values-if_any}
 use Rattle.col_merge_values.specs.Merges.{SegmentColumns, AreColumns, segment_shape, segment_values, picked_row, merged_rows, Merge, IsMerge, merge_of, values_of, runs_by, StandsInRun, values_to_give, Finds}
 use Rattle.col_merge_values.proofs.StackedValueLemmas.{runs-joined}
 
+-- a walk whose run has nothing left, and which still gives what it gave at first
+pub record IsBetweenRuns {T : Type 0} (c : SegmentColumns T) (w : Walk) (rest first : List T) : Type 0 where
+  pub stands : StandsInRun c w
+  pub given : w.inner ≡ w.sum
+  pub left : rest ≡ first
+
 -- a run of which nothing is left
 pub run-given : {T : Type 0} (xs rest : List T) (i e : ℕ) → i ≡ e → slice_range xs i e ++ rest ≡ rest
 run-given xs rest i e same =
@@ -100,6 +106,13 @@ passes-at test (y ∷ xs) (suc k) x all e = passes-at test xs k x (and_parts (te
 -- a row that passes the test is one of its segment
 pub row-within : (counts : List ℕ) (p : ℕ × ℕ) → has_row counts p ≡ true → (p.0 < length counts) × (p.1 < get_or counts p.0 0)
 row-within counts p h = grind (arith, common_steps, gets, slice_get_cases counts p.0)
+
+-- a row that is named is one of a segment that has a list
+pub segment-named : {T : Type 0} (c : SegmentColumns T) (counts : List ℕ) (addresses : List (ℕ × ℕ)) (k : ℕ) (p : ℕ × ℕ)
+    → AreColumns counts c → list_all (has_row counts) addresses ≡ true → slice_get addresses k ≡ Some p
+    → p.0 < length c.lists
+segment-named c counts addresses k p are all e =
+    omega (arith, (row-within counts p (passes-at (has_row counts) addresses k p all e)).0, are.lists)
 
 -- the positions of the values of a row that an address names
 pub row-positions : {T : Type 0} (c : SegmentColumns T) (counts : List ℕ) (addr : RowAddr) (start end : ℕ)

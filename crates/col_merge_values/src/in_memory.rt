@@ -7,17 +7,15 @@ ghost use Rattle.col_model.specs.AddressList.{least_codes};
 ghost use Rattle.col_model.specs.ColumnType as types;
 ghost use Rattle.col_indexer.specs.Merged.{IsMerged};
 ghost use Rattle.col_indexer.specs.Spelling.{IsIndex, index_shape, is_past_limit};
-ghost use Rattle.col_indexer.specs.Written.{index_of};
+ghost use Rattle.col_indexer.specs.Written.{index_of, HasLists};
 ghost use Rattle.col_column.specs.Columns.{IsCounted};
 ghost use Rattle.col_column.specs.Written.{number_column_bytes, column_codecs, StandForRows, SerializesRows, Refused};
 ghost use Rattle.col_merge_values.specs.Merges.{values_of};
-ghost use Rattle.col_merge_values.specs.Picked.{HasLists};
 
 use crate::merged_column_values::MergedColumnValues;
-use crate::picked::{PickedColumn, index_by_lists};
 use col_column::{serialize_column_mappable_to_u64, serialize_column_mappable_to_u128};
 use col_common::{ColumnarError, Iterable, Sink};
-use col_indexer::SerializableColumnIndex;
+use col_indexer::{RowIds, SerializableColumnIndex, StartOffsets};
 use col_values::{ColumnValues, MonotonicallyMappableToU64, MonotonicallyMappableToU128};
 use std::alloc::{AllocError, Global};
 
@@ -31,16 +29,12 @@ pub trait InMemory<T>: Iterable<T> {
 
 /// Writes a column of the rows that an order picks, as numbers of 64 bits, behind an index that
 /// counts them. The values are walked once, and so are the rows that a shuffle picks.
-pub fn serialize_merged_u64<T, V, K>(
+pub fn serialize_merged_u64<T: MonotonicallyMappableToU64, V: ColumnValues<T>, K: Sink>(
     alloc: Global,
     column_index: SerializableColumnIndex<'_>,
     column_values: &MergedColumnValues<'_, T, V>,
     sink: &mut K,
 ) -> Result<(), ColumnarError>
-where
-    T: MonotonicallyMappableToU64,
-    V: ColumnValues<T>,
-    K: Sink,
     requires index { IsIndex (index_of column_index) }
     requires limit { is_past_limit (index_of column_index) ≡ false }
     requires merged { IsMerged column_values.now.order column_values.now.columns.shapes
@@ -58,7 +52,11 @@ where
         (index_shape (index_of column_index.entry)) (map T.code (values_of column_values.now))) }
 {
     match column_values.picked(alloc, &column_index)? {
-        Some(picked) => serialize_picked_u64(alloc, &column_index, &picked, sink),
+        Some(picked) => {
+            let rows = RowIds::Slice(&picked.rows);
+            let index = column_index.with_lists(rows, StartOffsets::Slice(&picked.starts));
+            serialize_column_mappable_to_u64(alloc, index, &picked.values.as_slice(), sink)
+        }
         None => {
             let values = column_values.in_memory(alloc)?;
             serialize_column_mappable_to_u64(alloc, column_index, &values.as_slice(), sink)
@@ -66,48 +64,15 @@ where
     }
 }
 
-// The same of what was picked, which is what the index has.
-fn serialize_picked_u64<T, K>(
-    alloc: Global,
-    column_index: &SerializableColumnIndex<'_>,
-    picked: &PickedColumn<T>,
-    sink: &mut K,
-) -> Result<(), ColumnarError>
-where
-    T: MonotonicallyMappableToU64,
-    K: Sink,
-    requires index { IsIndex (index_of column_index.now) }
-    requires limit { is_past_limit (index_of column_index.now) ≡ false }
-    requires lists { HasLists (index_of column_index.now) picked.now.rows.items
-        picked.now.starts.items }
-    requires counted { IsCounted (index_shape (index_of column_index.now))
-        (length picked.now.values.items) }
-    requires few { length picked.now.values.items < 2 ^ 32 }
-    ensures ok { Serializes (K.seen sink.old) (K.seen sink.new) result
-        (number_column_bytes column_codecs (index_of column_index.now)
-        (map T.code picked.now.values.items)) }
-    ensures again { OnOk result (StandForRows
-        (number_column_bytes column_codecs (index_of column_index.now)
-        (map T.code picked.now.values.items))
-        (index_shape (index_of column_index.now)) (map T.code picked.now.values.items)) }
-{
-    let index = index_by_lists(column_index, &picked.rows, &picked.starts);
-    serialize_column_mappable_to_u64(alloc, index, &picked.values.as_slice(), sink)
-}
-
 /// Writes a column of an index and the values that it counts, as numbers of 128 bits. The values
 /// are walked once. It answers TooLarge where there are more values, or more codes are needed, than
 /// 32 bits count; then the index may have been written.
-pub fn serialize_collected_u128<T, I, K>(
+pub fn serialize_collected_u128<T: MonotonicallyMappableToU128, I: InMemory<T>, K: Sink>(
     alloc: Global,
     column_index: SerializableColumnIndex<'_>,
     column_values: &I,
     sink: &mut K,
 ) -> Result<(), ColumnarError>
-where
-    T: MonotonicallyMappableToU128,
-    I: InMemory<T>,
-    K: Sink,
     requires index { IsIndex (index_of column_index) }
     requires limit { is_past_limit (index_of column_index) ≡ false }
     requires counted { IsCounted (index_shape (index_of column_index))

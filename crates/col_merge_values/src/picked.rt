@@ -2,16 +2,12 @@
 ghost use Rattle.std.specs.Prelude.{◌≡◌, ◌<◌, ◌^◌, [], sum, IfOk, OnOk};
 ghost use Rattle.col_model.specs.Positions.{picked_counts};
 ghost use Rattle.col_merge_values.specs.Merges.{AreColumns};
-ghost use Rattle.col_indexer.specs.Written.{index_of};
-ghost use Rattle.col_merge_values.specs.Picked.{ArePicked, HasLists};
+ghost use Rattle.col_merge_values.specs.Picked.{ArePicked};
 
 use crate::runs::{append_run, value_row_ids};
 use crate::segments::Segments;
 use col_common::RowId;
-use col_indexer::{
-    RowIds, SerializableColumnIndex, SerializableMultivalueIndex, SerializableOptionalIndex,
-    StartOffsets,
-};
+use col_indexer::SerializableColumnIndex;
 use col_order::ShuffleMergeOrder;
 use std::alloc::{AllocError, Global};
 
@@ -79,35 +75,6 @@ fn push_rows<T: Copy, S: Segments<T>>(
     }
     starts.push(values.len() as RowId)?;
     Ok(())
-}
-
-/// An index by its own lists, in memory.
-pub(crate) fn index_by_lists<'a>(
-    column_index: &SerializableColumnIndex<'_>,
-    rows: &'a [RowId],
-    starts: &'a [RowId],
-) -> SerializableColumnIndex<'a>
-    requires { HasLists (index_of column_index.now) rows.now starts.now }
-    ensures { index_of result ≡ index_of column_index.now }
-{
-    match column_index {
-        SerializableColumnIndex::Full => SerializableColumnIndex::Full,
-        SerializableColumnIndex::Optional(index) => {
-            SerializableColumnIndex::Optional(SerializableOptionalIndex {
-                non_null_row_ids: RowIds::Slice(rows),
-                num_rows: index.num_rows,
-            })
-        }
-        SerializableColumnIndex::Multivalued(index) => {
-            SerializableColumnIndex::Multivalued(SerializableMultivalueIndex {
-                doc_ids_with_values: SerializableOptionalIndex {
-                    non_null_row_ids: RowIds::Slice(rows),
-                    num_rows: index.doc_ids_with_values.num_rows,
-                },
-                start_offsets: StartOffsets::Slice(starts),
-            })
-        }
-    }
 }
 
 /// Whether an index is Full, which has no lists.

@@ -181,6 +181,7 @@ impl Iterable<u64> for RemappedTermOrdinalsValues<'_> {
     ghost left = { λ m w. values_to_give m w };
 
     fn walk(&self) -> Walk {
+        // That each index counts its list is known of the merge once a field is read.
         let _ = &self.order;
         Walk::default()
     }

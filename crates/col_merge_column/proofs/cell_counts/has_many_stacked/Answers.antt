@@ -1,10 +1,9 @@
-use Rattle.std.proofs.Common.{◌+◌, map, get_or, sum, refl, sym, ap, ◌∙◌, arith}
+use Rattle.std.proofs.Common.{◌+◌, map, get_or, refl, ap, ◌∙◌, arith}
 use Rattle.std.proofs.lemmas.List.{length-map}
 use Rattle.col_index.specs.Indexes.{shape_of}
-use Rattle.col_indexer.specs.Counted.{counts_in}
 use Rattle.col_indexer.specs.Merged.{is_over}
 use Rattle.col_model.specs.Index.{empty_shape}
-use Rattle.col_merge_column.proofs.CountLemmas.{totals, segment-at, stacked-total, length-totals, too-many, one-more, counted}
+use Rattle.col_merge_column.proofs.CountLemmas.{totals, segment-at, segment-counted, stacked-total, length-totals, too-many, one-more, counted}
 use Rattle.col_merge_column.proofs.cell_counts.has_many_stacked.Goals as goal
 
 pub num_in_segment-requires-clause-there : goal.num_in_segment-requires-clause-there
@@ -24,28 +23,24 @@ pub returns-then-count-from : goal.returns-then-count-from
 returns-then-count-from c =
     let counts = c.args.order.now in
     let shapes = map shape_of c.args.column_indexes.now in
-    let i = c.loop-segment.segment in
-    let segment = segment-at counts shapes i c.requires (omega (arith, c.loop-segment-test.true, c.num_segments-segment-end.ensures)) in
-    let here = c.from-count.ensures ∙ c.num_in_segment.ensures
-    ∙ ap (λ n. sum (counts_in n (get_or shapes i (empty_shape 0)))) c.segment_num_rows-num_rows.ensures
-    ∙ sym segment.total in
-    too-many (totals counts shapes) i c.loop-segment.count c.from-count.result
-    (c.loop-segment.count + c.from-count.result) _ (stacked-total counts shapes c.requires) segment.within
-    c.loop-segment.invariant.count_is here refl (omega (arith, c.if-count-from.true, c.from.ensures))
+    let total = segment-counted counts shapes c.loop-segment.segment _ c.from-count.result c.requires
+    (omega (arith, c.loop-segment-test.true, c.num_segments-segment-end.ensures)) c.segment_num_rows-num_rows.ensures
+    (c.from-count.ensures ∙ c.num_in_segment.ensures) in
+    too-many (totals counts shapes) c.loop-segment.segment c.loop-segment.count c.from-count.result
+    (c.loop-segment.count + c.from-count.result) _ (stacked-total counts shapes c.requires) total.0
+    c.loop-segment.invariant.count_is total.1 refl (omega (arith, c.if-count-from.true, c.from.ensures))
 
 pub loop-segment-preserved : goal.loop-segment-preserved
 loop-segment-preserved c =
     let counts = c.args.order.now in
     let shapes = map shape_of c.args.column_indexes.now in
-    let i = c.loop-segment.segment in
-    let segment = segment-at counts shapes i c.requires (omega (arith, c.loop-segment-test.true, c.num_segments-segment-end.ensures)) in
-    let here = c.from-count.ensures ∙ c.num_in_segment.ensures
-    ∙ ap (λ n. sum (counts_in n (get_or shapes i (empty_shape 0)))) c.segment_num_rows-num_rows.ensures
-    ∙ sym segment.total in
+    let total = segment-counted counts shapes c.loop-segment.segment _ c.from-count.result c.requires
+    (omega (arith, c.loop-segment-test.true, c.num_segments-segment-end.ensures)) c.segment_num_rows-num_rows.ensures
+    (c.from-count.ensures ∙ c.num_in_segment.ensures) in
     record {
       count_is =
-          one-more (totals counts shapes) i c.loop-segment.count c.from-count.result
-          (c.loop-segment.count + c.from-count.result) segment.within c.loop-segment.invariant.count_is here refl;
+          one-more (totals counts shapes) c.loop-segment.segment c.loop-segment.count c.from-count.result
+          (c.loop-segment.count + c.from-count.result) total.0 c.loop-segment.invariant.count_is total.1 refl;
       fits = omega (arith, c.if-count-from.false, c.from.ensures);
     }
 

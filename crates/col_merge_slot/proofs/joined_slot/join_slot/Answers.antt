@@ -1,17 +1,12 @@
-use Rattle.std.proofs.Common.{false, refl, subst, ◌∙◌}
+use Rattle.std.proofs.Common.{refl, subst, ◌∙◌}
 use Rattle.std.proofs.lemmas.Result.{err_from_is_err_and}
-use Rattle.col_order.specs.Orders.{picks_of}
-use Rattle.col_order.specs.RowOrders.{order_of}
-use Rattle.col_merge_slot.specs.Kept.{kept_flags}
 use Rattle.col_merge_slot.specs.Taken.{TakesSlot}
-use Rattle.col_merge_slot.proofs.TakenLemmas.{takes-refused}
 use Rattle.col_merge_slot.proofs.joined_slot.join_slot.Goals as goal
 
 pub returns-in_err-kept-clause-taken : goal.returns-in_err-kept-clause-taken
 returns-in_err-kept-clause-taken g c =
-    let columns = c.args.columns.now in
     let p = err_from_is_err_and c.from_residual.result c.from_residual.ensures.1 in
-    rw p.1 (takes-refused columns (kept_flags columns (picks_of (order_of c.args.merge_row_order.now))) columns 0 false refl refl)
+    rw (p.1, p.2) (record { count = 0; left = refl })
 
 pub returns-clause-taken : goal.returns-clause-taken
 returns-clause-taken g c =

@@ -1,11 +1,10 @@
-use Rattle.std.proofs.Common.{map, ap₂, false, is_ok, ap}
-use Rattle.std.proofs.lemmas.Result.{err_from_is_err_and}
+use Rattle.std.proofs.Common.{map, ap₂}
 use Rattle.col_order.specs.RowOrders.{order_of}
 use Rattle.col_index.specs.Indexes.{shape_of}
 use Rattle.col_numbers.specs.NumValues.{num_values_of}
 use Rattle.col_merge_values.specs.Merges.{columns_by}
 use Rattle.col_merge_slot.specs.Segments.{where_set}
-use Rattle.col_merge_slot.proofs.TakenLemmas.{takes-still, takes-then}
+use Rattle.col_merge_slot.proofs.TakenLemmas.{takes-still, takes-joined}
 use Rattle.col_merge_slot.proofs.JoinedLemmas.{numbers-written}
 use Rattle.col_merge_slot.proofs.joined_slot.write_numbers.Goals as goal
 
@@ -22,8 +21,8 @@ returns-clause-written g c =
 
 pub returns-in_err-indexes-clause-taken : goal.returns-in_err-indexes-clause-taken
 returns-in_err-indexes-clause-taken g c =
-    let p = err_from_is_err_and c.from_residual.result c.from_residual.ensures.1 in
-    takes-still c.args.columns.now c.args.kept.now _ false _ c.in_err-indexes.ensures.taken (ap is_ok p.1)
+    takes-still c.args.columns.now c.args.kept.now _ _ _ c.from_residual.ensures.1 c.in_err-indexes.ensures.taken
 
 pub returns-clause-taken : goal.returns-clause-taken
-returns-clause-taken g c = takes-then c.args.columns.now c.args.kept.now _ _ c.in_ok-indexes.ensures.taken
+returns-clause-taken g c =
+    takes-joined c.args.columns.now c.args.kept.now _ _ _ _ _ _ _ c.in_ok-indexes.ensures.taken c.join_numbers.ensures

@@ -1,4 +1,4 @@
-use Rattle.std.proofs.Common.{◌<◌, length, take, refl, ap, subst, ◌∙◌, arith}
+use Rattle.std.proofs.Common.{length, take, refl, ap, subst, ◌∙◌, arith}
 use Rattle.std.proofs.lemmas.List.FromFn.{length-map-range_with_len}
 use Rattle.col_merge_slot.specs.Kept.{keeps, AreSet}
 use Rattle.col_merge_slot.proofs.KeptLemmas.{none-found, named-there, walked, all-walked, set-noted, long-noted, all-set}

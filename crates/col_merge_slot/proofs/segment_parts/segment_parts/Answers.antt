@@ -1,11 +1,11 @@
-use Rattle.std.proofs.Common.{◌+◌, false, true, is_ok, ◌∙◌, inr, map, [], ◌∷◌, refl, sym, ap, arith}
+use Rattle.std.proofs.Common.{◌+◌, ◌∙◌, inr, map, [], ◌∷◌, refl, sym, ap, arith}
 use Rattle.std.proofs.lemmas.List.{map-append}
 use Rattle.std.proofs.lemmas.Result.{err_from_is_err_and}
 use Rattle.col_index.specs.Indexes.{shape_of}
 use Rattle.col_order.specs.Orders.{counts_of}
 use Rattle.col_order.specs.RowOrders.{order_of}
 use Rattle.col_merge_slot.specs.Segments.{where_set, is_none_or, is_read_as}
-use Rattle.col_merge_slot.proofs.TakenLemmas.{taken-more, takes-refused, takes-done}
+use Rattle.col_merge_slot.proofs.TakenLemmas.{taken-more, taken-all}
 use Rattle.col_merge_slot.proofs.SegmentLemmas.{length-set, taken, rows-of, left-behind, one-more, not-read, all-parts}
 use Rattle.col_merge_slot.proofs.segment_parts.segment_parts.Goals as goal
 
@@ -53,8 +53,8 @@ loop-segment-preserved g c =
       left = left-behind c.loop-segment.columns columns i c.part_at.new.column c.loop-segment.invariant.left;
       taken =
           taken-more c.loop-segment.columns columns flags i c.index-columns-segment.result c.part_at.new.column
-          (omega (arith, c.loop-segment-test.true)) c.loop-segment.invariant.left c.loop-segment.invariant.taken
-          c.part_at.ensures.taken;
+          (omega (arith, c.loop-segment-test.true)) c.requires.flags c.loop-segment.invariant.left
+          c.loop-segment.invariant.taken c.part_at.ensures.taken;
     }
 
 pub returns-clause-ok : goal.returns-clause-ok
@@ -71,31 +71,37 @@ returns-clause-ok g c =
 pub returns-in_default-clause-taken : goal.returns-in_default-clause-taken
 returns-in_default-clause-taken g c =
     let i = c.loop-segment.segment in
-    takes-refused c.args.columns.now c.args.kept.now _ (i + 1) false
-    (taken-more c.loop-segment.columns c.args.columns.now c.args.kept.now i c.index-columns-segment.result c.part_at.new.column
-    (omega (arith, c.loop-segment-test.true)) c.loop-segment.invariant.left c.loop-segment.invariant.taken
-    c.in_default.ensures.taken) refl
+    record {
+      count = i + 1;
+      left =
+          taken-more c.loop-segment.columns c.args.columns.now c.args.kept.now i c.index-columns-segment.result c.part_at.new.column
+          (omega (arith, c.loop-segment-test.true)) c.requires.flags c.loop-segment.invariant.left
+          c.loop-segment.invariant.taken c.in_default.ensures.taken;
+    }
 
 pub returns-in_err-push_part-clause-taken : goal.returns-in_err-push_part-clause-taken
 returns-in_err-push_part-clause-taken g c =
     let i = c.loop-segment.segment in
     let p = err_from_is_err_and c.from_residual-in_err-push_part.result c.from_residual-in_err-push_part.ensures.1 in
-    takes-refused c.args.columns.now c.args.kept.now _ (i + 1) _
-    (taken-more c.loop-segment.columns c.args.columns.now c.args.kept.now i c.index-columns-segment.result c.part_at.new.column
-    (omega (arith, c.loop-segment-test.true)) c.loop-segment.invariant.left c.loop-segment.invariant.taken
-    c.in-Some.ensures.taken) (ap is_ok p.1)
+    rw (p.1, p.2) (record {
+      count = i + 1;
+      left =
+          taken-more c.loop-segment.columns c.args.columns.now c.args.kept.now i c.index-columns-segment.result c.part_at.new.column
+          (omega (arith, c.loop-segment-test.true)) c.requires.flags c.loop-segment.invariant.left
+          c.loop-segment.invariant.taken c.in-Some.ensures.taken;
+    })
 
 pub returns-clause-taken : goal.returns-clause-taken
 returns-clause-taken g c =
-    takes-done c.args.columns.now c.args.kept.now _ c.loop-segment.segment true c.loop-segment.invariant.taken
+    taken-all c.args.columns.now c.args.kept.now _ c.loop-segment.segment c.loop-segment.invariant.taken
     (omega (arith, c.loop-segment-test.false))
 
 pub returns-in_err-indexes-clause-taken : goal.returns-in_err-indexes-clause-taken
 returns-in_err-indexes-clause-taken g c =
     let p = err_from_is_err_and c.from_residual.result c.from_residual.ensures.1 in
-    takes-refused c.args.columns.now c.args.kept.now _ 0 _ refl (ap is_ok p.1)
+    rw (p.1, p.2) (record { count = 0; left = refl })
 
 pub returns-in_err-values-clause-taken : goal.returns-in_err-values-clause-taken
 returns-in_err-values-clause-taken g c =
     let p = err_from_is_err_and c.from_residual-in_err-values.result c.from_residual-in_err-values.ensures.1 in
-    takes-refused c.args.columns.now c.args.kept.now _ 0 _ refl (ap is_ok p.1)
+    rw (p.1, p.2) (record { count = 0; left = refl })

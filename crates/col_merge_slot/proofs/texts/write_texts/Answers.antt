@@ -1,12 +1,11 @@
-use Rattle.std.proofs.Common.{map, ap, ◌∙◌, subst, false, is_ok}
+use Rattle.std.proofs.Common.{map, ap, ◌∙◌, subst}
 use Rattle.std.specs.List.{AllByRecursion}
-use Rattle.std.proofs.lemmas.Result.{err_from_is_err_and}
 use Rattle.col_order.specs.RowOrders.{order_of}
 use Rattle.col_column.specs.Columns.{num_docs_in}
 use Rattle.col_numbers.specs.NumValues.{num_values_of}
 use Rattle.col_merge_slot.specs.Segments.{where_set}
 use Rattle.col_merge_slot.specs.Texts.{text_type, IsCountedText}
-use Rattle.col_merge_slot.proofs.TakenLemmas.{takes-still, takes-then}
+use Rattle.col_merge_slot.proofs.TakenLemmas.{takes-still, takes-joined}
 use Rattle.col_merge_slot.proofs.TextLemmas.{text-terms, texts-written}
 use Rattle.col_merge_slot.proofs.texts.write_texts.Goals as goal
 
@@ -24,8 +23,9 @@ returns-clause-written g c =
 
 pub returns-in_err-texts-clause-taken : goal.returns-in_err-texts-clause-taken
 returns-in_err-texts-clause-taken g c =
-    let p = err_from_is_err_and c.from_residual.result c.from_residual.ensures.1 in
-    takes-still c.args.columns.now c.args.kept.now _ false _ c.in_err-texts.ensures.taken (ap is_ok p.1)
+    takes-still c.args.columns.now c.args.kept.now _ _ _ c.from_residual.ensures.1 c.in_err-texts.ensures.taken
 
 pub returns-clause-taken : goal.returns-clause-taken
-returns-clause-taken g c = takes-then c.args.columns.now c.args.kept.now _ _ c.in_ok-texts.ensures.taken
+returns-clause-taken g c =
+    takes-joined c.args.columns.now c.args.kept.now _ _ _ _ _ _ _ c.in_ok-texts.ensures.taken
+    (c.join_texts.ensures (text_type c.args.is_text) (text-terms c.args.is_text))

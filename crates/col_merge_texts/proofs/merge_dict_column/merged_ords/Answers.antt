@@ -5,7 +5,7 @@ use Rattle.col_common.specs.Ascending.{AreBelow}
 use Rattle.col_order.specs.Orders.{counts_of}
 use Rattle.col_order.specs.RowOrders.{order_of}
 use Rattle.col_terms.specs.Building.{ordinals}
-use Rattle.col_merge_terms.specs.Numbering.{lists_of}
+use Rattle.col_merge_texts.specs.Items.{lists_of}
 use Rattle.col_merge_values.specs.Merges.{merge_of, values_of}
 use Rattle.col_merge_values.specs.TermColumns.{remapped_columns}
 use Rattle.col_merge_texts.specs.Noting.{IsIdBelow, ords_by}

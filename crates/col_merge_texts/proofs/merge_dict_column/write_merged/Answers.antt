@@ -9,7 +9,7 @@ use Rattle.col_merge_values.specs.TermColumns.{remapped_columns}
 use Rattle.col_merge_texts.specs.Noting.{ords_by}
 use Rattle.col_merge_texts.specs.Merged.{has_long_terms, merged_content}
 use Rattle.col_merge_texts.specs.Taking.{IsTaken, IsNowhere}
-use Rattle.col_merge_texts.proofs.OrdinalLemmas.{turned-are, picks-low}
+use Rattle.col_merge_texts.proofs.OrdinalLemmas.{turned-are, noted-are, picks-low}
 use Rattle.col_merge_texts.proofs.ContentLemmas.{long-is}
 use Rattle.col_merge_texts.proofs.WritingLemmas.{texts-stopped, texts-no_memory, texts-written, ords-few, ords-counted, ords-behind}
 use Rattle.col_merge_texts.proofs.merge_dict_column.write_merged.Goals as goal
@@ -39,8 +39,7 @@ write_ords-requires-clause-counted g c =
     let order = order_of c.args.merge_row_order.now in
     let n = c.args.noted.now in
     let m = merge_of (remapped_columns columns (ords_by (ordinals n.terms) n.ids)) order in
-    let is = turned-are columns (counts_of order) (IsTaken columns order) IsNowhere n
-    (ords_by (ordinals n.terms) n.ids) c.requires.segments c.requires.told c.requires.noted refl in
+    let is = noted-are columns order (IsTaken columns order) IsNowhere n c.requires.segments c.requires.told c.requires.noted in
     ords-counted m c.deref.result.now (c.deref.ensures.value ∙ c.in_ok-ords.ensures) is c.orders_are_picks.ensures
     c.merged_values_are_rows.ensures (index_of c.args.column_index) c.requires.merged
 
@@ -50,8 +49,7 @@ write_ords-requires-clause-few g c =
     let order = order_of c.args.merge_row_order.now in
     let n = c.args.noted.now in
     let m = merge_of (remapped_columns columns (ords_by (ordinals n.terms) n.ids)) order in
-    let is = turned-are columns (counts_of order) (IsTaken columns order) IsNowhere n
-    (ords_by (ordinals n.terms) n.ids) c.requires.segments c.requires.told c.requires.noted refl in
+    let is = noted-are columns order (IsTaken columns order) IsNowhere n c.requires.segments c.requires.told c.requires.noted in
     ords-few m c.deref.result.now (c.deref.ensures.value ∙ c.in_ok-ords.ensures) is c.orders_are_picks.ensures c.requires.few
 
 pub returns : goal.returns

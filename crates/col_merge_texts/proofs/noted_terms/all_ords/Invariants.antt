@@ -1,5 +1,5 @@
 use Rattle.std.proofs.Common.{◌≡◌, take}
-use Rattle.col_merge_terms.specs.Numbering.{lists_of}
+use Rattle.col_merge_texts.specs.Items.{lists_of}
 use Rattle.col_merge_texts.specs.Noting.{ids_of, ords_by}
 use Rattle.col_merge_texts.proofs.noted_terms.all_ords.Given as goal
 

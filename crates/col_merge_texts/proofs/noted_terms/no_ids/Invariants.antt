@@ -1,5 +1,5 @@
 use Rattle.std.proofs.Common.{◌≡◌, take}
-use Rattle.col_merge_terms.specs.Numbering.{terms_of}
+use Rattle.col_merge_texts.specs.Items.{terms_of}
 use Rattle.col_merge_texts.specs.Noting.{ids_of, no_ids_of}
 use Rattle.col_merge_texts.proofs.noted_terms.no_ids.Given as goal
 

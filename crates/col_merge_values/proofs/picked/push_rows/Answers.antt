@@ -3,7 +3,7 @@ use Rattle.col_model.specs.Order.{has_row}
 use Rattle.col_order.specs.Orders.{address_of}
 use Rattle.col_merge_values.specs.Merges.{segment_values, merged_rows}
 use Rattle.col_merge_values.proofs.PickedLemmas.{told-start, told-few, picked-empty, picked-some, picked-all, run-long, started}
-use Rattle.col_merge_values.proofs.RunLemmas.{passes-at, row-within}
+use Rattle.col_merge_values.proofs.RunLemmas.{passes-at, segment-named}
 use Rattle.col_merge_values.proofs.picked.push_rows.Goals as goal
 
 pub loop-row-init : goal.loop-row-init
@@ -38,11 +38,8 @@ overflow_cast-len g c =
 
 pub append_run-requires-clause-segment : goal.append_run-requires-clause-segment
 append_run-requires-clause-segment g c =
-    let order = c.args.order.now in
-    let named = address_of c.row_addr-addr.result in
-    let there = row-within order.counts named (passes-at (has_row order.counts) order.addresses c.loop-row.row named
-    c.rows_are_there.ensures c.row_addr-addr.ensures) in
-    omega (arith, there.0, c.requires.columns.lists)
+    segment-named (g.S.Segments.columns c.args.segments.now) c.args.order.now.counts c.args.order.now.addresses
+    c.loop-row.row (address_of c.row_addr-addr.result) c.requires.columns c.rows_are_there.ensures c.row_addr-addr.ensures
 
 pub loop-row-preserved : goal.loop-row-preserved
 loop-row-preserved g c =

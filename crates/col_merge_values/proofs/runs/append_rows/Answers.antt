@@ -3,7 +3,7 @@ use Rattle.col_model.specs.Order.{has_row}
 use Rattle.col_model.specs.U64List.{joined_lists}
 use Rattle.col_order.specs.Orders.{address_of}
 use Rattle.col_merge_values.proofs.AppendLemmas.{part-appended}
-use Rattle.col_merge_values.proofs.RunLemmas.{passes-at, row-run, row-within}
+use Rattle.col_merge_values.proofs.RunLemmas.{passes-at, segment-named, row-run}
 use Rattle.col_merge_values.proofs.runs.append_rows.Goals as goal
 use Rattle.col_merge_values.specs.Merges.{segment_values, merged_rows}
 
@@ -15,11 +15,8 @@ value_row_ids-row_ids-requires-clause-there g c =
 
 pub append_run-requires-clause-segment : goal.append_run-requires-clause-segment
 append_run-requires-clause-segment g c =
-    let order = c.args.order.now in
-    let named = address_of c.row_addr-addr.result in
-    let there = row-within order.counts named (passes-at (has_row order.counts) order.addresses c.loop-row.row named
-    c.rows_are_there.ensures c.row_addr-addr.ensures) in
-    omega (arith, there.0, c.requires.lists)
+    segment-named (g.S.Segments.columns c.args.segments.now) c.args.order.now.counts c.args.order.now.addresses
+    c.loop-row.row (address_of c.row_addr-addr.result) c.requires c.rows_are_there.ensures c.row_addr-addr.ensures
 
 pub loop-row-preserved : goal.loop-row-preserved
 loop-row-preserved g c =

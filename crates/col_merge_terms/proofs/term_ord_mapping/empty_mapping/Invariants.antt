@@ -1,6 +1,6 @@
 use Rattle.std.proofs.Common.{◌≡◌, map, take, length}
-use Rattle.col_merge_terms.specs.Numbering.{terms_of, lists_of}
-use Rattle.col_merge_terms.proofs.merge_dict_column.empty_mapping.Given as goal
+use Rattle.col_merge_texts.specs.Items.{terms_of, lists_of}
+use Rattle.col_merge_terms.proofs.term_ord_mapping.empty_mapping.Given as goal
 
 abbrev pub invariant-loop-column : goal.invariant-loop-column
 invariant-loop-column l =

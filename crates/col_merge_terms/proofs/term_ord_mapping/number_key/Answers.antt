@@ -1,8 +1,8 @@
 use Rattle.col_merge_terms.specs.Merging.{places_of}
-use Rattle.col_merge_terms.specs.Numbering.{lists_of}
+use Rattle.col_merge_texts.specs.Items.{lists_of}
 use Rattle.col_merge_terms.proofs.PermutationLemmas.{all-moved}
 use Rattle.col_merge_terms.proofs.ItemLemmas.{numbers-moved}
-use Rattle.col_merge_terms.proofs.merge_dict_column.number_key.Goals as goal
+use Rattle.col_merge_terms.proofs.term_ord_mapping.number_key.Goals as goal
 
 pub number_places-requires : goal.number_places-requires
 number_places-requires c =

@@ -4,7 +4,8 @@ ghost use Rattle.std.specs.List.{AllByRecursion};
 ghost use Rattle.col_common.specs.Reading.{only_if};
 ghost use Rattle.col_common.specs.declared.error.ColumnarError.TheVariants as refusals;
 ghost use Rattle.col_merge_terms.specs.Merging.{merging_of, is_on_key, places_of, terms_left};
-ghost use Rattle.col_merge_terms.specs.Numbering.{terms_of, term_count, terms_from, merged_places, lists_of, item_at, Numbers};
+ghost use Rattle.col_merge_texts.specs.Items.{terms_of, lists_of, item_at};
+ghost use Rattle.col_merge_terms.specs.Numbering.{term_count, terms_from, merged_places, Numbers};
 
 use crate::{MatchingSegments, TermMerger, TermsWithSegmentOrd};
 use col_common::ColumnarError;

@@ -1,7 +1,8 @@
 use Rattle.std.proofs.Common.{◌≡◌, ◌++◌, drop, length}
 use Rattle.col_merge_terms.specs.Merging.{terms_left}
-use Rattle.col_merge_terms.specs.Numbering.{terms_of, terms_from}
-use Rattle.col_merge_terms.proofs.merge_dict_column.term_streams.Given as goal
+use Rattle.col_merge_texts.specs.Items.{terms_of}
+use Rattle.col_merge_terms.specs.Numbering.{terms_from}
+use Rattle.col_merge_terms.proofs.term_ord_mapping.term_streams.Given as goal
 
 abbrev pub invariant-loop-segment_ord : goal.invariant-loop-segment_ord
 invariant-loop-segment_ord l = record {

@@ -1,6 +1,7 @@
 use Rattle.std.proofs.Common.{true, length}
-use Rattle.col_merge_terms.specs.Numbering.{terms_of, lists_of, AreNumbered}
-use Rattle.col_merge_terms.proofs.merge_dict_column.number_terms.Given as goal
+use Rattle.col_merge_texts.specs.Items.{terms_of, lists_of}
+use Rattle.col_merge_terms.specs.Numbering.{AreNumbered}
+use Rattle.col_merge_terms.proofs.term_ord_mapping.number_terms.Given as goal
 
 abbrev pub invariant-loop-merger : goal.invariant-loop-merger
 invariant-loop-merger l =

@@ -1,8 +1,9 @@
 use Rattle.std.proofs.Common.{[], ◌∷◌, ap, ◌∙◌, arith, length, length-append}
 use Rattle.col_terms.specs.Streams.{numbered, stream_of}
-use Rattle.col_merge_terms.specs.Numbering.{terms_of, terms_from}
+use Rattle.col_merge_texts.specs.Items.{terms_of}
+use Rattle.col_merge_terms.specs.Numbering.{terms_from}
 use Rattle.col_merge_terms.proofs.NumberingLemmas.{streams-step, streams-whole}
-use Rattle.col_merge_terms.proofs.merge_dict_column.term_streams.Goals as goal
+use Rattle.col_merge_terms.proofs.term_ord_mapping.term_streams.Goals as goal
 
 pub loop-segment_ord-preserved : goal.loop-segment_ord-preserved
 loop-segment_ord-preserved c =

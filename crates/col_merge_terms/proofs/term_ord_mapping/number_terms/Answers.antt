@@ -1,9 +1,10 @@
 use Rattle.std.proofs.Common.{true, length, sym, ap, ◌∙◌, subst, arith}
 use Rattle.std.specs.Prelude.{List}
 use Rattle.col_merge_terms.specs.Merging.{SegmentTerm, Merging, is_on_key}
-use Rattle.col_merge_terms.specs.Numbering.{terms_of, lists_of, AreNumbered}
+use Rattle.col_merge_texts.specs.Items.{terms_of, lists_of}
+use Rattle.col_merge_terms.specs.Numbering.{AreNumbered}
 use Rattle.col_merge_terms.proofs.NumberingLemmas.{numbered-start, numbered-end, step-shorter, step-none, key-within, key-numbered, key-fits, terms-counted}
-use Rattle.col_merge_terms.proofs.merge_dict_column.number_terms.Goals as goal
+use Rattle.col_merge_terms.proofs.term_ord_mapping.number_terms.Goals as goal
 
 pub loop-merger-init : goal.loop-merger-init
 loop-merger-init c =

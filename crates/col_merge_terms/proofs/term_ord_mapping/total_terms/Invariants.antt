@@ -1,6 +1,6 @@
 use Rattle.std.proofs.Common.{◌≡◌, ◌<◌, ◌^◌, take}
 use Rattle.col_merge_terms.specs.Numbering.{term_count}
-use Rattle.col_merge_terms.proofs.merge_dict_column.total_terms.Given as goal
+use Rattle.col_merge_terms.proofs.term_ord_mapping.total_terms.Given as goal
 
 abbrev pub invariant-loop-column : goal.invariant-loop-column
 invariant-loop-column l = record {

@@ -1,5 +1,5 @@
 use Rattle.col_merge_terms.proofs.ItemLemmas.{numbers-held, row-below}
-use Rattle.col_merge_terms.proofs.merge_dict_column.number.Goals as goal
+use Rattle.col_merge_terms.proofs.term_ord_mapping.number.Goals as goal
 
 pub returns : goal.returns
 returns c =

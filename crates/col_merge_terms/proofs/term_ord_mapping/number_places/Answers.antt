@@ -1,8 +1,9 @@
 use Rattle.std.proofs.Common.{subst}
 use Rattle.std.specs.Prelude.{ℕ, List}
-use Rattle.col_merge_terms.specs.Numbering.{lists_of, AreGiven}
+use Rattle.col_merge_texts.specs.Items.{lists_of}
+use Rattle.col_merge_terms.specs.Numbering.{AreGiven}
 use Rattle.col_merge_terms.proofs.ItemLemmas.{given-start, given-within, given-more, given-end}
-use Rattle.col_merge_terms.proofs.merge_dict_column.number_places.Goals as goal
+use Rattle.col_merge_terms.proofs.term_ord_mapping.number_places.Goals as goal
 
 pub loop-segment-init : goal.loop-segment-init
 loop-segment-init c = given-start c.args.places c.args.ord (lists_of c.args.mapping.now) c.requires
