@@ -10,7 +10,8 @@ use Rattle.col_common.specs.declared.error.ColumnarError.{ColumnarError}
 use Rattle.col_common.specs.declared.error.ColumnarError.TheVariants.{OutOfMemory, InvalidData}
 use Rattle.col_model.specs.Keys.{Key, FileFooter, FileKeys, entries_from, file_footer, key_table, keys, total_length}
 use Rattle.col_file.specs.Ends.{keys_found, keys_behind}
-use Rattle.col_file.specs.Files.{SeenFile, IsExpected, AnswersForHandle}
+use Rattle.col_common.specs.Outside.{SeenFile, IsToldWhole}
+use Rattle.col_file.specs.Files.{IsExpected, AnswersForHandle}
 use Rattle.col_file.specs.Readers.{IsWithin}
 use Rattle.col_file.proofs.PlaceLemmas.{within-entries}
 
@@ -96,43 +97,43 @@ found-within f b size table k h e = with_table (key_table table) e
 
 -- ---- the same where a file tells its bytes
 
-module _ (told : Option (List ℕ)) (size : ℕ) (whole : IfSome told (λ bytes. length bytes ≡ size)) where
+module _ (file : SeenFile) (whole : IsToldWhole file) where
   -- a file of fewer than 20 bytes has no keys
-  pub told-too_short : size < 20 → IfSome told (λ bytes. keys bytes ≡ None)
-  told-too_short h = at told whole
+  pub told-too_short : file.size < 20 → IfSome file.told (λ bytes. keys bytes ≡ None)
+  told-too_short h = at file.told whole
     where
-      at : (o : Option (List ℕ)) → IfSome o (λ bytes. length bytes ≡ size) → IfSome o (λ bytes. keys bytes ≡ None)
+      at : (o : Option (List ℕ)) → IfSome o (λ bytes. length bytes ≡ file.size) → IfSome o (λ bytes. keys bytes ≡ None)
       at None w = tt
       at (Some bytes) w = too_short bytes (omega arith)
 
-  module _ (n m : ℕ) (footer : List ℕ) (long : n + 20 ≡ size) (end_ : m ≡ size)
-      (part : IfSome told (λ bytes. footer ≡ slice_range bytes n m)) where
+  module _ (n m : ℕ) (footer : List ℕ) (long : n + 20 ≡ file.size) (end_ : m ≡ file.size)
+      (part : IfSome file.told (λ bytes. footer ≡ slice_range bytes n m)) where
     -- a file whose last bytes are no footer has no keys
-    pub told-no_footer : file_footer footer ≡ None → IfSome told (λ bytes. keys bytes ≡ None)
-    told-no_footer e = at told whole part
+    pub told-no_footer : file_footer footer ≡ None → IfSome file.told (λ bytes. keys bytes ≡ None)
+    told-no_footer e = at file.told whole part
       where
-        at : (o : Option (List ℕ)) → IfSome o (λ bytes. length bytes ≡ size)
+        at : (o : Option (List ℕ)) → IfSome o (λ bytes. length bytes ≡ file.size)
             → IfSome o (λ bytes. footer ≡ slice_range bytes n m) → IfSome o (λ bytes. keys bytes ≡ None)
         at None w p = tt
         at (Some bytes) w p = no_footer bytes n m (omega arith) (omega arith) (ap file_footer (sym p) ∙ e)
 
     module _ (f : FileFooter) (read : file_footer footer ≡ Some f) where
       -- a file that is shorter than the table that its footer tells has no keys
-      pub told-no_table : n < f.table_length → IfSome told (λ bytes. keys bytes ≡ None)
-      told-no_table h = at told whole part
+      pub told-no_table : n < f.table_length → IfSome file.told (λ bytes. keys bytes ≡ None)
+      told-no_table h = at file.told whole part
         where
-          at : (o : Option (List ℕ)) → IfSome o (λ bytes. length bytes ≡ size)
+          at : (o : Option (List ℕ)) → IfSome o (λ bytes. length bytes ≡ file.size)
               → IfSome o (λ bytes. footer ≡ slice_range bytes n m) → IfSome o (λ bytes. keys bytes ≡ None)
           at None w p = tt
           at (Some bytes) w p = no_table bytes n m (omega arith) (omega arith) f (ap file_footer (sym p) ∙ read) h
 
       -- what the end says is what stands behind the columns
       pub told-read : (b : ℕ) (table : List ℕ) → b + f.table_length ≡ n
-          → IfSome told (λ bytes. table ≡ slice_range bytes b n)
-          → IfSome told (λ bytes. keys bytes ≡ keys_behind f b table)
-      told-read b table e tabled = at told whole part tabled
+          → IfSome file.told (λ bytes. table ≡ slice_range bytes b n)
+          → IfSome file.told (λ bytes. keys bytes ≡ keys_behind f b table)
+      told-read b table e tabled = at file.told whole part tabled
         where
-          at : (o : Option (List ℕ)) → IfSome o (λ bytes. length bytes ≡ size)
+          at : (o : Option (List ℕ)) → IfSome o (λ bytes. length bytes ≡ file.size)
               → IfSome o (λ bytes. footer ≡ slice_range bytes n m)
               → IfSome o (λ bytes. table ≡ slice_range bytes b n)
               → IfSome o (λ bytes. keys bytes ≡ keys_behind f b table)

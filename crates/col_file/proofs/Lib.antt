@@ -4,5 +4,6 @@ mod NameLemmas
 mod ListLemmas
 mod EndLemmas
 pub mod PartLemmas
+pub mod ReadLemmas
 mod OpenedLemmas
 mod TypeLemmas

@@ -20,6 +20,7 @@ use Rattle.col_model.specs.Keys.{key_bytes, are_keys}
 use Rattle.col_model.proofs.KeyLaws.{slice_cmp-keys}
 use Rattle.col_model.proofs.OrderingLaws.{less_where}
 use Rattle.col_types.specs.Kinds.{kind_of}
+use Rattle.col_common.proofs.OctetLemmas.{bytes_eq-swap}
 use Rattle.col_file.specs.Entries.{entry_of, entries_seen}
 use Rattle.col_file.specs.declared.column_entry.ColumnEntry.{ColumnEntry}
 
@@ -125,9 +126,6 @@ fronts-rise es keys front = IsNonDecreasingBy-from_all_adjacent
 -- an entry has a name where its own compares as equal
 pub name-is : (name : List ℕ) (e : ColumnEntry) → bytes_eq (entry_of e).key.name name ≡ is_eq (slice_cmp nat_cmp (name_of e) name)
 name-is name e = sym (is_eq-slice_cmp (name_of e) name)
-
-bytes_eq-swap : (xs ys : List ℕ) → bytes_eq xs ys ≡ bytes_eq ys xs
-bytes_eq-swap xs ys = same_from_decides _ _ (bytes_eq-Decides xs ys) (Decides-like _ sym sym (bytes_eq-Decides ys xs))
 
 -- an entry's name begins with a front where its own front compares as equal
 pub front-is : (front : List ℕ) (e : ColumnEntry)

@@ -26,7 +26,8 @@ use Rattle.col_dynamic_open.specs.Lenient.{codes_spelled}
 use Rattle.col_dynamic_open.specs.LenientValues.{codes_of}
 use Rattle.col_dynamic_open.specs.declared.lenient.LenientValues.{LenientValues}
 use Rattle.col_file.specs.Columns.{IsTyped, HasCodesSpelled, bytes_at, content_at}
-use Rattle.col_file.specs.Files.{SeenFile, IsExpected, AnswersForHandle}
+use Rattle.col_common.specs.Outside.{SeenFile}
+use Rattle.col_file.specs.Files.{IsExpected, AnswersForHandle}
 use Rattle.col_file.specs.Handles.{Handle}
 use Rattle.col_dynamic.proofs.RowLemmas.{seen-rows}
 

@@ -1,28 +1,9 @@
 -- What calls that read a file answer, and what they leave of it.
 use Rattle.std.specs.Prelude.{◌≡◌, ◌≤◌, ◌+◌, ℕ, List, Option, Some, None, Result, Ok, Err, IfSome}
 use Rattle.col_common.specs.Causes.{Rose}
+use Rattle.col_common.specs.Outside.{SeenFile}
 use Rattle.col_common.specs.declared.error.ColumnarError.{ColumnarError}
 use Rattle.col_common.specs.declared.error.ColumnarError.TheVariants.{OutOfMemory, ReadFault, InvalidData}
-
--- what contracts see of a file: its bytes, where it tells them, their number, how often it has
--- failed and has been read, and its mark
-pub record SeenFile : Type 0 where
-  pub told : Option (List ℕ)
-  pub size : ℕ
-  pub faults : ℕ
-  pub reads : ℕ
-  pub mark : ℕ
-
--- a file by what a trait tells of it
-abbrev pub seen_by : {F : Type 0} → (F → Option (List ℕ)) → (F → ℕ) → (F → ℕ) → (F → ℕ) →
-    (F → ℕ) → F → SeenFile
-seen_by content size faults reads mark f = record {
-  told = content f;
-  size = size f;
-  faults = faults f;
-  reads = reads f;
-  mark = mark f;
-}
 
 -- A file was read at most so often, and stays as it was but for its counts.
 pub record ReadsFile (times : ℕ) (old new : SeenFile) : Type 0 where

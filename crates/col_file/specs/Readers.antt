@@ -3,7 +3,8 @@ use Rattle.std.specs.Prelude.{◌≡◌, ◌≤◌, ℕ, Some, Result, Ok, Err, 
 use Rattle.std.specs.List.{AllByRecursion}
 use Rattle.col_common.specs.declared.error.ColumnarError.{ColumnarError}
 use Rattle.col_model.specs.Keys.{Entry, FileKeys, keys}
-use Rattle.col_file.specs.Files.{SeenFile, ReadsFile, RefusesFile}
+use Rattle.col_common.specs.Outside.{SeenFile}
+use Rattle.col_file.specs.Files.{ReadsFile, RefusesFile}
 
 -- the file, and what its end says
 pub record SeenReader : Type 0 where

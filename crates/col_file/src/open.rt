@@ -26,8 +26,8 @@ impl DynamicColumnHandle {
     ) -> Result<DynamicColumn, ColumnarError>
         ensures no_entry { is_entry reader.old.keys self.now ≡ false
             → result ≡ Err ColumnarError.InvalidData }
-        ensures answer { AnswersForHandle (HasContent self.now.column_type) reader.old.file reader.new.file
-            result (content_at reader.old.keys self.now) }
+        ensures answer { AnswersForHandle (HasContent self.now.column_type) reader.old.file
+            reader.new.file result (content_at reader.old.keys self.now) }
         // Also where the file doesn't tell its bytes.
         ensures typed { IfOk result (IsTyped self.now.column_type reader.old.keys.row_count) }
         ensures kept { Reads 1 reader.old reader.new }

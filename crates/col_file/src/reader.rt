@@ -3,7 +3,7 @@ ghost use Rattle.std.specs.Prelude.{◌≡◌, false, length, map, option_and_th
 ghost use Rattle.std.specs.List.{AllByRecursion};
 ghost use Rattle.col_index.specs.Versions.{version_number};
 ghost use Rattle.col_file.specs.Columns.{bytes_at};
-ghost use Rattle.col_file.specs.Files.{seen_by, AnswersForHandle};
+ghost use Rattle.col_file.specs.Files.{AnswersForHandle};
 ghost use Rattle.col_file.specs.Handles.{handle_of, listed, is_entry, entry_typed, entries_named, entries_below};
 ghost use Rattle.col_types.specs.Kinds.{kind_of};
 ghost use Rattle.col_file.specs.Readers.{IsRead, Reads, Opens};
@@ -30,20 +30,13 @@ pub struct ColumnarReader<F: FileHandle> {
 }
 
 impl<F: FileHandle> Model for ColumnarReader<F> {
-    ghost use Rattle.col_file.specs.Files.{seen_by};
     ghost use Rattle.col_file.specs.Readers.{SeenReader, IsRead};
 
     ghost Value = { SeenReader };
 
-    ghost view = { λ r. record {
-      file = seen_by F.content F.size F.faults F.reads F.mark r.file;
-      keys = r.keys;
-    } };
+    ghost view = { λ r. record { file = F.seen r.file; keys = r.keys } };
 
-    ghost invariant = { λ r. IsRead (record {
-      file = seen_by F.content F.size F.faults F.reads F.mark r.file;
-      keys = r.keys;
-    }) };
+    ghost invariant = { λ r. IsRead (record { file = F.seen r.file; keys = r.keys }) };
 }
 
 impl<F: FileHandle> ColumnarReader<F> {
@@ -51,8 +44,7 @@ impl<F: FileHandle> ColumnarReader<F> {
     /// doesn't end as the format says; a refusal hands the file back. A table that the file stands
     /// for is sound, by the law `decoded_tables_are_sound`.
     pub fn open(alloc: Global, file: F) -> Result<ColumnarReader<F>, (F, ColumnarError)>
-        ensures { Opens (seen_by F.content F.size F.faults F.reads F.mark)
-            (seen_by F.content F.size F.faults F.reads F.mark file) result }
+        ensures { Opens F.seen (F.seen file) result }
     {
         let mut file = file;
         match read_keys(alloc, &mut file) {
@@ -63,7 +55,7 @@ impl<F: FileHandle> ColumnarReader<F> {
 
     /// The file.
     pub fn into_file(self) -> F
-        ensures { seen_by F.content F.size F.faults F.reads F.mark result ≡ self.file }
+        ensures { F.seen result ≡ self.file }
     {
         let ColumnarReader { file, keys } = self;
         drop(keys);
@@ -74,6 +66,7 @@ impl<F: FileHandle> ColumnarReader<F> {
     pub fn file_is_whole(&self)
         ensures { IsRead self.now }
     {
+        // That a reader's invariant holds is known where a field of it is read.
         let _ = &self.file;
     }
 
@@ -165,8 +158,8 @@ impl<F: FileHandle> ColumnarReader<F> {
     ) -> Result<Bytes, ColumnarError>
         ensures no_entry { is_entry self.old.keys handle.now ≡ false
             → result ≡ Err ColumnarError.InvalidData }
-        ensures answer { AnswersForHandle (λ expected part. part ≡ expected) self.old.file self.new.file
-            result (bytes_at self.old.keys handle.now) }
+        ensures answer { AnswersForHandle (λ expected part. part ≡ expected)
+            self.old.file self.new.file result (bytes_at self.old.keys handle.now) }
         ensures kept { Reads 1 self.old self.new }
     {
         if !self.keys.has_entry(handle) {

@@ -6,7 +6,7 @@ ghost use Rattle.col_common.specs.Decoding.{Decodes};
 ghost use Rattle.col_keys.specs.Footers.{footer_of};
 ghost use Rattle.col_model.specs.Keys.{keys};
 ghost use Rattle.col_file.specs.Ends.{keys_behind};
-ghost use Rattle.col_file.specs.Files.{seen_by, ReadsFile, AnswersForHandle};
+ghost use Rattle.col_file.specs.Files.{ReadsFile, AnswersForHandle};
 ghost use Rattle.col_file.specs.Readers.{IsWithin};
 
 use crate::columnar_keys::ColumnarKeys;
@@ -21,11 +21,10 @@ pub(crate) fn read_keys<F: FileHandle>(
     file: &mut F,
 ) -> Result<ColumnarKeys, ColumnarError>
     ensures answer { AnswersForHandle (λ expected k. k ≡ expected)
-        (seen_by F.content F.size F.faults F.reads F.mark file.old)
-        (seen_by F.content F.size F.faults F.reads F.mark file.new) result keys }
-    ensures within { IfOk result (λ k. AllByRecursion (IsWithin (F.size file.old)) k.entries) }
-    ensures file { ReadsFile 2 (seen_by F.content F.size F.faults F.reads F.mark file.old)
-        (seen_by F.content F.size F.faults F.reads F.mark file.new) }
+        (F.seen file.old) (F.seen file.new) result keys }
+    ensures within { IfOk result
+        (λ k. AllByRecursion (IsWithin (F.seen file.old).size) k.entries) }
+    ensures file { ReadsFile 2 (F.seen file.old) (F.seen file.new) }
 {
     let len = file.len();
     if len < FOOTER_NUM_BYTES {
@@ -52,12 +51,11 @@ pub(crate) fn read_part<F: FileHandle>(
     end: u64,
 ) -> Result<Bytes, ColumnarError>
     requires ordered { start ≤ «end» }
-    requires within { «end» ≤ F.size file.old }
+    requires within { «end» ≤ (F.seen file.old).size }
     ensures bytes { IfOk result (λ part.
-        IfSome (F.content file.old) (λ bytes. part ≡ slice_range bytes start «end»)) }
-    ensures cause { HasReadCause (F.faults file.old) (F.faults file.new) result }
-    ensures file { ReadsFile 1 (seen_by F.content F.size F.faults F.reads F.mark file.old)
-        (seen_by F.content F.size F.faults F.reads F.mark file.new) }
+        IfSome (F.seen file.old).told (λ bytes. part ≡ slice_range bytes start «end»)) }
+    ensures cause { HasReadCause (F.seen file.old).faults (F.seen file.new).faults result }
+    ensures file { ReadsFile 1 (F.seen file.old) (F.seen file.new) }
 {
     match file.read(alloc, start, end) {
         Ok(part) => Ok(part),

@@ -1,6 +1,6 @@
 -- A joined column is of its slot.
 use Rattle.std.proofs.Common.{◌≡◌, ℕ, ◌+◌, ◌==◌, ◌&&◌, Bool, true, false, cond, not, List, [], ◌∷◌, filter_map, find, length, Some, None, refl, sym, ◌∙◌, ap, option_map, option_and_then, nat_lt}
-use Rattle.std.specs.Prelude.{Option, Ok, if◌then◌else◌}
+use Rattle.std.specs.Prelude.{Option, Ok}
 use Rattle.std.specs.List.{list_all, list_any, enumerate_from, cons_option, AllByRecursion}
 use Rattle.col_common.specs.Reading.{only_if}
 use Rattle.col_model.specs.Category.{category_of, Slot, same_slot}
@@ -10,7 +10,7 @@ use Rattle.col_model.specs.Limits.{is_of_type}
 use Rattle.col_model.specs.Lookup.{row_of}
 use Rattle.col_model.specs.Merge.{Required, required_slot, part_slot, whole_column_in, kept_column, kept_columns, required_type, joined_type, shared_type, all_cells, joined_column}
 use Rattle.col_model.specs.Order.{Order}
-use Rattle.col_model.specs.Refusal.{◌>>=◌, cannot_coerce}
+use Rattle.col_model.specs.Refusal.{cannot_coerce}
 use Rattle.col_model.specs.Table.{Column}
 use Rattle.col_model.proofs.SlotLaws.{column_slot}
 use Rattle.col_model.proofs.RefusalLaws.{refuse_if-ok, same_Ok}

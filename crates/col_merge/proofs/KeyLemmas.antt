@@ -6,7 +6,6 @@ use Rattle.std.proofs.lemmas.Bool.{and_from}
 use Rattle.col_common.specs.Ascending.{is_ascending}
 use Rattle.col_model.specs.Category.{slot_cmp}
 use Rattle.col_model.specs.ColumnType.{is_numerical}
-use Rattle.col_model.specs.ColumnType as types
 use Rattle.col_model.specs.Keys.{Key, key_bytes, is_name, are_keys}
 use Rattle.col_model.specs.Sound.{key_of_column, IsSoundColumn}
 use Rattle.col_model.specs.Table.{full, Column}

@@ -28,9 +28,8 @@ use Rattle.col_file.proofs.PartLemmas.{own-handles, content-of_entry}
 use Rattle.col_merge_slot.specs.JoinedSlots.{part_seen}
 use Rattle.col_merge.specs.Opened.{is_in, IsOpenedAs, is_bad, RefusesColumn}
 use Rattle.col_merge.specs.Parts.{told_part}
-use Rattle.col_merge.specs.Readings.{Stays, slot_reads}
+use Rattle.col_merge.specs.Readings.{slot_reads}
 use Rattle.col_merge_plan.specs.Slots.{entry_slot}
-use Rattle.col_merge.proofs.ReadingLemmas.{stays-read}
 
 -- ---- the handle of a slot
 
@@ -215,8 +214,8 @@ module _ (s : Slot) (r : SeenReader) (read : IsRead r) where
         opened-refused s r read of.e of.found new x (subst (λ h. RefusesFile r.file new.file x (content_at r.keys h)) (sym of.is) refused)
 
     -- the read of a column that the reader has is counted
-    pub handle-read : (new : SeenReader) → Reads 1 r new → Stays (slot_reads s r.keys) r new
+    pub handle-read : (new : SeenReader) → Reads 1 r new → Reads (slot_reads s r.keys) r new
     handle-read new reads =
         let of = handle-of h (find (λ e. same_slot (entry_slot e) s) r.keys.entries) q in
         let any = any-found (λ e. same_slot (entry_slot e) s) r.keys.entries of.e of.found in
-        subst (λ times. Stays times r new) (sym (ap (λ (b : Bool). if b then 1 else 0) any)) (stays-read 1 r new reads)
+        subst (λ times. Reads times r new) (sym (ap (λ (b : Bool). if b then 1 else 0) any)) reads

@@ -1,57 +1,22 @@
 -- What reading leaves of readers, one after another.
-use Rattle.std.proofs.Common.{◌≡◌, ℕ, zero, suc, ◌+◌, ◌≤◌, List, [], ◌∷◌, drop, Some, slice_get, refl, sym, ap, ap₂, ◌∙◌, subst, arith, add-one}
+use Rattle.std.proofs.Common.{◌≡◌, ℕ, zero, suc, ◌+◌, ◌<◌, ◌≤◌, List, [], ◌∷◌, drop, length, get_or, Some, slice_get, refl, sym, ap, ap₂, ◌∙◌, subst, arith, add-one}
 use Rattle.std.proofs.Math.ListN.{set}
+use Rattle.std.proofs.lemmas.Option.{slice_get-get_or}
 use Rattle.col_common.specs.Causes.{Rose}
 use Rattle.col_model.specs.Keys.{FileKeys}
 use Rattle.col_model.proofs.SharedTypes.{some≢none, same-some}
 use Rattle.col_common.specs.Reading.{◌>>=◌}
 use Rattle.col_file.specs.Readers.{SeenReader, Reads}
+use Rattle.col_file.proofs.ReadLemmas.{reads-none, reads-then, reads-most}
 use Rattle.col_model.specs.File.{parts_of}
 use Rattle.col_merge.specs.Parts.{told_part, told_parts}
-use Rattle.col_merge.specs.Readings.{Stays, AllRead, SomeReaderRose}
+use Rattle.col_merge.specs.Readings.{AllRead, SomeReaderRose}
 use Rattle.col_merge_plan.specs.Slots.{counts_read}
-
-pub stays-itself : (times : ℕ) (r : SeenReader) → Stays times r r
-stays-itself times r = record { told = refl; size = refl; later = omega arith; reads = omega arith; keys = refl; mark = refl }
-
-pub stays-then : (m n : ℕ) (a b c : SeenReader) → Stays m a b → Stays n b c → Stays (m + n) a c
-stays-then m n a b c h k =
-    record {
-      told = k.told ∙ h.told;
-      size = k.size ∙ h.size;
-      later = omega (arith, h.later, k.later);
-      reads = omega (arith, h.reads, k.reads);
-      keys = k.keys ∙ h.keys;
-      mark = k.mark ∙ h.mark;
-    }
-
-pub stays-most : (m n : ℕ) (a b : SeenReader) → m ≤ n → Stays m a b → Stays n a b
-stays-most m n a b le h =
-    record {
-      told = h.told;
-      size = h.size;
-      later = h.later;
-      reads = omega (arith, h.reads, le);
-      keys = h.keys;
-      mark = h.mark;
-    }
-
--- a reader that was read
-pub stays-read : (times : ℕ) (a b : SeenReader) → Reads times a b → Stays times a b
-stays-read times a b h =
-    record {
-      told = h.file.told;
-      size = h.file.size;
-      later = h.file.later;
-      reads = h.file.reads;
-      keys = h.keys;
-      mark = h.file.mark;
-    }
 
 -- readers that stay as they are were read no more than so often
 pub all_read-none : (times : FileKeys → ℕ) (rs : List SeenReader) → AllRead times rs rs
 all_read-none times [] = tt
-all_read-none times (r ∷ rs) = (stays-itself (times r.keys) r, all_read-none times rs)
+all_read-none times (r ∷ rs) = (reads-none (times r.keys) r, all_read-none times rs)
 
 -- readings after others are at most as many as both together
 pub all_read-then : (m n : FileKeys → ℕ) (rs ss us : List SeenReader) → AllRead m rs ss → AllRead n ss us → AllRead (λ k. m k + n k) rs us
@@ -61,7 +26,7 @@ all_read-then m n [] (s ∷ ss) us h k = absurd h
 all_read-then m n (r ∷ rs) [] us h k = absurd h
 all_read-then m n (r ∷ rs) (s ∷ ss) [] h k = absurd k
 all_read-then m n (r ∷ rs) (s ∷ ss) (u ∷ us) h k = (
-  stays-then (m r.keys) (n r.keys) r s u h.0 (subst (λ keys. Stays (n keys) s u) h.0.keys k.0),
+  reads-then (m r.keys) (n r.keys) r s u h.0 (subst (λ keys. Reads (n keys) s u) h.0.keys k.0),
   all_read-then m n rs ss us h.1 k.1,
 )
 
@@ -70,12 +35,12 @@ pub all_read-most : (m n : FileKeys → ℕ) (rs ss : List SeenReader) → ((k :
 all_read-most m n [] [] le h = tt
 all_read-most m n [] (s ∷ ss) le h = absurd h
 all_read-most m n (r ∷ rs) [] le h = absurd h
-all_read-most m n (r ∷ rs) (s ∷ ss) le h = (stays-most (m r.keys) (n r.keys) r s (le r.keys) h.0, all_read-most m n rs ss le h.1)
+all_read-most m n (r ∷ rs) (s ∷ ss) le h = (reads-most (m r.keys) (n r.keys) r s (le r.keys) h.0, all_read-most m n rs ss le h.1)
 
 -- ---- what they tell stays
 
-part-stays : (times : ℕ) (r s : SeenReader) → Stays times r s → told_part s ≡ told_part r
-part-stays times r s h = ap (λ o. o >>= parts_of) h.told
+part-stays : (times : ℕ) (r s : SeenReader) → Reads times r s → told_part s ≡ told_part r
+part-stays times r s h = ap (λ o. o >>= parts_of) h.file.told
 
 module _ (times : FileKeys → ℕ) where
   -- readers tell the same parts after they were read
@@ -113,7 +78,7 @@ was-at times (r ∷ rs) (x ∷ ss) zero s h e =
     record {
       old = r;
       was = refl;
-      later = subst (λ (x : SeenReader). r.file.faults ≤ x.file.faults) (same-some x s e) h.0.later;
+      later = subst (λ (x : SeenReader). r.file.faults ≤ x.file.faults) (same-some x s e) h.0.file.later;
     }
 was-at times (r ∷ rs) (x ∷ ss) (suc at) s h e =
     let w = was-at times rs ss at s h.1 e in record { old = w.old; was = w.was; later = w.later }
@@ -172,11 +137,19 @@ get-set (x ∷ rs) (suc at) r s e = get-set rs at r s e
 
 -- a reader that wasn't read before was read
 pub all_read-set : (times : FileKeys → ℕ) (rs ss : List SeenReader) (at : ℕ) (r s : SeenReader)
-    → AllRead times rs ss → slice_get rs at ≡ Some r → Stays (times r.keys) r s → AllRead times rs (set ss at s)
+    → AllRead times rs ss → slice_get rs at ≡ Some r → Reads (times r.keys) r s → AllRead times rs (set ss at s)
 all_read-set times [] ss at r s h e k = absurd (some≢none r (sym e))
 all_read-set times (x ∷ rs) [] at r s h e k = absurd h
-all_read-set times (x ∷ rs) (y ∷ ss) zero r s h e k = (subst (λ (x : SeenReader). Stays (times x.keys) x s) (sym (same-some x r e)) k, h.1)
+all_read-set times (x ∷ rs) (y ∷ ss) zero r s h e k = (subst (λ (x : SeenReader). Reads (times x.keys) x s) (sym (same-some x r e)) k, h.1)
 all_read-set times (x ∷ rs) (y ∷ ss) (suc at) r s h e k = (h.0, all_read-set times rs ss at r s h.1 e k)
+
+-- the reader of a place was read, and none from that place on was read before
+pub all_read-at : (times : FileKeys → ℕ) (rs ss : List SeenReader) (at : ℕ) (d s : SeenReader) → AllRead times rs ss
+    → AreLeft at rs ss → at < length ss → Reads (times (get_or ss at d).keys) (get_or ss at d) s
+    → AllRead times rs (set ss at s)
+all_read-at times rs ss at d s h left within k =
+    let now = get_or ss at d in
+    all_read-set times rs ss at now s h (left-at rs ss at now left (slice_get-get_or ss at d within)) k
 
 -- a reader whose count of faults rose, set in its place, is one of all whose count rose
 pub rose-set : (rs ss : List SeenReader) (at : ℕ) (r s : SeenReader) → slice_get rs at ≡ Some r

@@ -1,24 +1,15 @@
 -- What reading leaves of readers, and how often their files are read.
-use Rattle.std.specs.Prelude.{◌≡◌, ◌≤◌, ◌+◌, ℕ, List, length, slice_get, Some, if◌then◌else◌}
+use Rattle.std.specs.Prelude.{◌≡◌, ℕ, List, length, slice_get, Some, if◌then◌else◌}
 use Rattle.std.specs.List.{AllZip, list_any, sum_by}
 use Rattle.col_common.specs.Causes.{Rose}
 use Rattle.col_model.specs.Category.{Slot, same_slot}
 use Rattle.col_model.specs.Keys.{FileKeys}
-use Rattle.col_file.specs.Readers.{SeenReader}
+use Rattle.col_file.specs.Readers.{SeenReader, Reads}
 use Rattle.col_merge_plan.specs.Slots.{entry_slot}
 
--- a reader's file was read at most so often, and stays as it was but for its counts
-pub record Stays (times : ℕ) (old new : SeenReader) : Type 0 where
-  pub told : new.file.told ≡ old.file.told
-  pub size : new.file.size ≡ old.file.size
-  pub later : old.file.faults ≤ new.file.faults
-  pub reads : new.file.reads ≤ old.file.reads + times
-  pub keys : new.keys ≡ old.keys
-  pub mark : new.file.mark ≡ old.file.mark
-
--- the same of all readers, of each at most as often as its file's end has it
+-- readers' files were read, each at most as often as its end has it, and all else stays
 abbrev pub AllRead : (FileKeys → ℕ) → List SeenReader → List SeenReader → Type 0
-AllRead times olds news = AllZip (λ old new. Stays (times old.keys) old new) olds news
+AllRead times olds news = AllZip (λ old new. Reads (times old.keys) old new) olds news
 
 -- The same of all readers, of each at most as often as it has columns.
 abbrev pub AllStay : List SeenReader → List SeenReader → Type 0

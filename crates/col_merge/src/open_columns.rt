@@ -3,9 +3,10 @@ ghost use Rattle.std.specs.Prelude.{◌≡◌, find, option_map, IfOk, IfErr};
 ghost use Rattle.col_common.specs.declared.error.ColumnarError.TheVariants as refusals;
 ghost use Rattle.col_model.specs.Category.{same_slot};
 ghost use Rattle.col_file.specs.Handles.{handle_of};
+ghost use Rattle.col_file.specs.Readers.{Reads};
 ghost use Rattle.col_merge_plan.specs.Slots.{entry_slot};
 ghost use Rattle.col_merge.specs.Opened.{IsOpenedAs, AllOpenedAs, RefusesColumn, RefusesColumns};
-ghost use Rattle.col_merge.specs.Readings.{Stays, AllRead, slot_reads};
+ghost use Rattle.col_merge.specs.Readings.{AllRead, slot_reads};
 
 use col_common::{ColumnarError, FileHandle};
 use col_dynamic::DynamicColumn;
@@ -40,7 +41,7 @@ fn open_in<F: FileHandle>(
 ) -> Result<Option<DynamicColumn>, ColumnarError>
     ensures ok { IfOk result (IsOpenedAs slot.now reader.old) }
     ensures err { IfErr result (RefusesColumn slot.now reader.old reader.new) }
-    ensures kept { Stays (slot_reads slot.now reader.old.keys) reader.old reader.new }
+    ensures kept { Reads (slot_reads slot.now reader.old.keys) reader.old reader.new }
 {
     reader.file_is_whole();
     match find_handle(alloc, reader, slot)? {

@@ -6,8 +6,9 @@ ghost use Rattle.col_merge_plan.specs.Slots.{counts_read};
 
 use col_common::{ColumnarError, FileHandle, RowId};
 use col_file::ColumnarReader;
+use col_merge_plan::row_counts;
 use col_order::StackMergeOrder;
-use std::alloc::{AllocError, Global};
+use std::alloc::Global;
 
 /// An order of all rows, segment after segment, that files give.
 pub trait StackFromReaders: Sized {
@@ -51,18 +52,4 @@ fn total<F: FileHandle>(columnar_readers: &[ColumnarReader<F>]) -> Option<RowId>
         sum = sum.checked_add(reader.num_docs())?;
     }
     Some(sum)
-}
-
-// How many rows each file has.
-fn row_counts<F: FileHandle>(
-    alloc: Global,
-    columnar_readers: &[ColumnarReader<F>],
-) -> Result<Vec<RowId>, AllocError>
-    ensures { IfOk result (λ counts. counts.items ≡ counts_read columnar_readers.now) }
-{
-    let mut counts = Vec::new(alloc);
-    for reader in columnar_readers {
-        counts.push(reader.num_docs())?;
-    }
-    Ok(counts)
 }

@@ -1,25 +1,24 @@
 -- Required columns, item by item.
-use Rattle.std.proofs.Common.{◌≡◌, ℕ, ◌==◌, Bool, true, false, not, ◌&&◌, ◌||◌, cond, List, [], ◌∷◌, ◌++◌, find, map, length, take, drop, get_or, String, Global, string_bytes, Option, Some, None, option_map, Result, Ok, Err, refl, sym, ◌∙◌, ap, ap₂, subst, arith, add-one, zero, suc, ◌+◌, ◌<◌}
+use Rattle.std.proofs.Common.{◌≡◌, ℕ, ◌==◌, Bool, true, false, not, ◌&&◌, ◌||◌, cond, List, [], ◌∷◌, ◌++◌, find, length, take, drop, get_or, String, Global, string_bytes, Option, Some, None, option_map, Result, Ok, Err, refl, sym, ◌∙◌, ap, subst, add-one, ◌+◌, ◌<◌}
 use Rattle.std.specs.Prelude.{if◌then◌else◌}
 use Rattle.std.specs.BTreeMap.{BTreeMap, get}
 use Rattle.std.specs.List.{list_all, list_any, AllByRecursion}
 use Rattle.std.specs.Str.{is_utf8}
-use Rattle.std.proofs.lemmas.Bool.{eqb-true, eq-eqb, and_from, false≢true, true≢false}
+use Rattle.std.proofs.lemmas.Bool.{eqb-true, and_from, true≢false}
 use Rattle.std.proofs.lemmas.List.Folds.{list_any-append}
 use Rattle.col_types.specs.declared.column_type.ColumnType as variants
 use Rattle.col_common.specs.declared.error.ColumnarError.{ColumnarError}
-use Rattle.col_common.specs.declared.error.ColumnarError.TheVariants.{RequiredConflict}
 use Rattle.col_model.specs.Category.{Slot, slot_of, slot_cmp, same_slot}
 use Rattle.col_types.specs.Kinds.{kind_of}
 use Rattle.col_model.specs.ColumnType.{ColumnType, same_type, type_code, type_of_code}
 use Rattle.col_model.specs.ColumnType as types
 use Rattle.col_model.specs.Keys.{is_name}
 use Rattle.col_model.specs.Merge.{Required, required_slot, required_type, contradicts, required_refusal}
-use Rattle.col_model.specs.Refusal.{◌>>=◌, refuse_if, bad_name, required_conflict}
+use Rattle.col_model.specs.Refusal.{bad_name, required_conflict}
 use Rattle.col_model.specs.Written.{has_zero}
 use Rattle.col_model.proofs.OrderedColumns.{same-slots}
 use Rattle.col_model.proofs.WrittenSound.{no-zeros}
-use Rattle.col_merge_plan.specs.RequiredTypes.{known_type, conflicts, or_type, Agrees, Requires, AreTypes}
+use Rattle.col_merge_plan.specs.RequiredTypes.{known_type, conflicts, or_type, Agrees, Requires}
 use Rattle.col_merge_plan.specs.Slots.{required_of}
 use Rattle.col_merge_plan.proofs.ListLemmas.{taken, dropped}
 

@@ -3,10 +3,10 @@
 //! it as the definition has it.
 #![tactic(auto)]
 
+mod counts;
 mod required;
-mod row_counts;
 mod slots;
 
+pub use counts::{is_order_of, row_counts};
 pub use required::required_types;
-pub use row_counts::is_order_of;
 pub use slots::slots_of;

@@ -1,21 +1,19 @@
 -- Inputs, read and opened one by one.
-use Rattle.std.proofs.Common.{◌≡◌, ◌<◌, ℕ, suc, List, [], ◌∷◌, ◌++◌, map, take, get_or, length, true, false, Option, Some, None, option_and_then, Result, Err, IfSome, refl, sym, ap, ap₂, ◌∙◌, inl, inr}
+use Rattle.std.proofs.Common.{◌≡◌, ℕ, List, [], ◌∷◌, ◌++◌, true, false, Option, Some, None, option_and_then, Err, IfSome, refl, ◌∙◌, inl, inr}
 use Rattle.std.specs.List.{list_any}
-use Rattle.std.proofs.Math.Seq.{take-suc}
-use Rattle.std.proofs.lemmas.List.{map-append}
 use Rattle.std.proofs.lemmas.Bool.{or_left, or_right}
-use Rattle.col_common.specs.Memory.{Scheduled}
-use Rattle.col_common.specs.Outside.{Told}
+use Rattle.col_common.specs.Outside.{SeenFile, Told}
 use Rattle.col_common.specs.declared.error.ColumnarError.{ColumnarError}
 use Rattle.col_common.specs.declared.error.ColumnarError.TheVariants.{OutOfMemory, ReadFault, WriteFault, InvalidData, BadOrder, BadName, RequiredConflict, CannotCoerce, NumericalConflict, TooLarge, NoCodec, ForcedType, DocOrder, DocOutOfRange, TieBreakerStart, NotUtf8}
-use Rattle.col_model.specs.File.{parts_of, for_each}
+use Rattle.col_model.specs.File.{parts_of}
 use Rattle.col_model.specs.Keys.{FileKeys, keys}
-use Rattle.col_file.specs.Files.{SeenFile, ReadsFile, RefusesFile}
+use Rattle.col_file.specs.Files.{ReadsFile, RefusesFile}
 use Rattle.col_common.specs.Causes.{Rose}
 use Rattle.col_outcome.proofs.PartLemmas.{keeps-read}
 use Rattle.col_file.specs.Readers.{SeenReader}
 use Rattle.col_outcome.specs.InMemory.{in_memory_alone}
-use Rattle.col_outcome.specs.Inputs.{IsOpened, IsOpenedFrom, is_no_file, RefusesInputs, num_rows_of}
+use Rattle.col_outcome.specs.Inputs.{IsOpened, IsOpenedFrom, is_no_file, RefusesInputs}
+use Rattle.col_outcome.specs.Parts.{all_told}
 
 -- bytes without a key table and a footer are no file
 pub no_file : (bytes : List ℕ) → keys bytes ≡ None → is_no_file bytes ≡ true
@@ -26,10 +24,6 @@ no_file bytes none = rw none refl
 pub a_file : (bytes : List ℕ) (k : FileKeys) → keys bytes ≡ Some k → is_no_file bytes ≡ false
 unfolding parts_of
 a_file bytes k some = rw some refl
-
--- what a file in memory tells
-abbrev pub seen_handle : Scheduled → SeenFile
-seen_handle m = record { told = Some m.bytes; size = length m.bytes; faults = m.calls.failed; reads = m.calls.made; mark = 0 }
 
 -- bytes in memory that are opened
 pub opened : (bytes : List ℕ) (old : SeenFile) (r : SeenReader) → IfSome old.told (λ b. keys b ≡ Some r.keys)
@@ -66,8 +60,8 @@ opened-one f r h = record { kept = keeps-read 2 f r.file h.1; whole = by f.told 
 
 -- an input that is no file is one of all
 no_file-among : (fs gs : List SeenFile) (f : SeenFile) → IfSome f.told (λ bytes. is_no_file bytes ≡ true)
-    → IfSome (for_each (λ (x : SeenFile). x.told) (fs ++ f ∷ gs)) (λ files. list_any is_no_file files ≡ true)
-no_file-among [] gs f bad = by f.told bad (for_each (λ (x : SeenFile). x.told) gs)
+    → IfSome (all_told (fs ++ f ∷ gs)) (λ files. list_any is_no_file files ≡ true)
+no_file-among [] gs f bad = by f.told bad (all_told gs)
   where
     by : (t : Told) → IfSome t (λ bytes. is_no_file bytes ≡ true) → (o : Option (List (List ℕ)))
         → IfSome (option_and_then (λ y. option_and_then (λ ys. Some (y ∷ ys)) o) t)
@@ -75,7 +69,7 @@ no_file-among [] gs f bad = by f.told bad (for_each (λ (x : SeenFile). x.told) 
     by None bad o = tt
     by (Some t) bad None = tt
     by (Some t) bad (Some ys) = or_left (is_no_file t) (list_any is_no_file ys) bad
-no_file-among (x ∷ fs) gs f bad = by x.told (for_each (λ (x : SeenFile). x.told) (fs ++ f ∷ gs)) (no_file-among fs gs f bad)
+no_file-among (x ∷ fs) gs f bad = by x.told (all_told (fs ++ f ∷ gs)) (no_file-among fs gs f bad)
   where
     by : (t : Told) (o : Option (List (List ℕ))) → IfSome o (λ files. list_any is_no_file files ≡ true)
         → IfSome (option_and_then (λ y. option_and_then (λ ys. Some (y ∷ ys)) o) t)
@@ -110,17 +104,3 @@ inputs-refused fs gs f g NotUtf8 h = absurd h
 -- where a read failed, the count rose
 pub fault-rose : (f g : SeenFile) (e : ColumnarError) → RefusesFile f g e keys → e ≡ ReadFault → Rose f.faults g.faults
 fault-rose f g e h fault = rw fault at h
-
--- refusals that are the same have the same cause
-pub same-error : {A : Type 0} (d e : ColumnarError) → ◌≡◌ {A = Result A ColumnarError} (Err d) (Err e) → d ≡ e
-same-error d e h = cc
-
--- the rows of one file more
-pub counts-more : (rs : List SeenReader) (i j : ℕ) (d : SeenReader) (counts more : List ℕ) (n : ℕ)
-    → counts ≡ map num_rows_of (take i rs) → i < length rs → j ≡ suc i → n ≡ num_rows_of (get_or rs i d)
-    → more ≡ counts ++ n ∷ [] → more ≡ map num_rows_of (take j rs)
-counts-more rs i j d counts more n so_far within step is grown =
-    grown ∙ ap₂ (λ ns m. ns ++ m ∷ []) so_far is
-    ∙ sym (map-append num_rows_of (take i rs) (get_or rs i d ∷ []))
-    ∙ ap (map num_rows_of) (sym (take-suc rs i d within))
-    ∙ ap (λ k. map num_rows_of (take k rs)) (sym step)

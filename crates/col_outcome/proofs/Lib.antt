@@ -1,4 +1,4 @@
-mod PartLemmas
+pub mod PartLemmas
 mod DecidedLemmas
 mod InputLemmas
 mod MadeFileLemmas

@@ -5,15 +5,14 @@ use Rattle.std.specs.Prelude.{◌||◌, is_none}
 use Rattle.std.proofs.lemmas.List.{length-append, length-map, length-reverse}
 use Rattle.std.proofs.lemmas.Option.{same_Some}
 use Rattle.std.proofs.lemmas.Slice.Zip.{AllZip-long}
-use Rattle.col_common.specs.Outside.{Told}
+use Rattle.col_common.specs.Outside.{SeenFile, Told}
 use Rattle.col_common.specs.Reading.{◌>>=◌}
 use Rattle.col_common.specs.declared.error.ColumnarError.{ColumnarError}
 use Rattle.col_common.specs.declared.error.ColumnarError.TheVariants.{OutOfMemory, ReadFault}
-use Rattle.col_file.specs.Files.{SeenFile, seen_by}
 use Rattle.col_file.specs.Readers.{SeenReader}
 use Rattle.col_merge.specs.Parts.{told_part, told_parts}
 use Rattle.col_merge.specs.Turns.{refusal_of}
-use Rattle.col_model.specs.File.{Part, StandsFor, parts_of, part_of_table, for_each}
+use Rattle.col_model.specs.File.{Part, StandsFor, parts_of, part_of_table}
 use Rattle.col_model.specs.Merge.{Required, merged, row_counts}
 use Rattle.col_model.specs.Outcome.{segment_table, script_table, order_over}
 use Rattle.col_model.specs.Refusal.{Refusal, or_refuse, each_ok, invalid_data}
@@ -21,11 +20,11 @@ use Rattle.col_model.specs.Refusal as refusals
 use Rattle.col_model.specs.Script.{Script, Find}
 use Rattle.col_model.specs.Table.{Table}
 use Rattle.col_writer_columns.specs.Answers.{MayRefuse, answer_of}
+use Rattle.col_common.proofs.OnOkLemmas.{same-error}
 use Rattle.col_outcome.specs.Inputs.{IsOpened, is_no_file, RefusesInputs, OpensInputs, OpensFiles}
 use Rattle.col_outcome.specs.Making.{Makes, MakesIfRead, MergesInputs, MergesReaders, IsMergeRefusal, IsMade, AreReadersOf, inputs_table}
-use Rattle.col_outcome.specs.Parts.{given, handed_in, given_in, files_in, all_files, IsUnfailed, AllKeep}
+use Rattle.col_outcome.specs.Parts.{given, handed_in, given_in, files_in, all_files, all_told, IsUnfailed, AllKeep}
 use Rattle.col_outcome.specs.declared.merging.FileAndReport.{FileAndReport}
-use Rattle.col_outcome.proofs.InputLemmas.{same-error}
 use Rattle.col_outcome.proofs.PartLemmas.{all_keep-long, some_rose-later, some_rose-first}
 use Rattle.col_outcome.proofs.StayLemmas.{reader-rose, merged-keep}
 use Rattle.col_outcome.proofs.TableLemmas.{whole-part}
@@ -64,12 +63,12 @@ one-more (Some t) r rs (Some ys) files told whole later e =
     })
 
 input-parts : (fs : List SeenFile) (rs : List SeenReader) (files : List (List ℕ)) → AllZip IsOpened fs rs
-    → for_each (λ (f : SeenFile). f.told) fs ≡ Some files → InputParts files rs
+    → all_told fs ≡ Some files → InputParts files rs
 input-parts [] [] files h e = subst (λ fs. InputParts fs []) (same_Some [] files e) (record { parts = []; read = refl; are = refl })
 input-parts [] (r ∷ rs) files h e = absurd h
 input-parts (f ∷ fs) [] files h e = absurd h
 input-parts (f ∷ fs) (r ∷ rs) files h e =
-    one-more f.told r rs (for_each (λ (x : SeenFile). x.told) fs) files h.0.kept.told h.0.whole
+    one-more f.told r rs (all_told fs) files h.0.kept.told h.0.whole
     (λ ys g. input-parts fs rs ys h.1 g) e
 
 -- an input that is no file
@@ -125,11 +124,11 @@ merge-made : (IsOf : Table → FileAndReport → Type 0) (fs : List SeenFile) (r
     (result : Result FileAndReport ColumnarError) → AllZip IsOpened fs rs → OpensFiles files rs ss
     → MergesReaders IsOf ss us result (λ parts. merged parts required (order_over rows (row_counts parts)))
     → AllZip StandsFor tables files
-    → IfSome (for_each (λ (f : SeenFile). f.told) fs)
+    → IfSome (all_told fs)
     (λ inputs. MakesIfRead IsOf result (inputs_table inputs tables required rows))
-merge-made IsOf fs rs ss us files tables required rows result opened opens merges stand = by (for_each (λ (f : SeenFile). f.told) fs) refl
+merge-made IsOf fs rs ss us files tables required rows result opened opens merges stand = by (all_told fs) refl
   where
-    by : (o : Option (List (List ℕ))) → for_each (λ (f : SeenFile). f.told) fs ≡ o
+    by : (o : Option (List (List ℕ))) → all_told fs ≡ o
         → IfSome o (λ inputs. MakesIfRead IsOf result (inputs_table inputs tables required rows))
     by None told = tt
     by (Some inputs) told =
@@ -166,7 +165,7 @@ pub inputs-memory : (IsOf : Table → FileAndReport → Type 0) (olds news : Lis
     (required : List Required) (rows : Option (List (ℕ × ℕ))) (e : ColumnarError) → e ≡ OutOfMemory
     → AllKeep olds news → MergesInputs IsOf olds news files required rows (Err e)
 inputs-memory IsOf olds news files required rows e memory keep = record {
-  made = λ tables stand. by (for_each (λ (f : SeenFile). f.told) olds) tables;
+  made = λ tables stand. by (all_told olds) tables;
   known = inl memory;
   read_fault = λ fault. absurd (memory_no_fault (sym memory ∙ same-error e ReadFault fault));
   kept = keep;
@@ -183,7 +182,7 @@ inputs-memory IsOf olds news files required rows e memory keep = record {
 -- an input that wasn't opened
 inputs-refuse : (IsOf : Table → FileAndReport → Type 0) (fs : List SeenFile) (inputs : List (List ℕ)) (tables : List Table)
     (required : List Required) (rows : Option (List (ℕ × ℕ))) (e : ColumnarError)
-    → for_each (λ (f : SeenFile). f.told) fs ≡ Some inputs → RefusesInputs fs e
+    → all_told fs ≡ Some inputs → RefusesInputs fs e
     → MakesIfRead {B = FileAndReport} IsOf (Err e) (inputs_table inputs tables required rows)
 inputs-refuse IsOf fs inputs tables required rows e told (inl memory) = record { ok = tt; refused = inr (inl memory) }
 inputs-refuse IsOf fs inputs tables required rows e told (inr (inl fault)) = record { ok = tt; refused = inl fault }
@@ -200,13 +199,13 @@ pub inputs-unopened : (IsOf : Table → FileAndReport → Type 0) (fs now : List
     (files : List (List ℕ)) (required : List Required) (rows : Option (List (ℕ × ℕ))) (e : ColumnarError)
     → OpensInputs fs (Err e) rs now → MergesInputs IsOf fs now files required rows (Err e)
 inputs-unopened IsOf fs now rs files required rows e h = record {
-  made = λ tables stand. by (for_each (λ (f : SeenFile). f.told) fs) refl tables;
+  made = λ tables stand. by (all_told fs) refl tables;
   known = known-inputs fs e h.refused;
   read_fault = λ fault. h.read_fault (ap Err (same-error e ReadFault fault));
   kept = h.kept;
 }
   where
-    by : (o : Option (List (List ℕ))) → for_each (λ (f : SeenFile). f.told) fs ≡ o → (tables : List Table)
+    by : (o : Option (List (List ℕ))) → all_told fs ≡ o → (tables : List Table)
         → IfSome o (λ inputs. MakesIfRead IsOf (Err e) (inputs_table inputs tables required rows))
     by None told tables = tt
     by (Some inputs) told tables = inputs-refuse IsOf fs inputs tables required rows e told h.refused
@@ -251,26 +250,20 @@ pub known-fault : {A : Type 0} (expected : Result A Refusal) (e : ColumnarError)
 known-fault expected e (inl memory) fault = cc
 known-fault expected e (inr (r, at, answer)) fault = no_fault r (sym answer ∙ fault)
 
--- what inputs tell, by what is seen of them
-told-each : {H : Type 0} (content : H → Told) (size faults reads mark : H → ℕ) (hs : List H)
-    → for_each (λ (f : SeenFile). f.told) (handed_in (seen_by content size faults reads mark) hs)
-    ≡ for_each content hs
-told-each content size faults reads mark [] = refl
-told-each content size faults reads mark (h ∷ hs) =
-    ap (λ o. option_and_then (λ y. option_and_then (λ ys. Some (y ∷ ys)) o) (content h))
-    (told-each content size faults reads mark hs)
+-- parts tell what the inputs tell
+told-each : {H : Type 0} (see : H → SeenFile) (hs : List H) → all_told (handed_in see hs) ≡ all_told (map see hs)
+told-each see [] = refl
+told-each see (h ∷ hs) = ap (λ o. option_and_then (λ y. option_and_then (λ ys. Some (y ∷ ys)) o) (see h).told) (told-each see hs)
 
 -- what a script comes to, where its segments have these files
-pub script-made : {H : Type 0} (content : H → Told) (size faults reads mark : H → ℕ) (olds : List H)
-    (news : List SeenFile) (s : Script) (short : Bool) (finds : List Find) (files : List (List ℕ))
-    (required : List Required) (rows : Option (List (ℕ × ℕ))) (result : Result FileAndReport ColumnarError)
+pub script-made : {H : Type 0} (see : H → SeenFile) (olds : List H) (news : List SeenFile) (s : Script) (short : Bool)
+    (finds : List Find) (files : List (List ℕ)) (required : List Required) (rows : Option (List (ℕ × ℕ)))
+    (result : Result FileAndReport ColumnarError)
     → Makes (λ tables (fs : List (List ℕ)). AllZip StandsFor tables fs) (Ok files)
     (each_ok segment_table s.segments) → s.required ≡ required → s.order ≡ rows → s.finds ≡ finds
-    → MergesInputs (IsMade short finds) (handed_in (seen_by content size faults reads mark) olds) news files
-    required rows result
-    → IfSome (for_each content olds) (λ inputs. MakesIfRead (IsMade short s.finds) result (script_table inputs s))
-script-made content size faults reads mark olds news s short finds files required rows result makes same_required
-    same_rows same_finds merges = by makes.ok
+    → MergesInputs (IsMade short finds) (handed_in see olds) news files required rows result
+    → IfSome (all_told (map see olds)) (λ inputs. MakesIfRead (IsMade short s.finds) result (script_table inputs s))
+script-made see olds news s short finds files required rows result makes same_required same_rows same_finds merges = by makes.ok
   where
     in_script : (tables : List Table) → each_ok segment_table s.segments ≡ Ok tables → (inputs : List (List ℕ))
         → MakesIfRead (IsMade short finds) result (inputs_table inputs tables required rows)
@@ -284,9 +277,9 @@ script-made content size faults reads mark olds news s short finds files require
     over (Some inputs) tables segments h = in_script tables segments inputs h
 
     by : ((tables : List Table) × (each_ok segment_table s.segments ≡ Ok tables) × AllZip StandsFor tables files)
-        → IfSome (for_each content olds)
+        → IfSome (all_told (map see olds))
         (λ inputs. MakesIfRead (IsMade short s.finds) result (script_table inputs s))
     by (tables, segments, stand) =
-        over (for_each content olds) tables segments (subst (λ o. IfSome o
+        over (all_told (map see olds)) tables segments (subst (λ o. IfSome o
         (λ inputs. MakesIfRead (IsMade short finds) result (inputs_table inputs tables required rows)))
-        (told-each content size faults reads mark olds) (merges.made tables stand))
+        (told-each see olds) (merges.made tables stand))

@@ -14,8 +14,8 @@ use Rattle.col_model.specs.File.{Part, StandsFor}
 use Rattle.col_model.specs.Refusal.{Refusal}
 use Rattle.col_model.specs.Table.{Table}
 use Rattle.col_writer_columns.specs.Answers.{answer_of}
+use Rattle.col_common.proofs.OnOkLemmas.{same-error}
 use Rattle.col_outcome.specs.Making.{MakesIfRead, MergesReaders}
-use Rattle.col_outcome.proofs.InputLemmas.{same-error}
 
 -- what is known of told parts is known of these
 on_parts : (o : Option (List Part)) (parts : List Part) (P : List Part → Type 0) → o ≡ Some parts → IfSome o P → P parts

@@ -9,6 +9,7 @@ use Rattle.col_common.specs.declared.error.ColumnarError.{ColumnarError}
 use Rattle.col_common.specs.declared.error.ColumnarError.TheVariants.{OutOfMemory, ReadFault, BadOrder, TooLarge}
 use Rattle.col_file.specs.Readers.{SeenReader, IsRead}
 use Rattle.col_merge.specs.Parts.{told_part, told_parts}
+use Rattle.col_merge_plan.specs.Slots.{counts_read}
 use Rattle.col_merge.specs.Turns.{refusal_of}
 use Rattle.col_model.specs.File.{Part, parts_of, part_column, StandsFor, table_of}
 use Rattle.col_model.specs.Keys.{FileKeys, keys}
@@ -21,10 +22,9 @@ use Rattle.col_model.specs.Script.{Find}
 use Rattle.col_model.specs.Table.{Table}
 use Rattle.col_writer_columns.specs.Answers.{MayRefuse}
 use Rattle.col_merge.proofs.MergedLemmas.{merged-bad_order}
-use Rattle.col_outcome.specs.Inputs.{num_rows_of}
+use Rattle.col_common.proofs.OnOkLemmas.{same-error}
 use Rattle.col_outcome.specs.Making.{MakesIfRead, MergesReaders, IsMergeRefusal, IsMade}
-use Rattle.col_outcome.proofs.InputLemmas.{same-error}
-use Rattle.col_outcome.proofs.StayLemmas.{all_stay-none}
+use Rattle.col_merge.proofs.ReadingLemmas.{all_read-none}
 use Rattle.col_outcome.specs.Ordered.{IsOrder}
 use Rattle.col_outcome.specs.declared.merging.FileAndReport.{FileAndReport}
 
@@ -43,14 +43,14 @@ rows-part (Some bytes) k p read e = by (keys bytes) read e
 
 -- the rows of all files
 counts-are : (rs : List SeenReader) (parts : List Part) → AllByRecursion IsRead rs → told_parts rs ≡ Some parts
-    → map num_rows_of rs ≡ row_counts parts
+    → counts_read rs ≡ row_counts parts
 counts-are [] parts read e = ap row_counts (same_Some [] parts e)
 counts-are (r ∷ rs) parts read e = by (told_part r) refl (told_parts rs) refl e (λ ps rest. counts-are rs ps read.1 rest)
   where
     by : (o : Option Part) → told_part r ≡ o → (q : Option (List Part)) → told_parts rs ≡ q
         → (o >>= λ y. q >>= λ ys. Some (y ∷ ys)) ≡ Some parts
-        → ((ps : List Part) → told_parts rs ≡ Some ps → map num_rows_of rs ≡ row_counts ps)
-        → map num_rows_of (r ∷ rs) ≡ row_counts parts
+        → ((ps : List Part) → told_parts rs ≡ Some ps → counts_read rs ≡ row_counts ps)
+        → counts_read (r ∷ rs) ≡ row_counts parts
     by None at q rest h later = cc
     by (Some p) at None rest h later = cc
     by (Some p) at (Some ps) rest h later =
@@ -75,7 +75,7 @@ large_no_fault h = cc
 -- a refusal of the order is one of the merge, with nothing read
 pub order-refused : {B : Type 0} (IsOf : Table → B → Type 0) (rs : List SeenReader) (required : List Required)
     (rows : Option (List (ℕ × ℕ))) (e : ColumnarError) → AllByRecursion IsRead rs
-    → IsOrder rows (map num_rows_of rs) (Err e)
+    → IsOrder rows (counts_read rs) (Err e)
     → MergesReaders {B = B} IsOf rs rs (Err e) (λ parts. merged parts required (order_over rows (row_counts parts)))
 order-refused {B = B} IsOf rs required rows e read h = record {
   made =
@@ -85,7 +85,7 @@ order-refused {B = B} IsOf rs required rows e read h = record {
       };
   known = known h;
   read_fault = λ fault. absurd (no_fault h (same-error e ReadFault fault));
-  stay = all_stay-none rs;
+  stay = all_read-none (λ k. length k.entries) rs;
 }
   where
     by : (parts : List Part) → IsOrder rows (row_counts parts) (Err e)
@@ -99,26 +99,26 @@ order-refused {B = B} IsOf rs required rows e read h = record {
           large.0,
         )
 
-    known : IsOrder rows (map num_rows_of rs) (Err e) → IsMergeRefusal e
+    known : IsOrder rows (counts_read rs) (Err e) → IsMergeRefusal e
     known (inl memory) = inl memory
     known (inr (inl bad)) = inr (inr (bad_order, ap refusal_of bad.0))
     known (inr (inr large)) = inr (inr (too_large, ap refusal_of large.0))
 
-    no_fault : IsOrder rows (map num_rows_of rs) (Err e) → e ≡ ReadFault → ⊥
+    no_fault : IsOrder rows (counts_read rs) (Err e) → e ≡ ReadFault → ⊥
     no_fault (inl memory) fault = memory_no_fault (sym memory ∙ fault)
     no_fault (inr (inl bad)) fault = bad_no_fault (sym bad.0 ∙ fault)
     no_fault (inr (inr large)) fault = large_no_fault (sym large.0 ∙ fault)
 
 -- the order that a merge takes
 same-order : (rs : List SeenReader) (parts : List Part) (rows : Option (List (ℕ × ℕ))) (order : Order)
-    → AllByRecursion IsRead rs → told_parts rs ≡ Some parts → order ≡ order_over rows (map num_rows_of rs)
+    → AllByRecursion IsRead rs → told_parts rs ≡ Some parts → order ≡ order_over rows (counts_read rs)
     → order ≡ order_over rows (row_counts parts)
 same-order rs parts rows order read told is = is ∙ ap (order_over rows) (counts-are rs parts read told)
 
 -- a refusal of the merged file is one of the file and its report
 pub file-refused : {B : Type 0} (IsOf : Table → B → Type 0) (rs ss : List SeenReader) (required : List Required)
     (rows : Option (List (ℕ × ℕ))) (order : Order) (e : ColumnarError) → AllByRecursion IsRead rs
-    → order ≡ order_over rows (map num_rows_of rs)
+    → order ≡ order_over rows (counts_read rs)
     → MergesReaders {B = List ℕ} StandsFor rs ss (Err e) (λ parts. merged parts required order)
     → MergesReaders {B = B} IsOf rs ss (Err e) (λ parts. merged parts required (order_over rows (row_counts parts)))
 file-refused IsOf rs ss required rows order e read is h = record {
@@ -136,7 +136,7 @@ file-refused IsOf rs ss required rows order e read is h = record {
 -- a merged file with the report of its table is what the merge comes to
 pub all-made : (short : Bool) (finds : List Find) (rs ss : List SeenReader) (required : List Required)
     (rows : Option (List (ℕ × ℕ))) (order : Order) (made : FileAndReport) → AllByRecursion IsRead rs
-    → order ≡ order_over rows (map num_rows_of rs)
+    → order ≡ order_over rows (counts_read rs)
     → MergesReaders StandsFor rs ss (Ok made.file) (λ parts. merged parts required order)
     → ((t : Table) → table_of made.file ≡ Some t → made.report.items ≡ report_of t finds short)
     → MergesReaders (IsMade short finds) rs ss (Ok made)

@@ -5,12 +5,14 @@ use Rattle.std.proofs.Math.Seq.{take-suc}
 use Rattle.std.proofs.lemmas.List.{map-append, reverse-append, append-nil, append_assoc}
 use Rattle.col_common.specs.declared.error.ColumnarError.{ColumnarError}
 use Rattle.col_common.specs.declared.error.ColumnarError.TheVariants.{ReadFault}
-use Rattle.col_file.specs.Files.{SeenFile, ReadsFile, RefusesFile}
+use Rattle.col_common.specs.Outside.{SeenFile}
+use Rattle.col_file.specs.Files.{ReadsFile, RefusesFile}
 use Rattle.col_file.specs.Readers.{SeenReader}
 use Rattle.col_model.specs.Keys.{keys}
+use Rattle.col_common.proofs.OnOkLemmas.{same-error}
 use Rattle.col_outcome.specs.Inputs.{IsOpened, OpensInputs, OpensFiles}
 use Rattle.col_outcome.specs.Parts.{given, handed_in, given_in, files_in, all_files, IsUnfailed, AllKeep}
-use Rattle.col_outcome.proofs.InputLemmas.{inputs-refused, fault-rose, same-error}
+use Rattle.col_outcome.proofs.InputLemmas.{inputs-refused, fault-rose}
 use Rattle.col_outcome.proofs.MadeFileLemmas.{zip-more}
 use Rattle.col_outcome.proofs.PartLemmas.{keeps-read, all_keep-none, all_keep-append, some_rose-behind, given-first, given-one, made-one, given-pushed, handed-pushed}
 

@@ -1,18 +1,17 @@
 -- Files that were handed in, among others and in lists.
-use Rattle.std.proofs.Common.{◌≡◌, ◌≤◌, ℕ, zero, suc, List, [], ◌∷◌, ◌++◌, map, reverse, length, get_or, cond, refl, ap, ap₂, ◌∙◌, arith, inl, inr}
+use Rattle.std.proofs.Common.{◌≡◌, ℕ, suc, List, [], ◌∷◌, ◌++◌, map, reverse, length, cond, refl, ap, ◌∙◌, arith, inl, inr}
 use Rattle.std.proofs.lemmas.List.{map-append, reverse-append}
 use Rattle.std.proofs.lemmas.List.Elements.{filter-append}
 use Rattle.col_common.specs.Causes.{Rose}
-use Rattle.col_common.specs.Outside.{Told}
-use Rattle.col_file.specs.Files.{SeenFile, seen_by, ReadsFile}
+use Rattle.col_common.specs.Outside.{SeenFile}
+use Rattle.col_file.specs.Files.{ReadsFile}
 use Rattle.col_file.specs.Readers.{SeenReader}
 use Rattle.col_merge.proofs.ReadingLemmas.{rose-later}
-use Rattle.col_outcome.specs.HandedBack.{HandedBack, SomeRose}
 use Rattle.col_outcome.specs.Parts.{given, handed_in, is_given, is_above_zero, given_in, files_in, KeepsFile, AllKeep, SomeFileRose}
 
 -- ---- files that stay
 
-pub keeps-itself : (f : SeenFile) → KeepsFile f f
+keeps-itself : (f : SeenFile) → KeepsFile f f
 keeps-itself f = record { told = refl; size = refl; later = omega arith; mark = refl }
 
 keeps-then : (f g h : SeenFile) → KeepsFile f g → KeepsFile g h → KeepsFile f h
@@ -115,44 +114,29 @@ handed-pushed see left more h grown = ap (λ hs. handed_in see (reverse hs)) gro
 
 -- ---- files that are handed back
 
--- files that are kept are handed back as they came
-pub handed : {H : Type 0} (content : H → Told) (size faults reads mark : H → ℕ) (olds news : List H)
-    → AllKeep (handed_in (seen_by content size faults reads mark) olds)
-    (handed_in (seen_by content size faults reads mark) news) → HandedBack content size faults olds news
-handed content size faults reads mark [] [] h = record { same_content = refl; same_size = refl; no_fewer = λ i. omega arith }
-handed content size faults reads mark [] (y ∷ news) h = absurd h
-handed content size faults reads mark (x ∷ olds) [] h = absurd h
-handed content size faults reads mark (x ∷ olds) (y ∷ news) h =
-    let rest = handed content size faults reads mark olds news h.1 in record {
-      same_content = ap₂ (λ t ts. t ∷ ts) h.0.told rest.same_content;
-      same_size = ap₂ (λ n ns. n ∷ ns) h.0.size rest.same_size;
-      no_fewer = by rest.no_fewer;
-    }
-  where
-    by : ((i : ℕ) → get_or (map faults olds) i 0 ≤ get_or (map faults news) i 0) → (i : ℕ)
-        → get_or (map faults (x ∷ olds)) i 0 ≤ get_or (map faults (y ∷ news)) i 0
-    by later zero = h.0.later
-    by later (suc i) = later i
-
 same-suc : (a b : ℕ) → suc a ≡ suc b → a ≡ b
 same-suc a b e = omega (arith, e)
 
--- files that are kept have the marks that they had
-pub handed-marks : {H : Type 0} (content : H → Told) (size faults reads mark : H → ℕ) (olds news : List H)
-    → AllKeep (handed_in (seen_by content size faults reads mark) olds)
-    (handed_in (seen_by content size faults reads mark) news) → map mark news ≡ map mark olds
-handed-marks content size faults reads mark [] [] h = refl
-handed-marks content size faults reads mark [] (y ∷ news) h = absurd h
-handed-marks content size faults reads mark (x ∷ olds) [] h = absurd h
-handed-marks content size faults reads mark (x ∷ olds) (y ∷ news) h =
-    ap₂ (λ n ns. n ∷ ns) (same-suc (mark y) (mark x) h.0.mark) (handed-marks content size faults reads mark olds news h.1)
+-- files that are kept as parts are kept
+pub kept-seen : {H : Type 0} (see : H → SeenFile) (olds news : List H)
+    → AllKeep (handed_in see olds) (handed_in see news) → AllKeep (map see olds) (map see news)
+kept-seen see [] [] h = tt
+kept-seen see [] (y ∷ news) h = absurd h
+kept-seen see (x ∷ olds) [] h = absurd h
+kept-seen see (x ∷ olds) (y ∷ news) h = (
+  record {
+    told = h.0.told;
+    size = h.0.size;
+    later = h.0.later;
+    mark = same-suc (see y).mark (see x).mark h.0.mark;
+  },
+  kept-seen see olds news h.1,
+)
 
--- where some file's count of faults rose among those handed in, it rose among their counts
-pub handed-rose : {H : Type 0} (content : H → Told) (size faults reads mark : H → ℕ) (olds news : List H)
-    → SomeFileRose (handed_in (seen_by content size faults reads mark) olds)
-    (handed_in (seen_by content size faults reads mark) news) → SomeRose (map faults olds) (map faults news)
-handed-rose content size faults reads mark [] news h = absurd h
-handed-rose content size faults reads mark (x ∷ olds) [] h = absurd h
-handed-rose content size faults reads mark (x ∷ olds) (y ∷ news) (inl rose) = (0, omega arith, rose)
-handed-rose content size faults reads mark (x ∷ olds) (y ∷ news) (inr more) =
-    let r = handed-rose content size faults reads mark olds news more in (suc r.0, omega (arith, r.1), r.2)
+-- where the count of some part rose, that of its file did
+pub rose-seen : {H : Type 0} (see : H → SeenFile) (olds news : List H)
+    → SomeFileRose (handed_in see olds) (handed_in see news) → SomeFileRose (map see olds) (map see news)
+rose-seen see [] news h = absurd h
+rose-seen see (x ∷ olds) [] h = absurd h
+rose-seen see (x ∷ olds) (y ∷ news) (inl rose) = inl rose
+rose-seen see (x ∷ olds) (y ∷ news) (inr more) = inr (rose-seen see olds news more)

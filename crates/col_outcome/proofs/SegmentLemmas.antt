@@ -10,8 +10,8 @@ use Rattle.col_model.specs.File.{StandsFor}
 use Rattle.col_model.specs.Refusal.{Refusal}
 use Rattle.col_model.specs.Table.{Table}
 use Rattle.col_writer_columns.specs.Answers.{answer_of}
+use Rattle.col_common.proofs.OnOkLemmas.{same-error}
 use Rattle.col_outcome.specs.Making.{Makes}
-use Rattle.col_outcome.proofs.InputLemmas.{same-error}
 
 -- bytes that were written are the file
 pub bytes-made : (expected : Result Table Refusal) (xs ys bytes : List ℕ) (done : Unit {0}) → xs ≡ [] → bytes ≡ ys

@@ -3,29 +3,19 @@ use Rattle.std.proofs.Common.{◌≡◌, ℕ, zero, suc, List, [], ◌∷◌, re
 use Rattle.std.specs.List.{AllByRecursion}
 use Rattle.std.proofs.lemmas.Option.{same_Some}
 use Rattle.col_common.specs.Causes.{Rose}
-use Rattle.col_file.specs.Files.{SeenFile}
+use Rattle.col_common.specs.Outside.{SeenFile}
 use Rattle.col_file.specs.Readers.{SeenReader}
-use Rattle.col_merge.specs.Readings.{Stays, AllStay, SomeReaderRose}
+use Rattle.col_merge.specs.Readings.{AllStay, SomeReaderRose}
 use Rattle.col_outcome.specs.Parts.{handed_in, given_in, files_in, all_files, IsUnfailed, KeepsFile, AllKeep, SomeFileRose}
-use Rattle.col_outcome.proofs.PartLemmas.{all_keep-none, all_keep-then, all_keep-append, given-first, made-first}
-
--- readers stay as they are
-pub all_stay-none : (rs : List SeenReader) → AllStay rs rs
-all_stay-none [] = tt
-all_stay-none (r ∷ rs) = (
-  record { told = refl; size = refl; later = omega arith; reads = omega arith; keys = refl; mark = refl },
-  all_stay-none rs,
-)
-
-keeps-stay : (times : ℕ) (r s : SeenReader) → Stays times r s → KeepsFile r.file s.file
-keeps-stay times r s h = record { told = h.told; size = h.size; later = h.later; mark = h.mark }
+use Rattle.col_outcome.proofs.PartLemmas.{keeps-read, all_keep-none, all_keep-then, all_keep-append, given-first, made-first}
 
 -- files that were handed in stay among others
 stay-keep : (rs ss : List SeenReader) → AllStay rs ss → AllKeep (given_in (files_in rs)) (given_in (files_in ss))
 stay-keep [] [] h = tt
 stay-keep [] (s ∷ ss) h = absurd h
 stay-keep (r ∷ rs) [] h = absurd h
-stay-keep (r ∷ rs) (s ∷ ss) h = by r.file.mark refl h.0.mark (keeps-stay (length r.keys.entries) r s h.0) (stay-keep rs ss h.1)
+stay-keep (r ∷ rs) (s ∷ ss) h =
+    by r.file.mark refl h.0.file.mark (keeps-read (length r.keys.entries) r.file s.file h.0.file) (stay-keep rs ss h.1)
   where
     by : (m : ℕ) → r.file.mark ≡ m → s.file.mark ≡ r.file.mark → KeepsFile r.file s.file
         → AllKeep (given_in (files_in rs)) (given_in (files_in ss))
@@ -56,7 +46,7 @@ rose-at : (rs ss : List SeenReader) (at : ℕ) (old new : SeenReader) → slice_
 rose-at [] ss zero old new was is rose stay unfailed = cc
 rose-at [] ss (suc at) old new was is rose stay unfailed = cc
 rose-at (r ∷ rs) [] at old new was is rose stay unfailed = absurd stay
-rose-at (r ∷ rs) (s ∷ ss) zero old new was is rose stay unfailed = by r.file.mark refl stay.0.mark
+rose-at (r ∷ rs) (s ∷ ss) zero old new was is rose stay unfailed = by r.file.mark refl stay.0.file.mark
   where
     here : Rose r.file.faults s.file.faults
     here = rw (← same_Some r old was, ← same_Some s new is) at rose
@@ -65,7 +55,7 @@ rose-at (r ∷ rs) (s ∷ ss) zero old new was is rose stay unfailed = by r.file
     by zero e same = absurd (unfailed-still r.file.faults s.file.faults (unfailed.0 (same ∙ e)) here)
     by (suc n) e same = rw (same, e) (inl here)
 rose-at (r ∷ rs) (s ∷ ss) (suc at) old new was is rose stay unfailed =
-    by r.file.mark refl stay.0.mark (rose-at rs ss at old new was is rose stay.1 unfailed.1)
+    by r.file.mark refl stay.0.file.mark (rose-at rs ss at old new was is rose stay.1 unfailed.1)
   where
     by : (m : ℕ) → r.file.mark ≡ m → s.file.mark ≡ r.file.mark
         → SomeFileRose (given_in (files_in rs)) (given_in (files_in ss))

@@ -3,10 +3,10 @@ use Rattle.std.specs.Prelude.{◌≡◌, ◌⊎◌, ℕ, Bool, true, false, List
 use Rattle.std.specs.List.{AllZip, list_any}
 use Rattle.col_common.specs.declared.error.ColumnarError.{ColumnarError}
 use Rattle.col_common.specs.declared.error.ColumnarError.TheVariants.{OutOfMemory, ReadFault, InvalidData}
-use Rattle.col_model.specs.File.{parts_of, for_each}
-use Rattle.col_file.specs.Files.{SeenFile}
+use Rattle.col_model.specs.File.{parts_of}
+use Rattle.col_common.specs.Outside.{SeenFile}
 use Rattle.col_file.specs.Readers.{SeenReader}
-use Rattle.col_outcome.specs.Parts.{KeepsFile, AllKeep, SomeFileRose}
+use Rattle.col_outcome.specs.Parts.{KeepsFile, AllKeep, SomeFileRose, all_told}
 
 -- the bytes are no file
 abbrev pub is_no_file : List ℕ → Bool
@@ -26,7 +26,7 @@ pub record IsOpened (f : SeenFile) (r : SeenReader) : Type 0 where
 -- Why files aren't all opened: InvalidData says that one is no file.
 abbrev pub RefusesInputs : List SeenFile → ColumnarError → Type 0
 RefusesInputs fs e = (e ≡ OutOfMemory) ⊎ ((e ≡ ReadFault) ⊎ ((e ≡ InvalidData)
-    × IfSome (for_each (λ f. f.told) fs) (λ files. list_any is_no_file files ≡ true)))
+    × IfSome (all_told fs) (λ files. list_any is_no_file files ≡ true)))
 
 -- Files were opened in order; or one refused, and all are held still.
 pub record OpensInputs (fs : List SeenFile) (result : Result (Unit {0}) ColumnarError)
@@ -41,7 +41,3 @@ pub record OpensFiles (files : List (List ℕ)) (olds news : List SeenReader) : 
   pub made : List SeenReader
   pub behind : news ≡ olds ++ made
   pub told : AllZip (λ bytes (r : SeenReader). r.file.told ≡ Some bytes) files made
-
--- how many rows a file has
-abbrev pub num_rows_of : SeenReader → ℕ
-num_rows_of r = r.keys.row_count

@@ -1,5 +1,4 @@
 pub mod Parts
-pub mod HandedBack
 pub mod InMemory
 pub mod Inputs
 pub mod Making

@@ -3,7 +3,7 @@ use Rattle.std.specs.Prelude.{◌≡◌, ◌⊎◌, ⊤, ℕ, Bool, List, ◌++�
 use Rattle.std.specs.List.{AllZip}
 use Rattle.col_common.specs.declared.error.ColumnarError.{ColumnarError}
 use Rattle.col_common.specs.declared.error.ColumnarError.TheVariants.{OutOfMemory, ReadFault}
-use Rattle.col_model.specs.File.{Part, StandsFor, part_of_table, parts_of, for_each}
+use Rattle.col_model.specs.File.{Part, StandsFor, part_of_table, parts_of}
 use Rattle.col_model.specs.Merge.{Required, merged, row_counts}
 use Rattle.col_model.specs.Outcome.{order_over}
 use Rattle.col_model.specs.Refusal.{Refusal, ◌>>=◌, or_refuse, each_ok, invalid_data}
@@ -11,12 +11,12 @@ use Rattle.col_model.specs.Report.{report_of}
 use Rattle.col_model.specs.Script.{Find}
 use Rattle.col_model.specs.Table.{Table}
 use Rattle.col_writer_columns.specs.Answers.{answer_of, MayRefuse}
-use Rattle.col_file.specs.Files.{SeenFile}
+use Rattle.col_common.specs.Outside.{SeenFile}
 use Rattle.col_file.specs.Readers.{SeenReader}
 use Rattle.col_merge.specs.Parts.{told_part, told_parts}
 use Rattle.col_merge.specs.Readings.{AllStay, SomeReaderRose}
 pub use Rattle.col_merge.specs.Turns.{refusal_of}
-use Rattle.col_outcome.specs.Parts.{AllKeep, SomeFileRose}
+use Rattle.col_outcome.specs.Parts.{AllKeep, SomeFileRose, all_told}
 use Rattle.col_outcome.specs.declared.merging.FileAndReport.{FileAndReport}
 
 -- What was made is of what is expected; or the refusal is the one that is expected, or want of
@@ -87,7 +87,7 @@ pub record MergesInputs (IsOf : Table → FileAndReport → Type 0) (olds news :
     (files : List (List ℕ)) (required : List Required) (rows : Option (List (ℕ × ℕ)))
     (result : Result FileAndReport ColumnarError) : Type 0 where
   pub made : (tables : List Table) → AllZip StandsFor tables files →
-      IfSome (for_each (λ f. f.told) olds) (λ inputs.
+      IfSome (all_told olds) (λ inputs.
       MakesIfRead IsOf result (inputs_table inputs tables required rows))
   pub known : IfErr result IsMergeRefusal
   pub read_fault : result ≡ Err ReadFault → SomeFileRose olds news

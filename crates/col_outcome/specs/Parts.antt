@@ -1,51 +1,12 @@
 -- Files that were handed in, and files that were made.
-use Rattle.std.specs.Prelude.{◌≡◌, ◌≤◌, ◌⊎◌, ℕ, zero, suc, Bool, true, false, List, [], ◌∷◌, ◌++◌, map, filter, reverse, length, Some, IfSome, refl}
+use Rattle.std.specs.Prelude.{◌≡◌, ◌≤◌, ◌⊎◌, ℕ, zero, suc, Bool, true, false, List, [], ◌∷◌, ◌++◌, map, filter, reverse, Option, refl}
 use Rattle.std.specs.List.{AllZip}
 use Rattle.col_common.specs.Causes.{Rose}
-use Rattle.col_common.specs.Outside.{Told}
-use Rattle.col_file.specs.Files.{SeenFile, seen_by}
+use Rattle.col_common.specs.Outside.{SeenFile, IsToldWhole, told_file}
 use Rattle.col_file.specs.Readers.{SeenReader}
+use Rattle.col_model.specs.File.{for_each}
 use Rattle.col_outcome.specs.declared.part.Part.{Part}
 use Rattle.col_outcome.specs.declared.part.Part.TheVariants.{Given, Made}
-
--- the bytes of a file, where it tells them
-abbrev pub part_content : {H : Type 0} → (H → Told) → Part H → Told
-part_content content (Given h) = content h
-part_content content (Made m) = Some m.bytes
-
--- how many bytes it has
-abbrev pub part_size : {H : Type 0} → (H → ℕ) → Part H → ℕ
-part_size size (Given h) = size h
-part_size size (Made m) = length m.bytes
-
--- how often it has failed, which a made one never does
-abbrev pub part_faults : {H : Type 0} → (H → ℕ) → Part H → ℕ
-part_faults faults (Given h) = faults h
-part_faults faults (Made m) = 0
-
--- how often it has been read
-abbrev pub part_reads : {H : Type 0} → (H → ℕ) → Part H → ℕ
-part_reads reads (Given h) = reads h
-part_reads reads (Made m) = m.calls.made
-
--- its mark, which is 0 of a made one alone
-abbrev pub part_mark : {H : Type 0} → (H → ℕ) → Part H → ℕ
-part_mark mark (Given h) = suc (mark h)
-part_mark mark (Made m) = 0
-
--- all that contracts see of it
-abbrev pub part_seen : {H : Type 0} → (H → Told) → (H → ℕ) → (H → ℕ) → (H → ℕ) → (H → ℕ) →
-    Part H → SeenFile
-part_seen content size faults reads mark =
-    seen_by (part_content content) (part_size size) (part_faults faults) (part_reads reads)
-    (part_mark mark)
-
--- what it tells is as long as it is
-pub part_told_whole : {H : Type 0} (content : H → Told) (size : H → ℕ) →
-    ((h : H) → IfSome (content h) (λ bytes. length bytes ≡ size h)) → (p : Part H) →
-    IfSome (part_content content p) (λ bytes. length bytes ≡ part_size size p)
-part_told_whole content size whole (Given h) = whole h
-part_told_whole content size whole (Made m) = refl
 
 -- a file that was handed in, as a part is seen
 abbrev pub given : SeenFile → SeenFile
@@ -57,7 +18,22 @@ given f = record {
   mark = suc f.mark;
 }
 
--- the same of each
+-- what contracts see of a part; a made one never fails
+abbrev pub seen_as_part : {H : Type 0} → (H → SeenFile) → Part H → SeenFile
+seen_as_part see (Given h) = given (see h)
+seen_as_part see (Made m) = told_file m.bytes 0 m.calls.made
+
+-- what it tells is as long as it is
+pub part_told_whole : {H : Type 0} (see : H → SeenFile) → ((h : H) → IsToldWhole (see h)) →
+    (p : Part H) → IsToldWhole (seen_as_part see p)
+part_told_whole see whole (Given h) = whole h
+part_told_whole see whole (Made m) = refl
+
+-- the bytes of files, where each tells its own
+abbrev pub all_told : List SeenFile → Option (List (List ℕ))
+all_told fs = for_each (λ f. f.told) fs
+
+-- files that were handed in, as parts are seen
 abbrev pub handed_in : {H : Type 0} → (H → SeenFile) → List H → List SeenFile
 handed_in see hs = map (λ h. given (see h)) hs
 

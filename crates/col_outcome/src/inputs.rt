@@ -1,14 +1,13 @@
 //! The inputs of a run, and files in memory, as open files.
-ghost use Rattle.std.specs.Prelude.{◌≡◌, ◌≤◌, ◌+◌, [], ◌∷◌, map, length, reverse, vec_len, vec_capacity, IfOk};
+ghost use Rattle.std.specs.Prelude.{◌≡◌, ◌≤◌, ◌+◌, [], ◌∷◌, length, reverse, vec_len, vec_capacity, IfOk};
 ghost use Rattle.std.specs.List.{AllByRecursion};
-ghost use Rattle.col_file.specs.Files.{seen_by};
-ghost use Rattle.col_outcome.specs.Inputs.{IsOpenedFrom, OpensFiles, OpensInputs, num_rows_of};
-ghost use Rattle.col_outcome.specs.Parts.{files_in, given_in, handed_in, all_files, part_seen, IsUnfailed};
+ghost use Rattle.col_outcome.specs.Inputs.{IsOpenedFrom, OpensFiles, OpensInputs};
+ghost use Rattle.col_outcome.specs.Parts.{files_in, given_in, handed_in, all_files, seen_as_part, IsUnfailed};
 
 use crate::in_memory::in_memory_alone;
 use crate::part::{Part, hand_back_one};
 use bytes::Bytes;
-use col_common::{ColumnarError, FileHandle, MemHandle, RowId};
+use col_common::{ColumnarError, FileHandle, MemHandle};
 use col_file::ColumnarReader;
 use std::alloc::{AllocError, Global};
 
@@ -24,10 +23,8 @@ pub fn open_inputs<H: FileHandle>(
 ) -> Result<(), ColumnarError>
     requires none { readers.old.items ≡ [] }
     requires room { vec_len left.old ≤ vec_capacity readers.old }
-    ensures opens { OpensInputs
-        (handed_in (seen_by H.content H.size H.faults H.reads H.mark) (reverse left.old.items))
-        result readers.new.items
-        (all_files (seen_by H.content H.size H.faults H.reads H.mark) readers.new.items left.new.items) }
+    ensures opens { OpensInputs (handed_in H.seen (reverse left.old.items)) result
+        readers.new.items (all_files H.seen readers.new.items left.new.items) }
     ensures len { IfOk result (λ _. vec_len left.new ≡ 0) }
     ensures left_room { vec_capacity left.new ≡ vec_capacity left.old }
     ensures room { vec_capacity readers.new ≡ vec_capacity readers.old }
@@ -70,7 +67,7 @@ pub fn open_files<H: FileHandle>(
 
 // Lets a made file go.
 fn let_go<H: FileHandle>(file: Part<H>)
-    requires { given_in (part_seen H.content H.size H.faults H.reads H.mark file ∷ []) ≡ [] }
+    requires { given_in (seen_as_part H.seen file ∷ []) ≡ [] }
 {
     match file {
         Part::Given(_) => unreachable!(),
@@ -83,8 +80,8 @@ fn let_go<H: FileHandle>(file: Part<H>)
 pub fn hand_back<H: FileHandle>(readers: Vec<ColumnarReader<Part<H>>>, left: &mut Vec<H>)
     requires { length (given_in (files_in readers.items)) + vec_len left.old
         ≤ vec_capacity left.old }
-    ensures handed { handed_in (seen_by H.content H.size H.faults H.reads H.mark) left.new.items
-        ≡ all_files (seen_by H.content H.size H.faults H.reads H.mark) readers.items left.old.items }
+    ensures handed { handed_in H.seen left.new.items
+        ≡ all_files H.seen readers.items left.old.items }
     ensures unfailed { AllByRecursion IsUnfailed (files_in readers.items) }
 {
     let mut readers = readers;
@@ -104,18 +101,4 @@ pub fn open_file(alloc: Global, bytes: Bytes) -> Result<Reader, ColumnarError>
         Ok(reader) => Ok(reader),
         Err((_, error)) => Err(in_memory_alone(error)),
     }
-}
-
-/// How many rows each file has.
-pub fn row_counts<F: FileHandle>(
-    alloc: Global,
-    readers: &[ColumnarReader<F>],
-) -> Result<Vec<RowId>, AllocError>
-    ensures { IfOk result (λ counts. counts.items ≡ map num_rows_of readers.now) }
-{
-    let mut counts = Vec::new(alloc);
-    for place in 0..readers.len() {
-        counts.push(readers[place].num_docs())?;
-    }
-    Ok(counts)
 }

@@ -1,8 +1,7 @@
 //! The merged file of a script and its inputs, and the report on it.
 ghost use Rattle.std.specs.Prelude.{◌≡◌, ◌≤◌, ◌+◌, [], map, length, reverse, vec_len, vec_capacity, Some, Err, IfOk, IfErr, IfSome, option_map};
 ghost use Rattle.std.specs.List.{AllByRecursion};
-ghost use Rattle.col_file.specs.Files.{seen_by};
-ghost use Rattle.col_model.specs.File.{StandsFor, table_of, for_each};
+ghost use Rattle.col_model.specs.File.{StandsFor, table_of};
 ghost use Rattle.col_model.specs.Merge.{merged, row_counts};
 ghost use Rattle.col_model.specs.Outcome.{order_over, script_table, segment_table};
 ghost use Rattle.col_model.specs.Refusal.{each_ok};
@@ -15,10 +14,9 @@ ghost use Rattle.col_order.specs.Orders.{address_of};
 ghost use Rattle.col_order.specs.RowOrders.{order_of};
 ghost use Rattle.col_script.specs.Scripts.{IsScript};
 ghost use Rattle.col_outcome.specs.Making.{MakesIfRead, MergesInputs, MergesReaders, IsMade, IsKnown, SegmentsDecide};
-ghost use Rattle.col_outcome.specs.HandedBack.{HandedBack, SomeRose};
-ghost use Rattle.col_outcome.specs.Parts.{files_in, handed_in, all_files, AllKeep, IsUnfailed};
+ghost use Rattle.col_outcome.specs.Parts.{files_in, handed_in, all_files, all_told, AllKeep, IsUnfailed, SomeFileRose};
 
-use crate::inputs::{hand_back, open_file, open_files, open_inputs, row_counts};
+use crate::inputs::{hand_back, open_file, open_files, open_inputs};
 use crate::order::merge_row_order;
 use crate::part::Part;
 use crate::segments::segment_files;
@@ -27,6 +25,7 @@ use col_common::{Buffer, ColumnarError, FileHandle, RowAddr};
 use col_file::{ColumnarReader, files_are_read};
 use col_lines::Find;
 use col_merge::merge_columnar;
+use col_merge_plan::row_counts;
 use col_order::MergeRowOrder;
 use col_report::write_report;
 use col_script::Script;
@@ -50,16 +49,15 @@ pub fn merge_and_report<H: FileHandle>(
     short: bool,
 ) -> Result<FileAndReport, ColumnarError>
     ensures made { (s : model.Script) → IsScript s script →
-        IfSome (for_each H.content inputs.old.items) (λ files.
+        IfSome (all_told (map H.seen inputs.old.items)) (λ files.
         MakesIfRead (IsMade short s.finds) result (script_table files s)) }
     ensures known { (s : model.Script) → IsScript s script → IfErr result IsKnown }
     ensures segments { (s : model.Script) → IsScript s script →
         SegmentsDecide (each_ok segment_table s.segments) result }
     ensures read_fault { (s : model.Script) → IsScript s script
         → result ≡ Err ColumnarError.ReadFault
-        → SomeRose (map H.faults inputs.old.items) (map H.faults inputs.new.items) }
-    ensures handles { HandedBack H.content H.size H.faults inputs.old.items inputs.new.items }
-    ensures marks { map H.mark inputs.new.items ≡ map H.mark inputs.old.items }
+        → SomeFileRose (map H.seen inputs.old.items) (map H.seen inputs.new.items) }
+    ensures handles { AllKeep (map H.seen inputs.old.items) (map H.seen inputs.new.items) }
 {
     let Script {
         segments,
@@ -83,8 +81,8 @@ fn merge_inputs<H: FileHandle>(
     short: bool,
 ) -> Result<FileAndReport, ColumnarError>
     ensures { MergesInputs (IsMade short (map find_of finds.now))
-        (handed_in (seen_by H.content H.size H.faults H.reads H.mark) inputs.old.items)
-        (handed_in (seen_by H.content H.size H.faults H.reads H.mark) inputs.new.items)
+        (handed_in H.seen inputs.old.items)
+        (handed_in H.seen inputs.new.items)
         files.now (required_of required.now)
         (option_map (λ v. map address_of v.items) rows) result }
 {
@@ -122,15 +120,13 @@ fn merge_opened<H: FileHandle>(
     requires room { vec_len left.old + length files.now ≤ vec_capacity readers.old }
     ensures merges { AllByRecursion IsUnfailed (files_in readers.new.items)
         → MergesInputs (IsMade short (map find_of finds.now))
-        (handed_in (seen_by H.content H.size H.faults H.reads H.mark) (reverse left.old.items))
-        (all_files (seen_by H.content H.size H.faults H.reads H.mark)
-        readers.new.items left.new.items)
+        (handed_in H.seen (reverse left.old.items))
+        (all_files H.seen readers.new.items left.new.items)
         files.now (required_of required.now)
         (option_map (λ v. map address_of v.items) rows) result }
     ensures kept { AllKeep
-        (handed_in (seen_by H.content H.size H.faults H.reads H.mark) (reverse left.old.items))
-        (all_files (seen_by H.content H.size H.faults H.reads H.mark)
-        readers.new.items left.new.items) }
+        (handed_in H.seen (reverse left.old.items))
+        (all_files H.seen readers.new.items left.new.items) }
     ensures room { vec_capacity left.new ≡ vec_capacity left.old }
 {
     open_inputs(alloc, left, readers)?;

@@ -1,7 +1,6 @@
 //! Files of a run: those that were handed in, and those that were made.
 ghost use Rattle.std.specs.Prelude.{◌≡◌, ◌≤◌, ◌+◌, [], ◌∷◌, ◌++◌, length, reverse, vec_len, vec_capacity};
-ghost use Rattle.col_file.specs.Files.{seen_by};
-ghost use Rattle.col_outcome.specs.Parts.{given_in, handed_in, part_seen, IsUnfailed};
+ghost use Rattle.col_outcome.specs.Parts.{given_in, handed_in, seen_as_part, IsUnfailed};
 
 use bytes::Bytes;
 use col_common::{FileHandle, HandleError, MemHandle};
@@ -16,21 +15,13 @@ pub enum Part<H> {
 }
 
 impl<H: FileHandle> FileHandle for Part<H> {
-    ghost use Rattle.std.specs.Prelude.{◌≡◌, ◌≤◌, ◌-◌, IfOk, IfSome, length, slice_range};
-    ghost use Rattle.col_common.specs.Causes.{counted, HasCause};
-    ghost use Rattle.col_outcome.specs.Parts.{part_content, part_size, part_faults, part_reads, part_mark, part_told_whole};
+    ghost use Rattle.std.specs.Prelude.{◌≤◌};
+    ghost use Rattle.col_common.specs.Outside.{ReadCuts};
+    ghost use Rattle.col_outcome.specs.Parts.{seen_as_part, part_told_whole};
 
-    ghost content = { part_content H.content };
+    ghost seen = { seen_as_part H.seen };
 
-    ghost size = { part_size H.size };
-
-    ghost faults = { part_faults H.faults };
-
-    ghost reads = { part_reads H.reads };
-
-    ghost mark = { part_mark H.mark };
-
-    ghost told_whole = { part_told_whole H.content H.size H.told_whole };
+    ghost told_whole = { part_told_whole H.seen H.told_whole };
 
     fn len(&self) -> u64 {
         match self {
@@ -53,17 +44,16 @@ impl<H: FileHandle> FileHandle for Part<H> {
 
 /// Puts a file that was handed in behind those that are handed back; a made one is let go.
 pub(crate) fn hand_back_one<H: FileHandle>(file: Part<H>, left: &mut Vec<H>)
-    requires { length (given_in (part_seen H.content H.size H.faults H.reads H.mark file ∷ []))
+    requires { length (given_in (seen_as_part H.seen file ∷ []))
         + vec_len left.old ≤ vec_capacity left.old }
-    ensures handed { handed_in (seen_by H.content H.size H.faults H.reads H.mark)
-        (reverse left.new.items)
-        ≡ given_in (part_seen H.content H.size H.faults H.reads H.mark file ∷ [])
-        ++ handed_in (seen_by H.content H.size H.faults H.reads H.mark) (reverse left.old.items) }
+    ensures handed { handed_in H.seen (reverse left.new.items)
+        ≡ given_in (seen_as_part H.seen file ∷ [])
+        ++ handed_in H.seen (reverse left.old.items) }
     ensures len { vec_len left.new
-        ≡ length (given_in (part_seen H.content H.size H.faults H.reads H.mark file ∷ []))
+        ≡ length (given_in (seen_as_part H.seen file ∷ []))
         + vec_len left.old }
     ensures capacity { vec_capacity left.new ≡ vec_capacity left.old }
-    ensures unfailed { IsUnfailed (part_seen H.content H.size H.faults H.reads H.mark file) }
+    ensures unfailed { IsUnfailed (seen_as_part H.seen file) }
 {
     match file {
         Part::Given(file) => left.push_reserved(file),

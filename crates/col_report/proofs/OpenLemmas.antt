@@ -10,12 +10,14 @@ use Rattle.col_model.specs.File.{for_each}
 use Rattle.col_model.specs.Keys.{Entry, FileKeys}
 use Rattle.col_model.specs.Table.{Content, Column}
 use Rattle.col_file.specs.Columns.{content_at, HasContent}
-use Rattle.col_file.specs.Files.{SeenFile, IsExpected, RefusesFile}
+use Rattle.col_common.specs.Outside.{SeenFile}
+use Rattle.col_file.specs.Files.{IsExpected, RefusesFile}
 use Rattle.col_file.specs.Handles.{Handle, handle_of, listed, is_entry}
 use Rattle.col_file.specs.Readers.{SeenReader, Reads}
+use Rattle.col_file.proofs.ReadLemmas.{reads-none, reads-then, reads-most}
 use Rattle.col_file.proofs.PartLemmas.{own-handles, content-of_entry}
 use Rattle.col_report.specs.Opened.{opened, entry_at, whole_entry}
-use Rattle.col_report.specs.declared.open.NamedColumn.{NamedColumn}
+use Rattle.col_report.specs.declared.open.OpenColumn.{OpenColumn}
 
 -- ---- the column of one entry
 
@@ -41,7 +43,7 @@ module _ (k : FileKeys) (e : Entry) (entry : is_entry k (handle_of e) ≡ true) 
   entry-refused old new _ h = absurd h
 
   -- a column of the entry
-  pub entry-answered : (told : Option (List ℕ)) (made : NamedColumn) → string_bytes made.name ≡ e.key.name
+  pub entry-answered : (told : Option (List ℕ)) (made : OpenColumn) → string_bytes made.name ≡ e.key.name
       → IfSome told
       (λ bytes. IsExpected (HasContent e.key.column_type) made.column (content_at k (handle_of e) bytes))
       → IfSome told (λ bytes. IsExpected (λ c column. opened column ≡ c) made (whole_entry bytes k e))
@@ -102,39 +104,6 @@ seen-listed : (ps : List Listed) → map entry_at (map (λ p. (string_bytes p.0,
 seen-listed [] = refl
 seen-listed (p ∷ ps) = ap (λ r. entry_listed p ∷ r) (seen-listed ps)
 
--- nothing was read
-pub reads-none : (r : SeenReader) → Reads 0 r r
-reads-none r = record {
-  file = record { told = refl; size = refl; later = omega arith; reads = omega arith; mark = refl };
-  keys = refl;
-}
-
--- reads one after another
-reads-then : (a b c : SeenReader) (n m : ℕ) → Reads n a b → Reads m b c → Reads (n + m) a c
-reads-then a b c n m before behind = record {
-  file = record {
-    told = behind.file.told ∙ before.file.told;
-    size = behind.file.size ∙ before.file.size;
-    later = omega (arith, before.file.later, behind.file.later);
-    reads = omega (arith, before.file.reads, behind.file.reads);
-    mark = behind.file.mark ∙ before.file.mark;
-  };
-  keys = behind.keys ∙ before.keys;
-}
-
--- fewer reads than may be
-pub reads-fewer : (a b : SeenReader) (n m : ℕ) → n ≤ m → Reads n a b → Reads m a b
-reads-fewer a b n m few reads = record {
-  file = record {
-    told = reads.file.told;
-    size = reads.file.size;
-    later = reads.file.later;
-    reads = omega (arith, few, reads.file.reads);
-    mark = reads.file.mark;
-  };
-  keys = reads.keys;
-}
-
 -- The columns so far of a reader as it was at first, and those that are left.
 pub record OpensFrom (old now : SeenReader) (left : List Listed) (made : List Column) : Type 0 where
   pub entries : AllByRecursion (λ e. is_entry old.keys (handle_of e) ≡ true) (map entry_listed left)
@@ -152,7 +121,7 @@ opens-none r ps e =
     record {
       entries = subst (AllByRecursion (λ e. is_entry r.keys (handle_of e) ≡ true)) (sym same) (own-handles r.keys);
       so_far = at same r.file.told;
-      reads = reads-none r;
+      reads = reads-none 0 r;
       few = omega (arith, length-map ps entry_listed, ap length same);
     }
   where
@@ -169,11 +138,11 @@ module _ (old now next : SeenReader) (x : Listed) (left : List Listed) (made : L
 
   -- one more was read, and no entry twice
   pub next-read : Reads 1 now next → Reads (length old.keys.entries) old next
-  next-read kept = reads-fewer old next (length made + 1) (length old.keys.entries) (omega (arith, was.few))
-      (reads-then old now next (length made) 1 was.reads kept)
+  next-read kept = reads-most (length made + 1) (length old.keys.entries) old next (omega (arith, was.few))
+      (reads-then (length made) 1 old now next was.reads kept)
 
   -- one more column
-  pub opens-more : (c : NamedColumn) → Reads 1 now next
+  pub opens-more : (c : OpenColumn) → Reads 1 now next
       → IfSome now.file.told
       (λ bytes. IsExpected (λ p c. opened c ≡ p) c (whole_entry bytes now.keys (entry_listed x)))
       → OpensFrom old next left (made ++ opened c ∷ [])
@@ -187,7 +156,7 @@ module _ (old now next : SeenReader) (x : Listed) (left : List Listed) (made : L
         was.so_far;
     reads =
         subst (λ n. Reads n old next) (sym (length-append made (opened c ∷ [])))
-        (reads-then old now next (length made) 1 was.reads kept);
+        (reads-then (length made) 1 old now next was.reads kept);
     few = omega (arith, was.few, length-append made (opened c ∷ []));
   }
     where
@@ -234,13 +203,19 @@ pub none-left : {A : Type 0} (xs : List A) (n : ℕ) → n ≡ 0 → n ≡ lengt
 none-left [] n e f = refl
 none-left (x ∷ xs) n e f = absurd (omega arith)
 
+-- the first of those that are left was read, and no entry twice
+pub read-next : (old now next : SeenReader) (all left : List Listed) (x : Listed) (made : List Column)
+    → OpensFrom old now all made → all ≡ x ∷ left → Reads 1 now next → Reads (length old.keys.entries) old next
+read-next old now next all left x made was steps kept =
+    next-read old now next x left made (subst (λ ps. OpensFrom old now ps made) steps was) kept
+
 -- each entry was read at most once
 pub all-read : (old now : SeenReader) (left : List Listed) (made : List Column) → OpensFrom old now left made
     → Reads (length old.keys.entries) old now
-all-read old now left made was = reads-fewer old now (length made) (length old.keys.entries) (omega (arith, was.few)) was.reads
+all-read old now left made was = reads-most (length made) (length old.keys.entries) old now (omega (arith, was.few)) was.reads
 
 -- all columns
-pub opens-all : (old now : SeenReader) (cs : List NamedColumn) (made : List Column) → OpensFrom old now [] made
+pub opens-all : (old now : SeenReader) (cs : List OpenColumn) (made : List Column) → OpensFrom old now [] made
     → map opened cs ≡ made
     → IfSome old.file.told (λ bytes. IsExpected (λ ps columns. map opened columns ≡ ps) cs
     (for_each (whole_entry bytes old.keys) old.keys.entries))

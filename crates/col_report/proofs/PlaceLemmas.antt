@@ -8,13 +8,13 @@ use Rattle.col_model.specs.Keys.{FileKeys}
 use Rattle.col_model.specs.Table.{Content, Column}
 use Rattle.col_file.specs.Handles.{entry_typed}
 use Rattle.col_report.specs.Opened.{opened, column_typed, ColumnsAreRead}
-use Rattle.col_report.specs.declared.open.NamedColumn.{NamedColumn}
+use Rattle.col_report.specs.declared.open.OpenColumn.{OpenColumn}
 use Rattle.col_report.proofs.ReadLemmas.{place-read, find-passes}
 
 abbrev contents : Option Column → Option Content
 contents o = option_map (λ c. c.content) o
 
-module _ (bytes : List ℕ) (k : FileKeys) (cs : List NamedColumn) (shown name : List ℕ) (u t : ColumnType)
+module _ (bytes : List ℕ) (k : FileKeys) (cs : List OpenColumn) (shown name : List ℕ) (u t : ColumnType)
     (read : ColumnsAreRead bytes k cs) (named : shown ≡ name) (typed : u ≡ t) where
   of-place : (place : Option ℕ) → option_and_then (slice_get k.entries) place ≡ entry_typed shown u k.entries
       → option_and_then (slice_get (map opened cs)) place ≡ column_typed name t (map opened cs)
@@ -25,14 +25,14 @@ module _ (bytes : List ℕ) (k : FileKeys) (cs : List NamedColumn) (shown name :
   place-none is = ap contents (of-place None is)
 
   module _ (at : ℕ) (is : slice_get k.entries at ≡ entry_typed shown u k.entries) where
-    at-place : (o : Option NamedColumn) → slice_get cs at ≡ o → option_map opened o ≡ column_typed name t (map opened cs)
+    at-place : (o : Option OpenColumn) → slice_get cs at ≡ o → option_map opened o ≡ column_typed name t (map opened cs)
     at-place o e = ap (option_map opened) (sym e) ∙ sym (slice_get-map opened cs at) ∙ of-place (Some at) is
 
     -- no column stands there
     pub place-past : slice_get cs at ≡ None → None ≡ contents (column_typed name t (map opened cs))
     place-past none = ap contents (at-place None none)
 
-    module _ (c : NamedColumn) (there : slice_get cs at ≡ Some c) where
+    module _ (c : OpenColumn) (there : slice_get cs at ≡ Some c) where
       -- the column that stands there
       pub place-found : Some (content_of c.column) ≡ contents (column_typed name t (map opened cs))
       place-found = ap contents (at-place (Some c) there)

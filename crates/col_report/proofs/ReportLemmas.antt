@@ -13,10 +13,11 @@ use Rattle.col_model.specs.Keys.{FileKeys, keys}
 use Rattle.col_model.specs.Report.{lines_text, rows_line, column_lines, found_data, find_line, report_of, Prints}
 use Rattle.col_model.specs.Script as script
 use Rattle.col_model.specs.Table.{Content, Column, Table}
-use Rattle.col_file.specs.Files.{SeenFile, IsExpected, RefusesFile}
+use Rattle.col_common.specs.Outside.{SeenFile}
+use Rattle.col_file.specs.Files.{IsExpected, RefusesFile}
 use Rattle.col_report.specs.Opened.{opened, whole_entry, table_opened, ColumnsAreRead}
 use Rattle.col_report.specs.Reported.{found_in, found_line}
-use Rattle.col_report.specs.declared.open.NamedColumn.{NamedColumn}
+use Rattle.col_report.specs.declared.open.OpenColumn.{OpenColumn}
 use Rattle.col_report.proofs.ReadLemmas.{is_typed, table-is, table-none}
 use Rattle.col_model.proofs.ReportLaws.{Prints-then}
 
@@ -74,7 +75,7 @@ finds-lines t short (f ∷ fs) = ap (λ ds. find_line t short (finds.find_of f) 
 
 -- the lines of rows, of columns and of lookups, one behind another, are the report
 pub report-printed :
-    (a b c d : List ℕ) (n : ℕ) (cs : List NamedColumn) (fs : List Find) (short : Bool) (line : Data)
+    (a b c d : List ℕ) (n : ℕ) (cs : List OpenColumn) (fs : List Find) (short : Bool) (line : Data)
     → line ≡ rows_line n → Prints a b (line ∷ []) → Prints b c (flat_map (λ c. column_lines short (opened c)) cs)
     → Prints c d (map (λ f. find_line (table_opened n cs) short (finds.find_of f)) fs)
     → d ≡ a ++ report_of (table_opened n cs) (map finds.find_of fs) short
@@ -108,7 +109,7 @@ report-refused old new k told ReadFault h = h
 report-refused old new k told _ h = absurd h
 
 -- the report is that of the file's table
-pub report-answered : (told : Option (List ℕ)) (k : FileKeys) (cs : List NamedColumn) (P : Table → Type 0)
+pub report-answered : (told : Option (List ℕ)) (k : FileKeys) (cs : List OpenColumn) (P : Table → Type 0)
     → IfSome told (λ bytes. keys bytes ≡ Some k)
     → IfSome told
     (λ bytes. IsExpected (λ ps columns. map opened columns ≡ ps) cs (for_each (whole_entry bytes k) k.entries))
@@ -130,9 +131,9 @@ report-appended old new made start text appended is none =
     appended ∙ ap (λ m. old ++ m) (is ∙ ap (λ s. s ++ text) none)
 
 -- the same by the keys and the columns as a call saw them
-pub pushed-as : (k k2 : FileKeys) (cs cs2 : List NamedColumn) (P : Table → Type 0) → k2 ≡ k → cs2 ≡ cs
+pub pushed-as : (k k2 : FileKeys) (cs cs2 : List OpenColumn) (P : Table → Type 0) → k2 ≡ k → cs2 ≡ cs
     → ((bytes : List ℕ) → ColumnsAreRead bytes k2 cs2 → P (table_opened k2.row_count cs2)) → (bytes : List ℕ)
     → ColumnsAreRead bytes k cs → P (table_opened k.row_count cs)
 pushed-as k k2 cs cs2 P same alike pushed bytes =
     let both : (k2, cs2) ≡ (k, cs) = λ i. (same i, alike i) in
-    subst (λ (p : FileKeys × List NamedColumn). ColumnsAreRead bytes p.0 p.1 → P (table_opened p.0.row_count p.1)) both (pushed bytes)
+    subst (λ (p : FileKeys × List OpenColumn). ColumnsAreRead bytes p.0 p.1 → P (table_opened p.0.row_count p.1)) both (pushed bytes)

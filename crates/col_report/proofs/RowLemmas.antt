@@ -17,6 +17,7 @@ use Rattle.col_index.specs.Offsets.{positions_if_any}
 use Rattle.col_column.specs.Columns.{Seen, AreOf, IsCounted, row_at, rows_of_values, num_docs_in}
 use Rattle.col_column.proofs.FirstLemmas.{range_step}
 use Rattle.col_column.proofs.RowLemmas.{row_values-if_any}
+use Rattle.col_column.proofs.CellLemmas.{row-map}
 use Rattle.col_report.specs.Printed.{Spells, more_text, filled_lines}
 
 -- ---- the line of a row
@@ -167,12 +168,6 @@ numbered first (x ∷ rows) (suc i) d within =
     let same : first + 1 + i ≡ first + suc i = omega arith in
     rw (← same) (numbered (first + 1) rows i d (omega arith))
 
-row_at-map : {A B : Type 0} (f : A → B) (rows : List (List A)) (i : ℕ) → row_at (map (map f) rows) i ≡ map f (row_at rows i)
-row_at-map f [] zero = refl
-row_at-map f [] (suc i) = refl
-row_at-map f (x ∷ rows) zero = refl
-row_at-map f (x ∷ rows) (suc i) = row_at-map f rows i
-
 length-maps : {A B : Type 0} (f : A → B) (rows : List (List A)) → length (map (map f) rows) ≡ length rows
 length-maps f [] = refl
 length-maps f (x ∷ rows) = ap suc (length-maps f rows)
@@ -190,7 +185,7 @@ rows-more t cell rows a b c n row within is before here =
     let numbers : n < length (enumerate_from 0 cells) = rw length-enumerate_from inside in
     let value : get_or (enumerate_from 0 cells) n (n, []) ≡ (n, map cell row) =
     numbered 0 cells n (n, []) inside ∙ ap (λ k. (k, row_at cells n)) (zero-add n)
-    ∙ ap (λ r. (n, r)) (row_at-map cell rows n ∙ ap (map cell) (sym is)) in
+    ∙ ap (λ r. (n, r)) (row-map cell rows n ∙ ap (map cell) (sym is)) in
     let cut = take_more (enumerate_from 0 cells) n (n, []) numbers ∙ ap (λ p. take n (enumerate_from 0 cells) ++ p ∷ []) value in
     subst (Prints a c)
     (sym (ap (filled_lines t) cut ∙ filled-append t (take n (enumerate_from 0 cells)) ((n, map cell row) ∷ [])))

@@ -6,10 +6,10 @@ use Rattle.col_model.specs.Keys.{Entry, FileKeys}
 use Rattle.col_model.specs.Table.{Column, Table}
 use Rattle.col_file.specs.Handles.{Handle}
 use Rattle.col_report.specs.Reported.{column_of}
-use Rattle.col_report.specs.declared.open.NamedColumn.{NamedColumn}
+use Rattle.col_report.specs.declared.open.OpenColumn.{OpenColumn}
 
 -- a column with its name
-abbrev pub opened : NamedColumn → Column
+abbrev pub opened : OpenColumn → Column
 opened c = column_of (string_bytes c.name) c.column
 
 -- the entry of a name and a handle
@@ -25,11 +25,11 @@ abbrev pub whole_entry : List ℕ → FileKeys → Entry → Option Column
 whole_entry bytes k e = whole_column (part_column bytes k e)
 
 -- the table of open columns
-abbrev pub table_opened : ℕ → List NamedColumn → Table
+abbrev pub table_opened : ℕ → List OpenColumn → Table
 table_opened n cs = record { row_count = n; columns = map opened cs }
 
 -- columns are those that the bytes of a file stand for
-abbrev pub ColumnsAreRead : List ℕ → FileKeys → List NamedColumn → Type 0
+abbrev pub ColumnsAreRead : List ℕ → FileKeys → List OpenColumn → Type 0
 ColumnsAreRead bytes k cs = for_each (whole_entry bytes k) k.entries ≡ Some (map opened cs)
 
 -- the column of a name and a type

@@ -9,7 +9,6 @@ ghost use Rattle.col_report.specs.Reported.{docs_data, found_in, found_line, fin
 
 use crate::lookups::find_docs;
 use crate::text::{push_number, push_quoted};
-use crate::words::type_word;
 use col_common::DocId;
 use col_dynamic::DynamicColumn;
 use col_lines::Find;
@@ -29,7 +28,10 @@ pub(crate) fn push_find(
         (found_in short (finds.find_of find.now) (Some (content_of column.now))) ∷ [])) }
 {
     push_find_head(alloc, find, out)?;
-    push_found(column, find, short, docs, out)?;
+    let Ok(()) = find_docs(column, find, docs) else {
+        return Err(AllocError);
+    };
+    push_docs(docs, short, out)?;
     out.extend_from_slice(b"]\n")?;
     Ok(())
 }
@@ -52,27 +54,9 @@ fn push_find_head(alloc: Global, find: &Find, out: &mut Vec<u8>) -> Result<(), A
     out.extend_from_slice(b"[\"find\",")?;
     push_quoted(alloc, out, &find.name)?;
     out.push(b',')?;
-    push_quoted(alloc, out, type_word(find.ends.column_type()))?;
+    push_quoted(alloc, out, find.ends.column_type().word())?;
     out.push(b',')?;
     Ok(())
-}
-
-// Appends what a lookup finds in a column of its type.
-fn push_found(
-    column: &DynamicColumn,
-    find: &Find,
-    short: bool,
-    docs: &mut Vec<DocId>,
-    out: &mut Vec<u8>,
-) -> Result<(), AllocError>
-    requires { type_of column.now ≡ finds.ends_type find.now.ends }
-    ensures { OnOk result (Spells out.old.items out.new.items
-        (found_in short (finds.find_of find.now) (Some (content_of column.now)))) }
-{
-    match find_docs(column, find, docs) {
-        Ok(()) => push_docs(docs, short, out),
-        Err(_) => Err(AllocError),
-    }
 }
 
 // Appends documents, or their count in a short report.

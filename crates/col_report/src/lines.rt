@@ -15,10 +15,10 @@ ghost use Rattle.col_report.specs.Reported.{column_of};
 use crate::cells::PlainCells;
 use crate::rows::push_rows;
 use crate::term_cells::{BytesCells, TextCells};
-use crate::text::push_line;
-use crate::words::{cardinality_word, type_word};
+use crate::words::cardinality_word;
 use col_column::Column;
 use col_dynamic::DynamicColumn;
+use col_lines::push_line;
 use col_text::{BytesColumn, StrColumn};
 use col_values::ColumnValues;
 use serde_json::{Value, json};
@@ -46,7 +46,7 @@ pub(crate) fn push_column(
 fn column_value(alloc: Global, name: &str, column: &DynamicColumn) -> Result<Value, AllocError>
     ensures { IfOk result (λ v. view v ≡ column_line (column_of name.now column.now)) }
 {
-    let kind = type_word(column.column_type());
+    let kind = column.column_type().word();
     let cardinality = cardinality_word(column.get_cardinality());
     let count = cells_in(column);
     json!(in alloc; ["column", name, kind, cardinality, count])

@@ -13,7 +13,7 @@ use std::alloc::Global;
 
 // An open column with its name.
 #[derive(Drop)]
-pub(crate) struct NamedColumn {
+pub(crate) struct OpenColumn {
     pub(crate) name: String,
     pub(crate) column: DynamicColumn,
 }
@@ -22,7 +22,7 @@ pub(crate) struct NamedColumn {
 pub(crate) fn open_columns<F: FileHandle>(
     alloc: Global,
     reader: &mut ColumnarReader<F>,
-) -> Result<Vec<NamedColumn>, ColumnarError>
+) -> Result<Vec<OpenColumn>, ColumnarError>
     ensures answer { AnswersForHandle (λ cs columns. map opened columns.items ≡ cs)
         reader.old.file reader.new.file result
         (λ bytes. for_each (whole_entry bytes reader.old.keys) reader.old.keys.entries) }
@@ -42,12 +42,12 @@ fn open_named<F: FileHandle>(
     name: String,
     handle: &DynamicColumnHandle,
     reader: &mut ColumnarReader<F>,
-) -> Result<NamedColumn, ColumnarError>
+) -> Result<OpenColumn, ColumnarError>
     ensures answer { is_entry reader.old.keys handle.now ≡ true →
         AnswersForHandle (λ c column. opened column ≡ c) reader.old.file reader.new.file result
         (λ bytes. whole_entry bytes reader.old.keys (entry_at (string_bytes name, handle.now))) }
     ensures kept { Reads 1 reader.old reader.new }
 {
     let column = handle.open(alloc, reader)?;
-    Ok(NamedColumn { name, column })
+    Ok(OpenColumn { name, column })
 }

@@ -11,12 +11,11 @@ ghost use Rattle.col_report.specs.Opened.{opened, column_typed, table_opened, Co
 
 use crate::found::{push_absent, push_find};
 use crate::lines::push_column;
-use crate::open::{NamedColumn, open_columns};
-use crate::text::push_line;
+use crate::open::{OpenColumn, open_columns};
 use col_common::{ColumnarError, FileHandle};
 use col_dynamic::DynamicColumn;
 use col_file::ColumnarReader;
-use col_lines::Find;
+use col_lines::{Find, push_line};
 use serde_json::{Value, json};
 use std::alloc::{AllocError, Global};
 
@@ -59,7 +58,7 @@ fn append(report: Vec<u8>, out: &mut Vec<u8>) -> Result<(), AllocError>
     out.extend_from_slice(&report)
 }
 
-fn let_go(columns: Vec<NamedColumn>) {
+fn let_go(columns: Vec<OpenColumn>) {
     drop(columns);
 }
 
@@ -67,7 +66,7 @@ fn let_go(columns: Vec<NamedColumn>) {
 fn push_report<F: FileHandle>(
     alloc: Global,
     reader: &ColumnarReader<F>,
-    columns: &[NamedColumn],
+    columns: &[OpenColumn],
     finds: &[Find],
     short: bool,
     out: &mut Vec<u8>,
@@ -92,7 +91,7 @@ fn rows_value(alloc: Global, count: u32) -> Result<Value, AllocError>
 // Appends the lines of columns.
 fn push_columns(
     alloc: Global,
-    columns: &[NamedColumn],
+    columns: &[OpenColumn],
     short: bool,
     out: &mut Vec<u8>,
 ) -> Result<(), AllocError>
@@ -107,7 +106,7 @@ fn push_columns(
 
 fn push_named(
     alloc: Global,
-    named: &NamedColumn,
+    named: &OpenColumn,
     short: bool,
     out: &mut Vec<u8>,
 ) -> Result<(), AllocError>
@@ -121,7 +120,7 @@ fn push_named(
 fn push_finds<F: FileHandle>(
     alloc: Global,
     reader: &ColumnarReader<F>,
-    columns: &[NamedColumn],
+    columns: &[OpenColumn],
     finds: &[Find],
     short: bool,
     out: &mut Vec<u8>,
@@ -142,7 +141,7 @@ fn push_finds<F: FileHandle>(
 fn push_found_line<F: FileHandle>(
     alloc: Global,
     reader: &ColumnarReader<F>,
-    columns: &[NamedColumn],
+    columns: &[OpenColumn],
     find: &Find,
     short: bool,
     docs: &mut Vec<u32>,
@@ -162,7 +161,7 @@ fn push_found_line<F: FileHandle>(
 // The column of a lookup, by halves.
 fn column_of_find<'a, F: FileHandle>(
     reader: &ColumnarReader<F>,
-    columns: &'a [NamedColumn],
+    columns: &'a [OpenColumn],
     find: &Find,
 ) -> Option<&'a DynamicColumn>
     ensures kind { IfSome result (λ c. type_of c.now ≡ wanted.ends_type find.now.ends) }

@@ -13,16 +13,12 @@ use std::alloc::{AllocError, Global};
 use std::ops::Range;
 
 // Appends a line for each row that isn't empty.
-pub(crate) fn push_rows<T, V, P>(
+pub(crate) fn push_rows<T: PartialOrd + Copy, V: ColumnValues<T>, P: PrintCells<T>>(
     alloc: Global,
     column: &Column<T, V>,
     cells: &P,
     out: &mut Vec<u8>,
 ) -> Result<(), AllocError>
-where
-    T: PartialOrd + Copy,
-    V: ColumnValues<T>,
-    P: PrintCells<T>,
     ensures { OnOk result (Prints out.old.items out.new.items (filled_lines P.kind
         (enumerate_from 0 (map (map (P.cell cells.now)) (rows_of_values V.values column.now))))) }
 {
@@ -33,17 +29,13 @@ where
 }
 
 // Appends the line of a row, where it isn't empty.
-fn push_row<T, V, P>(
+fn push_row<T: PartialOrd + Copy, V: ColumnValues<T>, P: PrintCells<T>>(
     alloc: Global,
     column: &Column<T, V>,
     row: u32,
     cells: &P,
     out: &mut Vec<u8>,
 ) -> Result<(), AllocError>
-where
-    T: PartialOrd + Copy,
-    V: ColumnValues<T>,
-    P: PrintCells<T>,
     requires { row < num_docs_in V.values column.now }
     ensures { OnOk result (Prints out.old.items out.new.items (filled_lines P.kind
         ((row, map (P.cell cells.now) (row_at (rows_of_values V.values column.now) row)) ∷ []))) }
@@ -71,7 +63,7 @@ where
 }
 
 // Appends the line of a row with the values at these positions.
-fn push_filled_row<T, V, P>(
+fn push_filled_row<T: PartialOrd + Copy, V: ColumnValues<T>, P: PrintCells<T>>(
     alloc: Global,
     row: u32,
     values: &V,
@@ -79,10 +71,6 @@ fn push_filled_row<T, V, P>(
     cells: &P,
     out: &mut Vec<u8>,
 ) -> Result<(), AllocError>
-where
-    T: PartialOrd + Copy,
-    V: ColumnValues<T>,
-    P: PrintCells<T>,
     requires filled { positions.start < positions.end }
     requires within { positions.end ≤ length (V.values values.now) }
     ensures { OnOk result (Prints out.old.items out.new.items (row_line P.kind (
@@ -108,7 +96,7 @@ where
 }
 
 // Appends the values from one position up to another, each with a comma in front.
-fn push_others<T, V, P>(
+fn push_others<T: PartialOrd + Copy, V: ColumnValues<T>, P: PrintCells<T>>(
     alloc: Global,
     values: &V,
     start: u32,
@@ -116,10 +104,6 @@ fn push_others<T, V, P>(
     cells: &P,
     out: &mut Vec<u8>,
 ) -> Result<(), AllocError>
-where
-    T: PartialOrd + Copy,
-    V: ColumnValues<T>,
-    P: PrintCells<T>,
     requires ordered { start ≤ «end» }
     requires within { «end» ≤ length (V.values values.now) }
     ensures { OnOk result (out.new.items ≡ out.old.items ++ more_text (map (cell_data P.kind)

@@ -1,18 +1,14 @@
 //! What a report's bytes grow by.
-ghost use Rattle.std.specs.Prelude.{◌≡◌, ◌++◌, ◌∷◌, [], false, decimal, IfOk, OnOk};
+ghost use Rattle.std.specs.Prelude.{◌≡◌, ◌++◌, decimal, IfOk, OnOk};
 ghost use Rattle.hex.specs.Hex.{encode_lower};
 ghost use Rattle.json.specs.Print.{quoted};
 ghost use Rattle.serde_json.specs.Data.{string};
 ghost use Rattle.serde_json.specs.Data as values;
 ghost use Rattle.serde_json.specs.Find.{of_integer};
-ghost use Rattle.serde_json.specs.View.{view};
-ghost use Rattle.serde_json.specs.Written.{has_float};
-ghost use Rattle.col_model.specs.Report.{Prints};
 ghost use Rattle.col_report.specs.Printed.{Spells};
 
 use itoa::Buffer;
 use json::Writer;
-use serde_json::Value;
 use std::alloc::{AllocError, Global};
 
 // Appends a number in decimal.
@@ -59,15 +55,4 @@ pub(crate) fn push_hex(alloc: Global, out: &mut Vec<u8>, bytes: &[u8]) -> Result
 {
     let digits = hex::encode(alloc, bytes)?;
     push_quoted(alloc, out, &digits)
-}
-
-// Appends the value's text and a line feed.
-#[tactic(auto, unfolding(col_model::specs::Report::Prints))]
-pub(crate) fn push_line(alloc: Global, out: &mut Vec<u8>, value: &Value) -> Result<(), AllocError>
-    requires { has_float (view value.now) ≡ false }
-    ensures { OnOk result (Prints out.old.items out.new.items (view value.now ∷ [])) }
-{
-    out.extend_from_slice(&value.to_vec(alloc)?)?;
-    out.push(b'\n')?;
-    Ok(())
 }

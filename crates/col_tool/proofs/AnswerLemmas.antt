@@ -1,15 +1,14 @@
 -- What a script that was read, and what was made of it, say of the answer.
-use Rattle.std.proofs.Common.{◌≡◌, ◌==◌, ◌∙◌, ℕ, Option, Some, None, Ok, Err, IfSome, List, [], ◌∷◌, Result, IfErr, map, true, false, Contains, refl, sym, zero, suc, arith}
+use Rattle.std.proofs.Common.{◌≡◌, ◌==◌, ◌∙◌, ℕ, Option, Some, None, Ok, Err, IfSome, List, [], ◌∷◌, Result, IfErr, true, false, Contains, refl, sym, zero, suc, arith}
 use Rattle.std.specs.Prelude.{◌||◌}
-use Rattle.col_common.specs.Outside.{Told, SeenSink}
-use Rattle.col_model.specs.File.{for_each}
+use Rattle.col_common.specs.Outside.{Told, SeenFile, SeenSink}
 use Rattle.col_model.specs.GenScript.{gen_script}
 use Rattle.col_model.specs.Outcome.{Outcome, script_outcome}
 use Rattle.col_model.specs.Script as scripts
 use Rattle.col_model.specs.Script.{script_of}
 use Rattle.col_script.specs.Scripts.{IsScript, IsScriptOf}
 use Rattle.col_script.specs.declared.script.Script.{Script}
-use Rattle.col_outcome.specs.HandedBack.{SomeRose}
+use Rattle.col_outcome.specs.Parts.{all_told, SomeFileRose}
 use Rattle.col_outcome.specs.declared.merging.FileAndReport.{FileAndReport}
 use Rattle.col_tool.specs.Answer.{refusal_status, refusals, IsAnswer, Leaves, Delivers}
 use Rattle.col_tool.specs.Expected.{generated_answer, script_answer}
@@ -52,19 +51,18 @@ delivered-leaves (Some fs) (Some bytes) output output' report report' made statu
     leaves_delivered output output' report report' made status (script_answer fs bytes) h d
 
 -- what the script of a number comes to, without inputs
-pub without-inputs :
-    {H : Type 0} (content : H → Told) (inputs : List H) (script : List ℕ) (n : ℕ) (result : Result FileAndReport Refusal)
+pub without-inputs : (inputs : List SeenFile) (script : List ℕ) (n : ℕ) (result : Result FileAndReport Refusal)
     → inputs ≡ [] → script ≡ gen_script n
-    → IfSome (for_each content inputs) (λ files. IsAnswer (script_outcome true files (script_of script)) result)
+    → IfSome (all_told inputs) (λ files. IsAnswer (script_outcome true files (script_of script)) result)
     → IsAnswer (generated_answer n) result
-without-inputs content inputs script n result none same h = rw (none, same) at h
+without-inputs inputs script n result none same h = rw (none, same) at h
 
 -- where there is no input, none was read
-pub unread : {H : Type 0} (faults : H → ℕ) (inputs inputs' : List H) (result : Result FileAndReport Refusal) → inputs ≡ []
-    → IfErr result (λ e. refusal_status e ≡ 4 → SomeRose (map faults inputs) (map faults inputs'))
+pub unread : (inputs inputs' : List SeenFile) (result : Result FileAndReport Refusal) → inputs ≡ []
+    → IfErr result (λ e. refusal_status e ≡ 4 → SomeFileRose inputs inputs')
     → IfErr result (λ e. refusal_status e ≡ 4 → ⊥)
-unread faults inputs inputs' (Ok made) none h = tt
-unread faults inputs inputs' (Err e) none h = λ four. let p = rw none at (h four) in absurd (omega (arith, p.1))
+unread inputs inputs' (Ok made) none h = tt
+unread inputs inputs' (Err e) none h = λ four. rw none at (h four)
 
 -- a delivery has no other status than these
 pub delivered-other : (n status : ℕ) → ((n == 0) || ((n == 3) || (n == 5))) ≡ false → Contains (0 ∷ 3 ∷ 5 ∷ []) status → status ≡ n → ⊥

@@ -1,14 +1,20 @@
 -- The statuses that a script alone decides.
-use Rattle.std.proofs.Common.{◌≡◌, ◌==◌, ◌⊎◌, ◌∙◌, ℕ, List, [], ◌∷◌, Option, Some, None, IfSome, Result, Ok, Err, false, Contains, inl, inr, refl, sym, ap, arith, zero, suc}
-use Rattle.std.specs.Prelude.{◌||◌}
-use Rattle.col_common.specs.Outside.{Told}
+use Rattle.std.proofs.Common.{◌≡◌, ◌==◌, ◌⊎◌, ◌∙◌, ℕ, List, [], ◌∷◌, ◌++◌, length, Option, Some, None, IfSome, Result, Ok, Err, false, Contains, inl, inr, refl, sym, ap, subst, append-nil, arith, zero, suc}
+use Rattle.std.proofs.lemmas.Bool.{ltb-false}
+use Rattle.std.specs.Prelude.{◌≤◌, ◌||◌, nat_lt, if◌then◌else◌}
+use Rattle.col_common.specs.Outside.{Told, Takes, IsAtEnd}
 use Rattle.col_common.specs.Refused.{code_of}
 use Rattle.col_common.specs.declared.error.ColumnarError.{ColumnarError}
 use Rattle.col_common.specs.declared.error.ColumnarError.TheVariants.{OutOfMemory, ReadFault, WriteFault, InvalidData, BadOrder, BadName, RequiredConflict, CannotCoerce, NumericalConflict, TooLarge, NoCodec, ForcedType, DocOrder, DocOutOfRange, TieBreakerStart, NotUtf8}
-use Rattle.col_model.specs.Refusal.{Refusal, status_of}
+use Rattle.col_model.specs.Outcome.{max_script_length}
+use Rattle.col_model.specs.Refusal.{Refusal}
+use Rattle.col_model.specs.Script.{script_of}
 use Rattle.col_outcome.specs.Making.{SegmentsDecide, refusal_of}
-use Rattle.col_tool.specs.Expected.{refusal_in}
+use Rattle.col_outcome.specs.declared.merging.FileAndReport.{FileAndReport}
+use Rattle.col_tool.specs.Answer.{ScriptDecidesFirst}
+use Rattle.col_tool.specs.Expected.{refusal_in, script_refusal, bytes_refusal}
 use Rattle.col_tool.specs.Statuses.{ScriptDecides, script_statuses}
+use Rattle.col_tool.specs.declared.refusal.Refusal as tool
 use Rattle.col_tool.proofs.RefusedLemmas.{code-answer}
 
 -- none of the statuses that a script alone decides
@@ -25,19 +31,46 @@ undecided status other (suc (suc (suc (suc zero))), within, e) = let h = rw (sym
 undecided status other (suc (suc (suc (suc (suc zero)))), within, e) = let h = rw (sym e) at other in cc
 undecided status other (suc (suc (suc (suc (suc (suc k))))), within, e) = absurd (omega (arith, within))
 
--- want of memory and a failed read say nothing of the script
-pub failed-decides : (refusal : Option ℕ) (status : ℕ) → (status ≡ 3) ⊎ (status ≡ 4) → ScriptDecides refusal status
-failed-decides (Some n) status (inl memory) = (1, omega arith, sym memory)
-failed-decides (Some n) status (inr fault) = (2, omega arith, sym fault)
-failed-decides None status (inl memory) = undecided status (rw memory refl)
-failed-decides None status (inr fault) = undecided status (rw fault refl)
+-- want of memory, and a fault of the script, say nothing of it
+pub failed-decides : (refusal : Option ℕ) (Failed : Type 0) (status : ℕ) → (status ≡ 3) ⊎ ((status ≡ 4) × Failed)
+    → ScriptDecides refusal Failed status
+failed-decides (Some n) Failed status cause = inr cause
+failed-decides None Failed status (inl memory) = undecided status (rw memory refl)
+failed-decides None Failed status (inr fault) = undecided status (rw fault.0 refl)
 
--- nor do they where the script was read
-pub read-decides : (told : Told) (refusal : List ℕ → Option ℕ) (e : ColumnarError)
-    → (e ≡ OutOfMemory) ⊎ (e ≡ ReadFault) → IfSome told (λ bytes. ScriptDecides (refusal bytes) (code_of e))
-read-decides None refusal e cause = tt
-read-decides (Some bytes) refusal e (inl memory) = failed-decides (refusal bytes) (code_of e) (inl (ap code_of memory))
-read-decides (Some bytes) refusal e (inr fault) = failed-decides (refusal bytes) (code_of e) (inr (ap code_of fault))
+-- nor do they where the script is read
+pub read-decides : (told : Told) (refusal : List ℕ → Option ℕ) (Failed : Type 0) (e : ColumnarError)
+    → (e ≡ OutOfMemory) ⊎ (e ≡ ReadFault) → (e ≡ ReadFault → Failed)
+    → IfSome told (λ bytes. ScriptDecides (refusal bytes) Failed (code_of e))
+read-decides None refusal Failed e cause failed = tt
+read-decides (Some bytes) refusal Failed e (inl memory) failed =
+    failed-decides (refusal bytes) Failed (code_of e) (inl (ap code_of memory))
+read-decides (Some bytes) refusal Failed e (inr fault) failed =
+    failed-decides (refusal bytes) Failed (code_of e) (inr (ap code_of fault, failed fault))
+
+-- what decides where nothing fails decides where something may fail
+pub decides-failing : (refusal : Option ℕ) (Failed : Type 0) (result : Result FileAndReport tool.Refusal)
+    → ScriptDecidesFirst refusal ⊥ result → ScriptDecidesFirst refusal Failed result
+decides-failing refusal Failed (Ok made) h = h
+decides-failing None Failed (Err e) h = h
+decides-failing (Some n) Failed (Err e) (inl own) = inl own
+decides-failing (Some n) Failed (Err e) (inr (inl memory)) = inr (inl memory)
+decides-failing (Some n) Failed (Err e) (inr (inr fault)) = absurd fault.1
+
+-- what decides of the bytes that were read, where these aren't too many, decides of what the script told
+pub read-decided : (old new : Told) (bytes : List ℕ) (Failed : Type 0) (result : Result FileAndReport tool.Refusal)
+    → Takes old new bytes → (length bytes ≤ max_script_length → IsAtEnd new) → nat_lt max_script_length (length bytes) ≡ false
+    → ScriptDecidesFirst (script_refusal (script_of bytes)) ⊥ result
+    → IfSome old (λ told. ScriptDecidesFirst (bytes_refusal told) Failed result)
+read-decided old None bytes Failed result takes ended short h =
+    subst (λ o. IfSome o (λ told. ScriptDecidesFirst (bytes_refusal told) Failed result)) (sym takes) tt
+read-decided old (Some left) bytes Failed result takes ended short h =
+    let none = ended (ltb-false max_script_length (length bytes) short) in
+    let whole : old ≡ Some bytes = takes ∙ ap (λ l. Some (bytes ++ l)) none ∙ ap Some (append-nil bytes) in
+    let own = script_refusal (script_of bytes) in
+    subst (λ o. IfSome o (λ told. ScriptDecidesFirst (bytes_refusal told) Failed result)) (sym whole)
+    (subst (λ b. ScriptDecidesFirst (if b then Some 21 else own) Failed result) (sym short)
+    (decides-failing own Failed result h))
 
 -- nor does what merges refuse
 merge-undecided : (e : ColumnarError) (r : Refusal) → refusal_of e ≡ Some r → IsOther (code_of e)
@@ -60,12 +93,12 @@ merge-undecided NotUtf8 r is = refl
 
 -- what segments decide first, a refusal's status shows
 pub segments-refused : {A : Type 0} (B : Type 0) (expected : Result A Refusal) (e : ColumnarError)
-    → SegmentsDecide {A = A} {B = B} expected (Err e) → ScriptDecides (refusal_in expected) (code_of e)
-segments-refused B (Ok tables) e (inl memory) = failed-decides None (code_of e) (inl (ap code_of memory))
-segments-refused B (Ok tables) e (inr (inl fault)) = failed-decides None (code_of e) (inr (ap code_of fault))
+    → SegmentsDecide {A = A} {B = B} expected (Err e) → ScriptDecides (refusal_in expected) ⊥ (code_of e)
+segments-refused B (Ok tables) e (inl memory) = undecided (code_of e) (rw memory refl)
+segments-refused B (Ok tables) e (inr (inl fault)) = undecided (code_of e) (rw fault refl)
 segments-refused B (Ok tables) e (inr (inr (r, is))) = undecided (code_of e) (merge-undecided e r is)
-segments-refused B (Err r) e (inl memory) = failed-decides (Some (status_of r)) (code_of e) (inl (ap code_of memory))
-segments-refused B (Err r) e (inr is) = (0, omega arith, sym (ap code_of is ∙ code-answer r))
+segments-refused B (Err r) e (inl memory) = inr (inl (ap code_of memory))
+segments-refused B (Err r) e (inr is) = inl (ap code_of is ∙ code-answer r)
 
 -- where something was made, segments are refused by none
 pub segments-made : {A B : Type 0} (expected : Result A Refusal) (made : B) → SegmentsDecide expected (Ok made)
@@ -74,17 +107,17 @@ segments-made (Ok tables) made decides = refl
 segments-made (Err r) made decides = absurd decides
 
 -- the status of a delivery is none that a script decides
-pub delivery-decides : (refusal : Option ℕ) (status : ℕ) → refusal ≡ None → Contains (0 ∷ 3 ∷ 5 ∷ []) status
-    → ScriptDecides refusal status
-delivery-decides (Some n) status none among = cc
-delivery-decides None status none (zero, within, e) = undecided status (rw (← e) refl)
-delivery-decides None status none (suc zero, within, e) = undecided status (rw (← e) refl)
-delivery-decides None status none (suc (suc zero), within, e) = undecided status (rw (← e) refl)
-delivery-decides None status none (suc (suc (suc k)), within, e) = absurd (omega (arith, within))
+pub delivery-decides : (refusal : Option ℕ) (Failed : Type 0) (status : ℕ) → refusal ≡ None
+    → Contains (0 ∷ 3 ∷ 5 ∷ []) status → ScriptDecides refusal Failed status
+delivery-decides (Some n) Failed status none among = cc
+delivery-decides None Failed status none (zero, within, e) = undecided status (rw (← e) refl)
+delivery-decides None Failed status none (suc zero, within, e) = undecided status (rw (← e) refl)
+delivery-decides None Failed status none (suc (suc zero), within, e) = undecided status (rw (← e) refl)
+delivery-decides None Failed status none (suc (suc (suc k)), within, e) = absurd (omega (arith, within))
 
 -- what a delivery leaves of a script that told its bytes
-pub delivered-decides : (told : Told) (refusal : List ℕ → Option ℕ) (status : ℕ)
+pub delivered-decides : (told : Told) (refusal : List ℕ → Option ℕ) (Failed : Type 0) (status : ℕ)
     → IfSome told (λ bytes. refusal bytes ≡ None) → Contains (0 ∷ 3 ∷ 5 ∷ []) status
-    → IfSome told (λ bytes. ScriptDecides (refusal bytes) status)
-delivered-decides None refusal status none among = tt
-delivered-decides (Some bytes) refusal status none among = delivery-decides (refusal bytes) status none among
+    → IfSome told (λ bytes. ScriptDecides (refusal bytes) Failed status)
+delivered-decides None refusal Failed status none among = tt
+delivered-decides (Some bytes) refusal Failed status none among = delivery-decides (refusal bytes) Failed status none among

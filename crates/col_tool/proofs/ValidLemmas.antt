@@ -4,7 +4,7 @@ use Rattle.std.specs.Prelude.{⊤, if◌then◌else◌}
 use Rattle.std.specs.FinMap.{put}
 use Rattle.std.specs.List.{list_all, list_any}
 use Rattle.std.proofs.lemmas.Bool.{true≢false}
-use Rattle.col_common.specs.Outside.{Told}
+use Rattle.col_common.specs.Outside.{SeenFile}
 use Rattle.col_common.specs.Refused.{code_of}
 use Rattle.col_common.specs.declared.error.ColumnarError.{ColumnarError}
 use Rattle.col_common.specs.declared.error.ColumnarError.TheVariants.{ReadFault}
@@ -12,7 +12,7 @@ use Rattle.col_model.specs.ColumnType.{ColumnType}
 use Rattle.col_model.specs.ColumnType as types
 use Rattle.col_model.specs.Category.{Slot, slot_of, slot_cmp}
 use Rattle.col_model.specs.Table.{Column, Table}
-use Rattle.col_model.specs.File.{part_of_table, for_each}
+use Rattle.col_model.specs.File.{part_of_table}
 use Rattle.col_model.specs.Limits.{is_too_large, is_of_type}
 use Rattle.col_model.specs.Order.{Order, picks}
 use Rattle.col_model.specs.Merge.{Required, kept_columns, all_cells, shared_type, required_type, joined_type, joined_content, has_bad_column, joined_column, all_slots, contradicts, required_refusal, row_counts, merged}
@@ -25,6 +25,7 @@ use Rattle.col_model.proofs.ConflictLaws.{same_Err, ok_not_err}
 use Rattle.col_model.proofs.StackSeen.{none-bad}
 use Rattle.col_writer_columns.specs.Answers.{MayRefuse}
 use Rattle.col_outcome.specs.Making.{MakesIfRead}
+use Rattle.col_outcome.specs.Parts.{all_told}
 use Rattle.col_tool.proofs.RefusedLemmas.{code-answer}
 
 -- the step doesn't refuse data as invalid
@@ -203,11 +204,11 @@ valid-refused (Ok x) r valid is six = absurd (ok_not_err x r is)
 valid-refused (Err e) r valid is six = valid (same_Err e r is ∙ other-status r six)
 
 -- Where there is no input, what is made of a script isn't refused as invalid data.
-pub without-invalid : {H B : Type 0} (content : H → Told) (inputs : List H) (IsOf : Table → B → Type 0) (s : Script)
+pub without-invalid : {B : Type 0} (inputs : List SeenFile) (IsOf : Table → B → Type 0) (s : Script)
     (e : ColumnarError) → inputs ≡ []
-    → IfSome (for_each content inputs) (λ files. MakesIfRead IsOf (Err e) (script_table files s)) → code_of e ≡ 6
+    → IfSome (all_told inputs) (λ files. MakesIfRead IsOf (Err e) (script_table files s)) → code_of e ≡ 6
     → ⊥
-without-invalid {B = B} content inputs IsOf s e none makes = by (rw none at makes)
+without-invalid {B} inputs IsOf s e none makes = by (rw none at makes)
   where
     refused : (e ≡ ReadFault) ⊎ MayRefuse (script_table [] s) e → code_of e ≡ 6 → ⊥
     refused (inl fault) six = let h = rw fault at six in omega (arith, h)

@@ -4,7 +4,7 @@ use Rattle.std.proofs.lemmas.Result.{err_from_is_err_and}
 use Rattle.col_merge.specs.Opened.{AllOpenedAs}
 use Rattle.col_merge.specs.Readings.{slot_reads}
 use Rattle.col_merge.proofs.OpenTurnLemmas.{opened-more, opened-stops}
-use Rattle.col_merge.proofs.ReadingLemmas.{all_read-none, all_read-set, left-at, left-set}
+use Rattle.col_merge.proofs.ReadingLemmas.{all_read-at, all_read-none, all_read-set, left-at, left-set}
 use Rattle.col_merge.proofs.open_columns.open_columns.Goals as goal
 
 pub loop-segment-init : goal.loop-segment-init
@@ -27,23 +27,15 @@ returns-in_err-column-clause-err g c =
 
 pub returns-in_err-column-clause-kept : goal.returns-in_err-column-clause-kept
 returns-in_err-column-clause-kept g c =
-    let olds = c.args.columnar_readers.now in
-    let mids = c.loop-segment.columnar_readers in
-    let at = c.loop-segment.segment in
-    let now = get_or mids at c.index-columnar_readers-segment.result in
-    let is = slice_get-get_or mids at c.index-columnar_readers-segment.result (omega arith) in
-    all_read-set (slot_reads c.args.slot.now) olds mids at now c.open_in.new.reader c.loop-segment.invariant.0
-    (left-at olds mids at now c.loop-segment.invariant.1 is) c.in_err-column.ensures.kept
+    all_read-at (slot_reads c.args.slot.now) c.args.columnar_readers.now c.loop-segment.columnar_readers
+    c.loop-segment.segment c.index-columnar_readers-segment.result c.open_in.new.reader c.loop-segment.invariant.0
+    c.loop-segment.invariant.1 (omega arith) c.in_err-column.ensures.kept
 
 pub returns-in_err-push-clause-kept : goal.returns-in_err-push-clause-kept
 returns-in_err-push-clause-kept g c =
-    let olds = c.args.columnar_readers.now in
-    let mids = c.loop-segment.columnar_readers in
-    let at = c.loop-segment.segment in
-    let now = get_or mids at c.index-columnar_readers-segment.result in
-    let is = slice_get-get_or mids at c.index-columnar_readers-segment.result (omega arith) in
-    all_read-set (slot_reads c.args.slot.now) olds mids at now c.open_in.new.reader c.loop-segment.invariant.0
-    (left-at olds mids at now c.loop-segment.invariant.1 is) c.in_ok-column.ensures.kept
+    all_read-at (slot_reads c.args.slot.now) c.args.columnar_readers.now c.loop-segment.columnar_readers
+    c.loop-segment.segment c.index-columnar_readers-segment.result c.open_in.new.reader c.loop-segment.invariant.0
+    c.loop-segment.invariant.1 (omega arith) c.in_ok-column.ensures.kept
 
 pub loop-segment-preserved : goal.loop-segment-preserved
 loop-segment-preserved g c =

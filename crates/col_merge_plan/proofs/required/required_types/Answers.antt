@@ -1,4 +1,4 @@
-use Rattle.std.proofs.Common.{◌≡◌, true, ap, ◌∙◌, sym, subst, string_bytes, arith}
+use Rattle.std.proofs.Common.{◌≡◌, true, ap, ◌∙◌, sym, subst, arith}
 use Rattle.std.specs.Str.{is_utf8}
 use Rattle.std.proofs.lemmas.Str.{is_utf8-from_IsUtf8}
 use Rattle.col_model.specs.Category.{slot_of}

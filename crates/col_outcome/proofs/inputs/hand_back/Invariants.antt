@@ -1,14 +1,12 @@
 use Rattle.std.proofs.Common.{◌+◌, ◌≤◌, length}
 use Rattle.std.specs.Vec.{vec_len, vec_capacity}
-use Rattle.col_file.specs.Files.{seen_by}
 use Rattle.col_outcome.specs.Parts.{given_in, files_in}
 use Rattle.col_outcome.proofs.OpeningLemmas.{Handing}
 use Rattle.col_outcome.proofs.inputs.hand_back.Given as goal
 
 abbrev pub invariant-loop-reader : goal.invariant-loop-reader
 invariant-loop-reader g l = record {
-  handing : Handing (seen_by g.H.FileHandle.content g.H.FileHandle.size g.H.FileHandle.faults g.H.FileHandle.reads
-      g.H.FileHandle.mark) l.fn.readers.items l.fn.left.items l.readers.items l.left.items;
+  handing : Handing g.H.FileHandle.seen l.fn.readers.items l.fn.left.items l.readers.items l.left.items;
   fits : length (given_in (files_in l.readers.items)) + vec_len l.left ≤ vec_capacity l.left;
 }
 

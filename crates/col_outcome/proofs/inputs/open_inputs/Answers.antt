@@ -1,5 +1,4 @@
 use Rattle.std.proofs.Common.{reverse, sym, ◌∙◌, arith}
-use Rattle.col_file.specs.Files.{seen_by}
 use Rattle.col_outcome.specs.Parts.{given}
 use Rattle.col_outcome.proofs.InputLemmas.{opened-one}
 use Rattle.col_outcome.proofs.OpeningLemmas.{no_items, opening-more, opening-refused, opening-all}
@@ -7,7 +6,7 @@ use Rattle.col_outcome.proofs.inputs.open_inputs.Goals as goal
 
 pub loop-input-preserved : goal.loop-input-preserved
 loop-input-preserved g c =
-    let see = seen_by g.H.FileHandle.content g.H.FileHandle.size g.H.FileHandle.faults g.H.FileHandle.reads g.H.FileHandle.mark in record {
+    let see = g.H.FileHandle.seen in record {
       opening =
           opening-more see (reverse c.args.left.now.items) c.loop-input.readers.items c.push_reserved.new.self.items
           c.loop-input.left.items c.pop.new.self.items c.in-Some.input c.in-Ok.reader c.loop-input.invariant.opening
@@ -27,7 +26,7 @@ loop-input-preserved g c =
 
 pub returns-in-Err-clause-opens : goal.returns-in-Err-clause-opens
 returns-in-Err-clause-opens g c =
-    let see = seen_by g.H.FileHandle.content g.H.FileHandle.size g.H.FileHandle.faults g.H.FileHandle.reads g.H.FileHandle.mark in
+    let see = g.H.FileHandle.seen in
     opening-refused see (reverse c.args.left.now.items) c.loop-input.readers.items c.loop-input.left.items
     c.pop.new.self.items c.hand_back_one.new.left.items c.in-Some.input _ c.in-Err.error
     c.loop-input.invariant.opening c.in-Some.ensures.items c.in-Err.ensures.0 c.in-Err.ensures.1
@@ -35,7 +34,7 @@ returns-in-Err-clause-opens g c =
 
 pub returns-clause-opens : goal.returns-clause-opens
 returns-clause-opens g c =
-    let see = seen_by g.H.FileHandle.content g.H.FileHandle.size g.H.FileHandle.faults g.H.FileHandle.reads g.H.FileHandle.mark in
+    let see = g.H.FileHandle.seen in
     opening-all see (reverse c.args.left.now.items) c.loop-input.readers.items c.loop-input.left.items
     c.pop.new.self.items tt c.loop-input.invariant.opening
     (no_items c.loop-input.left.items (sym c.loop-input.left.ok.0 ∙ c.in_default.ensures.cases.0))

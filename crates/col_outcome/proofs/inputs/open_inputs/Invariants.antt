@@ -1,13 +1,11 @@
 use Rattle.std.proofs.Common.{◌≡◌, ◌+◌, ◌≤◌, reverse}
 use Rattle.std.specs.Vec.{vec_len, vec_capacity}
-use Rattle.col_file.specs.Files.{seen_by}
 use Rattle.col_outcome.proofs.OpeningLemmas.{Opening}
 use Rattle.col_outcome.proofs.inputs.open_inputs.Given as goal
 
 abbrev pub invariant-loop-input : goal.invariant-loop-input
 invariant-loop-input g l = record {
-  opening : Opening (seen_by g.H.FileHandle.content g.H.FileHandle.size g.H.FileHandle.faults g.H.FileHandle.reads
-      g.H.FileHandle.mark) (reverse l.fn.left.items) l.readers.items l.left.items;
+  opening : Opening g.H.FileHandle.seen (reverse l.fn.left.items) l.readers.items l.left.items;
   fits : vec_len l.readers + vec_len l.left ≤ vec_capacity l.readers;
   left_room : vec_capacity l.left ≡ vec_capacity l.fn.left;
   room : vec_capacity l.readers ≡ vec_capacity l.fn.readers;

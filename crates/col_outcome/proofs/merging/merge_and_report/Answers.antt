@@ -1,18 +1,17 @@
 use Rattle.std.proofs.Common.{map, option_map, sym, ap, ◌∙◌}
 use Rattle.std.proofs.lemmas.Result.{err_from_is_err_and}
-use Rattle.col_file.specs.Files.{seen_by}
 use Rattle.col_lines.specs.Finds.{find_of}
 use Rattle.col_order.specs.Orders.{address_of}
 use Rattle.col_script.specs.Segments.{segment_of}
 use Rattle.col_merge_plan.specs.Slots.{required_of}
+use Rattle.col_common.proofs.OnOkLemmas.{same-error}
 use Rattle.col_outcome.specs.Parts.{handed_in}
 use Rattle.col_model.specs.Outcome.{segment_table}
 use Rattle.col_model.specs.Refusal.{each_ok}
 use Rattle.col_outcome.specs.declared.merging.FileAndReport.{FileAndReport}
 use Rattle.col_outcome.proofs.DecidedLemmas.{merge-known, segments-merged, segments-stopped}
-use Rattle.col_outcome.proofs.InputLemmas.{same-error}
 use Rattle.col_outcome.proofs.MakeLemmas.{known-fault, script-made}
-use Rattle.col_outcome.proofs.PartLemmas.{handed, handed-marks, handed-rose}
+use Rattle.col_outcome.proofs.PartLemmas.{all_keep-none, kept-seen, rose-seen}
 use Rattle.col_outcome.proofs.merging.merge_and_report.Goals as goal
 
 pub returns-in_err-files-clause-read_fault : goal.returns-in_err-files-clause-read_fault
@@ -24,12 +23,10 @@ returns-in_err-files-clause-read_fault g c = λ s is e.
 
 pub returns-clause-made : goal.returns-clause-made
 returns-clause-made g c = λ s is.
-    script-made g.H.FileHandle.content g.H.FileHandle.size g.H.FileHandle.faults g.H.FileHandle.reads
-    g.H.FileHandle.mark c.args.inputs.now.items (handed_in (seen_by g.H.FileHandle.content g.H.FileHandle.size
-    g.H.FileHandle.faults g.H.FileHandle.reads g.H.FileHandle.mark) c.merge_inputs.new.inputs.items) s
-    c.args.short (map find_of c.args.script.finds.items) c.in_ok-files.files.items
-    (required_of c.args.script.required.items) (option_map (λ v. map address_of v.items) c.args.script.order)
-    c.merge_inputs.result
+    script-made g.H.FileHandle.seen c.args.inputs.now.items
+    (handed_in g.H.FileHandle.seen c.merge_inputs.new.inputs.items) s c.args.short
+    (map find_of c.args.script.finds.items) c.in_ok-files.files.items (required_of c.args.script.required.items)
+    (option_map (λ v. map address_of v.items) c.args.script.order) c.merge_inputs.result
     (record {
       ok =
           (c.in_ok-files.ensures s.segments (is.segments ∙ ap (map segment_of) (sym c.deref.ensures.value))).ok;
@@ -53,16 +50,12 @@ returns-clause-segments g c = λ s is.
 
 pub returns-clause-read_fault : goal.returns-clause-read_fault
 returns-clause-read_fault g c =
-    λ s is e. handed-rose g.H.FileHandle.content g.H.FileHandle.size g.H.FileHandle.faults g.H.FileHandle.reads
-    g.H.FileHandle.mark c.args.inputs.now.items c.merge_inputs.new.inputs.items
+    λ s is e. rose-seen g.H.FileHandle.seen c.args.inputs.now.items c.merge_inputs.new.inputs.items
     (c.merge_inputs.ensures.read_fault e)
+
+pub returns-in_err-files-clause-handles : goal.returns-in_err-files-clause-handles
+returns-in_err-files-clause-handles g c = all_keep-none (map g.H.FileHandle.seen c.args.inputs.now.items)
 
 pub returns-clause-handles : goal.returns-clause-handles
 returns-clause-handles g c =
-    handed g.H.FileHandle.content g.H.FileHandle.size g.H.FileHandle.faults g.H.FileHandle.reads g.H.FileHandle.mark
-    c.args.inputs.now.items c.merge_inputs.new.inputs.items c.merge_inputs.ensures.kept
-
-pub returns-clause-marks : goal.returns-clause-marks
-returns-clause-marks g c =
-    handed-marks g.H.FileHandle.content g.H.FileHandle.size g.H.FileHandle.faults g.H.FileHandle.reads
-    g.H.FileHandle.mark c.args.inputs.now.items c.merge_inputs.new.inputs.items c.merge_inputs.ensures.kept
+    kept-seen g.H.FileHandle.seen c.args.inputs.now.items c.merge_inputs.new.inputs.items c.merge_inputs.ensures.kept

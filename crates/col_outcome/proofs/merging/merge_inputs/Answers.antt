@@ -1,6 +1,5 @@
 use Rattle.std.proofs.Common.{map, option_map, arith}
 use Rattle.std.proofs.lemmas.Result.{err_from_is_err_and}
-use Rattle.col_file.specs.Files.{seen_by}
 use Rattle.col_lines.specs.Finds.{find_of}
 use Rattle.col_order.specs.Orders.{address_of}
 use Rattle.col_merge_plan.specs.Slots.{required_of}
@@ -12,7 +11,7 @@ use Rattle.col_outcome.proofs.merging.merge_inputs.Goals as goal
 
 pub returns-in_err-readers : goal.returns-in_err-readers
 returns-in_err-readers g c =
-    let see = seen_by g.H.FileHandle.content g.H.FileHandle.size g.H.FileHandle.faults g.H.FileHandle.reads g.H.FileHandle.mark in
+    let see = g.H.FileHandle.seen in
     let p = err_from_is_err_and c.from_residual.result c.from_residual.ensures.1 in
     rw p.1 (inputs-memory (IsMade c.args.short (map find_of c.args.finds.now))
     (handed_in see c.args.inputs.now.items) (handed_in see c.args.inputs.now.items) c.args.files.now
@@ -21,7 +20,7 @@ returns-in_err-readers g c =
 
 pub hand_back-requires : goal.hand_back-requires
 hand_back-requires g c =
-    let see = seen_by g.H.FileHandle.content g.H.FileHandle.size g.H.FileHandle.faults g.H.FileHandle.reads g.H.FileHandle.mark in
+    let see = g.H.FileHandle.seen in
     omega (
       arith,
       held-long see c.reverse.new.self.items c.merge_opened-made.new.left.items

@@ -1,7 +1,6 @@
 use Rattle.std.proofs.Common.{map, option_map, reverse, drop, length, ◌∙◌, arith}
 use Rattle.std.proofs.lemmas.List.{take_at}
 use Rattle.std.proofs.lemmas.Result.{err_from_is_err_and}
-use Rattle.col_file.specs.Files.{seen_by}
 use Rattle.col_lines.specs.Finds.{find_of}
 use Rattle.col_order.specs.Orders.{address_of}
 use Rattle.col_merge_plan.specs.Slots.{required_of}
@@ -20,7 +19,7 @@ returns-in_err-open_inputs-clause-merges g c = λ unfailed.
 
 pub open_files-requires : goal.open_files-requires
 open_files-requires g c =
-    let see = seen_by g.H.FileHandle.content g.H.FileHandle.size g.H.FileHandle.faults g.H.FileHandle.reads g.H.FileHandle.mark in
+    let see = g.H.FileHandle.seen in
     omega (
       arith,
       opened-long see c.args.left.now.items c.open_inputs.new.readers.items
@@ -33,7 +32,7 @@ open_files-requires g c =
 
 pub returns-clause-merges : goal.returns-clause-merges
 returns-clause-merges g c = λ unfailed.
-    let see = seen_by g.H.FileHandle.content g.H.FileHandle.size g.H.FileHandle.faults g.H.FileHandle.reads g.H.FileHandle.mark in
+    let see = g.H.FileHandle.seen in
     let back = take_at c.merge_readers.new.readers
     (drop (length c.merge_readers.new.readers) c.open_files.new.readers.items) c.open_files.new.readers.len
     (c.merge_readers.auto.readers ∙ c.deref_mut.ensures.len) in
@@ -47,7 +46,7 @@ returns-clause-merges g c = λ unfailed.
 
 pub returns-clause-kept : goal.returns-clause-kept
 returns-clause-kept g c =
-    let see = seen_by g.H.FileHandle.content g.H.FileHandle.size g.H.FileHandle.faults g.H.FileHandle.reads g.H.FileHandle.mark in
+    let see = g.H.FileHandle.seen in
     let fs = handed_in see (reverse c.args.left.now.items) in
     let keep : AllKeep fs (all_files see c.open_files.new.readers.items c.open_inputs.new.left.items) =
     rw c.in_ok-open_files.ensures.given c.in_ok-open_inputs.ensures.opens.kept in

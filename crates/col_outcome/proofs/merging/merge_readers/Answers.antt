@@ -1,4 +1,4 @@
-use Rattle.std.proofs.Common.{map, option_map}
+use Rattle.std.proofs.Common.{length, map, option_map}
 use Rattle.std.proofs.lemmas.Result.{err_from_is_err_and}
 use Rattle.col_merge_plan.specs.Slots.{required_of}
 use Rattle.col_lines.specs.Finds.{find_of}
@@ -6,13 +6,14 @@ use Rattle.col_order.specs.Orders.{address_of}
 use Rattle.col_outcome.specs.Making.{IsMade}
 use Rattle.col_outcome.proofs.MergedFileLemmas.{readers-memory}
 use Rattle.col_outcome.proofs.MergedLemmas.{order-refused, file-refused, all-made}
-use Rattle.col_outcome.proofs.StayLemmas.{all_stay-none}
+use Rattle.col_merge.proofs.ReadingLemmas.{all_read-none}
 use Rattle.col_outcome.proofs.merging.merge_readers.Goals as goal
 
 pub returns-in_err-counts : goal.returns-in_err-counts
 returns-in_err-counts g c =
     let p = err_from_is_err_and c.from_residual.result c.from_residual.ensures.1 in
-    rw p.1 (readers-memory (IsMade c.args.short (map find_of c.args.finds.now)) _ _ p.0 _ p.2 (all_stay-none c.args.readers.now))
+    rw p.1 (readers-memory (IsMade c.args.short (map find_of c.args.finds.now)) _ _ p.0 _ p.2
+    (all_read-none (λ k. length k.entries) c.args.readers.now))
 
 pub returns-in_err-order : goal.returns-in_err-order
 returns-in_err-order g c =

@@ -7,6 +7,6 @@ use Rattle.col_report.proofs.found.push_find_head.Goals as goal
 pub returns : goal.returns
 returns c =
     find-head _ _ _ _ _ _ (string_bytes c.args.find.now.name) _ _ (finds.ends_type c.args.find.now.ends)
-    c.deref.ensures (c.type_word.ensures ∙ ap type_name c.column_type.ensures)
+    c.deref.ensures (c.word.ensures ∙ ap type_name c.column_type.ensures)
     c.in_ok-extend_from_slice.ensures.items c.in_ok-push_quoted.ensures c.in_ok-push.ensures.items
     c.in_ok-push_quoted-2.ensures c.in_ok-push-2.ensures.items

@@ -2,8 +2,9 @@ use Rattle.std.proofs.Common.{◌≡◌, ◌++◌, ◌∷◌, [], length, map, s
 use Rattle.std.specs.Vec.Iter.{into_iter_items, into_iter_len}
 use Rattle.std.proofs.lemmas.List.{map_push}
 use Rattle.std.proofs.lemmas.Result.{err_from_is_err_and}
+use Rattle.col_file.proofs.ReadLemmas.{reads-none}
 use Rattle.col_report.specs.Opened.{opened}
-use Rattle.col_report.proofs.OpenLemmas.{OpensFrom, Listed, opens-none, next-entry, opens-more, opens-refused, next-read, all-read, none-left, opens-all, reads-none, reads-fewer}
+use Rattle.col_report.proofs.OpenLemmas.{OpensFrom, Listed, opens-none, next-entry, opens-more, opens-refused, read-next, all-read, none-left, opens-all}
 use Rattle.col_report.proofs.open.open_columns.Goals as goal
 
 pub loop-name-init : goal.loop-name-init
@@ -63,25 +64,17 @@ returns-clause-answer g c =
 
 pub returns-in_err-column-clause-reads : goal.returns-in_err-column-clause-reads
 returns-in_err-column-clause-reads g c =
-    let r = c.args.reader.now in
-    let at = c.loop-name in
-    let x : Listed = (c.in-Some.name, c.in-Some.handle) in
-    let left = into_iter_items c.next.new.self in
-    let made = map opened at.columns.items in
-    let steps : into_iter_items at.name-iterator ≡ x ∷ left = c.in-Some.ensures.steps.0 in
-    let now = subst (λ ps. OpensFrom r at.reader ps made) steps at.invariant.0 in
-    next-read r at.reader c.open_named.new.reader x left made now c.in_err-column.ensures.kept
+    read-next c.args.reader.now c.loop-name.reader c.open_named.new.reader
+    (into_iter_items c.loop-name.name-iterator) (into_iter_items c.next.new.self)
+    (c.in-Some.name, c.in-Some.handle) (map opened c.loop-name.columns.items) c.loop-name.invariant.0
+    c.in-Some.ensures.steps.0 c.in_err-column.ensures.kept
 
 pub returns-in_err-push-clause-reads : goal.returns-in_err-push-clause-reads
 returns-in_err-push-clause-reads g c =
-    let r = c.args.reader.now in
-    let at = c.loop-name in
-    let x : Listed = (c.in-Some.name, c.in-Some.handle) in
-    let left = into_iter_items c.next.new.self in
-    let made = map opened at.columns.items in
-    let steps : into_iter_items at.name-iterator ≡ x ∷ left = c.in-Some.ensures.steps.0 in
-    let now = subst (λ ps. OpensFrom r at.reader ps made) steps at.invariant.0 in
-    next-read r at.reader c.open_named.new.reader x left made now c.in_ok-column.ensures.kept
+    read-next c.args.reader.now c.loop-name.reader c.open_named.new.reader
+    (into_iter_items c.loop-name.name-iterator) (into_iter_items c.next.new.self)
+    (c.in-Some.name, c.in-Some.handle) (map opened c.loop-name.columns.items) c.loop-name.invariant.0
+    c.in-Some.ensures.steps.0 c.in_ok-column.ensures.kept
 
 pub returns-clause-reads : goal.returns-clause-reads
 returns-clause-reads g c =
@@ -90,5 +83,4 @@ returns-clause-reads g c =
 
 pub returns-in_err-name-items-clause-reads : goal.returns-in_err-name-items-clause-reads
 returns-in_err-name-items-clause-reads g c =
-    let r = c.args.reader.now in
-    reads-fewer r r 0 (length r.keys.entries) (omega arith) (reads-none r)
+    reads-none (length c.args.reader.now.keys.entries) c.args.reader.now

@@ -1,7 +1,7 @@
 use Rattle.std.proofs.Common.{string_bytes, refl}
 use Rattle.std.proofs.lemmas.Result.{err_from_is_err_and}
 use Rattle.col_report.specs.Opened.{entry_at}
-use Rattle.col_report.specs.declared.open.NamedColumn.{NamedColumn}
+use Rattle.col_report.specs.declared.open.OpenColumn.{OpenColumn}
 use Rattle.col_report.proofs.OpenLemmas.{entry-refused, entry-answered}
 use Rattle.col_report.proofs.open.open_named.Goals as goal
 
@@ -16,5 +16,5 @@ pub returns-clause-answer : goal.returns-clause-answer
 returns-clause-answer g c entry =
     let r = c.args.reader.now in
     let e = entry_at (string_bytes c.args.name, c.args.handle.now) in
-    let made : NamedColumn = record { name = c.args.name; column = c.in_ok-column.column } in
+    let made : OpenColumn = record { name = c.args.name; column = c.in_ok-column.column } in
     entry-answered r.keys e entry r.file.told made refl c.in_ok-column.ensures.answer

@@ -5,7 +5,7 @@ use Rattle.col_order.specs.Orders.{counts_of}
 use Rattle.col_order.specs.RowOrders.{order_of}
 use Rattle.col_merge_plan.specs.Slots.{counts_read}
 use Rattle.col_merge_plan.proofs.CountLemmas.{left_alike}
-use Rattle.col_merge_plan.proofs.row_counts.is_order_of.Given as goal
+use Rattle.col_merge_plan.proofs.counts.is_order_of.Given as goal
 
 abbrev pub invariant-loop-segment : goal.invariant-loop-segment
 invariant-loop-segment g l =

@@ -1,8 +1,8 @@
-use Rattle.std.proofs.Common.{◌≡◌, ◌<◌, length, sym, ◌∙◌, arith}
+use Rattle.std.proofs.Common.{◌≡◌, length, sym, ◌∙◌, arith}
 use Rattle.col_order.specs.Orders.{counts_of}
 use Rattle.col_order.specs.RowOrders.{order_of}
 use Rattle.col_merge_plan.proofs.CountLemmas.{counts-more, counts-stop}
-use Rattle.col_merge_plan.proofs.row_counts.is_order_of.Goals as goal
+use Rattle.col_merge_plan.proofs.counts.is_order_of.Goals as goal
 
 pub returns-then-segment_num_rows-num_docs : goal.returns-then-segment_num_rows-num_docs
 returns-then-segment_num_rows-num_docs g c =
