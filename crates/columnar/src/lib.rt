@@ -1,0 +1,33 @@
+//! The store as one crate to import: the names that the Rust crate has at its root stand here, and
+//! the others by subject in the modules. Every name is that of the crate that makes it, with its
+//! contract; `specs/` gives the definitions again that contracts of the names at the root cite.
+#![tactic(auto)]
+
+pub mod bits;
+pub mod column_index;
+pub mod column_values;
+pub mod columns;
+pub mod dictionaries;
+pub mod files;
+pub mod merging;
+pub mod outside;
+pub mod recording;
+
+pub use col_common::{
+    ByteCount, ColumnarError, DateTime, DocId, InvalidData, Ipv6Addr, Iterable, RowAddr, RowId,
+    Walk,
+};
+pub use col_dynamic::{
+    BytesColumn, Column, ColumnSpaceUsage, ColumnType, DynamicColumn, HasAssociatedColumnType,
+    IpColumn, NumColumn, NumericalType, NumericalValue, StrColumn,
+};
+pub use col_file::{ColumnIter, ColumnarReader, DynamicColumnHandle};
+pub use col_index::{CURRENT_VERSION, Cardinality, ColumnIndex, Version};
+pub use col_merge::{StackFromReaders, merge_columnar};
+pub use col_merge_terms::compute_merged_term_ord_mapping;
+pub use col_order::{MergeRowOrder, ShuffleMergeOrder, StackMergeOrder};
+pub use col_terms::{Dictionary, Streamer, TermOrdHit};
+pub use col_values::{
+    ColumnValues, EmptyColumnValues, MonotonicallyMappableToU64, MonotonicallyMappableToU128,
+};
+pub use col_writer::ColumnarWriter;
