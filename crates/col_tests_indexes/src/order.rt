@@ -13,9 +13,10 @@ const ROWS: [(u32, RowId); 4] = [(1, 0), (1, 1), (1, 2), (0, 0)];
 fn addresses(alloc: Global, rows: &[(u32, RowId)]) -> Result<Vec<RowAddr>, ColumnarError> {
     let mut addresses = Vec::with_capacity(alloc, rows.len())?;
     for row in rows {
+        let (segment_ord, row_id) = *row;
         addresses.push(RowAddr {
-            segment_ord: row.0,
-            row_id: row.1,
+            segment_ord,
+            row_id,
         })?;
     }
     Ok(addresses)

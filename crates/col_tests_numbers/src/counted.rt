@@ -5,16 +5,13 @@ ghost use Rattle.col_values.specs.Codes.{number_cmp};
 ghost use Rattle.col_values.specs.Values.{hits_between};
 
 use col_codecs::BitpackedReader;
-use col_common::{ColumnarError, Steps};
+use col_common::Steps;
+use col_values::Found;
 use std::marker::Brand;
 use std::sync::ledger::{Blank, Ledger};
 
 /// The positions in a packed list of the values from the first to the last.
-pub fn look_up(
-    list: &BitpackedReader,
-    values: (u64, u64),
-    hits: &mut Vec<u32>,
-) -> Result<(), ColumnarError>
+pub fn look_up(list: &BitpackedReader, values: (u64, u64), hits: &mut Vec<u32>) -> Found
     ensures { Replaces result hits.new.items
         (hits_between number_cmp list.now values.0 values.1 0 (2 ^ 32 - 1)) }
 {
@@ -26,7 +23,7 @@ fn look_up_from_no_step<L: Ledger>(
     values: (u64, u64),
     hits: &mut Vec<u32>,
     blank: Blank,
-) -> Result<(), ColumnarError>
+) -> Found
     requires name { blank.name ≡ L.name }
     requires parts { blank.parts ≡ L.parts }
     requires some { 0 < blank.parts }
@@ -42,7 +39,7 @@ fn look_up_in_two_steps<L: Ledger>(
     values: (u64, u64),
     hits: &mut Vec<u32>,
     steps: &mut Steps<L>,
-) -> Result<(), ColumnarError>
+) -> Found
     ensures ok { Replaces result hits.new.items
         (hits_between number_cmp list.now values.0 values.1 0 (2 ^ 32 - 1)) }
     ensures steps { steps.new ≤ steps.old + 2 }

@@ -1,10 +1,9 @@
 //! A list that counts how it is asked.
 ghost use Rattle.std.specs.Prelude.{◌≡◌};
 
-use col_common::{ColumnarError, RowId};
-use col_values::{ColumnValues, VecColumn};
+use col_common::RowId;
+use col_values::{ColumnValues, Found, Rows, VecColumn};
 use std::cell::Cell;
-use std::ops::Range;
 
 /// A list that counts the values and the lookups that it is asked for.
 #[derive(Drop)]
@@ -42,14 +41,8 @@ impl<'a> ColumnValues<u64> for Counting<'a> {
         self.values.max_value()
     }
 
-    fn get_row_ids_between(
-        &self,
-        low: u64,
-        high: u64,
-        row_ids: Range<RowId>,
-        hits: &mut Vec<RowId>,
-    ) -> Result<(), ColumnarError> {
+    fn get_row_ids_between(&self, low: u64, high: u64, rows: Rows, hits: &mut Vec<RowId>) -> Found {
         count(self.lookups);
-        self.values.get_row_ids_between(low, high, row_ids, hits)
+        self.values.get_row_ids_between(low, high, rows, hits)
     }
 }
