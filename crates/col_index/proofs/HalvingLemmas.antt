@@ -1,5 +1,5 @@
 -- How often what is left can be halved.
-use Rattle.std.proofs.Common.{◌≡◌, ℕ, suc, ◌+◌, ◌*◌, ◌^◌, ◌<◌, ◌≤◌, ◌∙◌, arith, add-one, pow-suc}
+use Rattle.std.proofs.Common.{◌≡◌, ℕ, ◌+◌, ◌*◌, ◌^◌, ◌<◌, ◌≤◌, arith, add-one, pow-suc}
 use Rattle.std.proofs.Math.Nat.{mul_assoc, mul-le-mul_left}
 
 -- what is left after so many halves

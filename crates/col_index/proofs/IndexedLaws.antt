@@ -163,3 +163,9 @@ counts-are_offset_counts cs =
     let apart : some_counts cs ≡ differences (starts_of cs) = sym r.apart ∙ ap differences (sym (count_starts cs (suc (sum cs)) r)) in
     spread_is (length cs) (rows_with_value cs) (differences (starts_of cs)) cs refl
     (subst (λ vs. IsSpread 0 (rows_with_value cs) vs cs) apart (spread_of_counts cs))
+
+-- where the values of rows with a value start rises
+pub starts-rise : (cs : List ℕ) → is_rising (starts_of cs) ≡ true
+starts-rise cs =
+    let r = count_runs cs (suc (sum cs)) (omega arith) in
+    ap is_rising (count_starts cs (suc (sum cs)) r) ∙ r.rises

@@ -6,6 +6,8 @@ pub mod DifferenceLaws
 pub mod RowsLaws
 pub mod CountLaws
 pub mod IndexedLaws
+pub mod RepeatLaws
+pub mod RangeLaws
 mod OpeningLemmas
 mod ShapeLemmas
 mod HalvingLemmas
@@ -27,9 +29,13 @@ mod RowsAtLemmas
 mod KeptLemmas
 mod TurnLemmas
 mod OldStartLemmas
+mod OldTestLemmas
+mod OldRowLemmas
+mod OldSelectLemmas
 mod PartLemmas
 mod LowLemmas
 mod RankWordLemmas
 mod RankedLemmas
 mod WindowLemmas
 mod WrittenLemmas
+mod WalkLemmas

@@ -1,17 +1,32 @@
 -- Start offsets of all rows.
-use Rattle.std.proofs.Common.{◌≡◌, ℕ, ◌-◌, ◌<◌, ◌^◌, nat_eq, nat_lt, true, List, [], ◌∷◌, ◌++◌, length, take, sum, sym, ap, ◌∙◌, arith}
+use Rattle.std.proofs.Common.{◌≡◌, ℕ, ◌-◌, ◌<◌, ◌^◌, nat_eq, nat_lt, true, List, [], ◌∷◌, ◌++◌, length, take, sum, slice_get, Some, sym, ap, ◌∙◌, arith}
 use Rattle.std.specs.List.{list_all, starts_with}
 use Rattle.std.proofs.lemmas.Bool.{and_parts, ltb-true}
 use Rattle.std.proofs.lemmas.List.{take_all}
-use Rattle.col_common.specs.Ascending.{is_never_falling, differences}
+use Rattle.std.proofs.lemmas.Option.{get_or_from_slice_get, slice_get_within}
+use Rattle.col_common.specs.Ascending.{is_never_falling, differences, AreBelow}
 use Rattle.col_model.specs.Index.{RowSet, RowOffsets}
 use Rattle.col_model.specs.Positions.{rows_with_value, starts_of}
 use Rattle.col_index.specs.Offsets.{AreOffsets, AreOldOffsets}
 use Rattle.col_model.proofs.ListLaws.{length-differences}
 use Rattle.col_index.proofs.DifferenceLaws.{sum-differences}
 use Rattle.col_index.proofs.IndexedLaws.{set_of_counts, offsets_of_counts, counts-are_offsets}
+use Rattle.col_index.proofs.RankLaws.{below_at}
+use Rattle.col_index.proofs.SpreadLaws.{all_below}
 use Rattle.col_index.proofs.StartLemmas.{start_list-parts, passes_at}
 use Rattle.col_index.proofs.SetLemmas.{few_rows}
+
+-- the offsets are numbers of 32 bits
+pub old-below : (starts : List ℕ) → AreOldOffsets starts → AreBelow (2 ^ 32) starts
+old-below starts old =
+    all_below (2 ^ 32) starts
+    (and_parts (starts_with nat_eq starts (0 ∷ [])) (list_all (λ s. nat_lt s (2 ^ 32)) starts) old.offsets).1
+
+-- so is the one at a place
+pub old-fits : (starts : List ℕ) (i v : ℕ) → AreOldOffsets starts → slice_get starts i ≡ Some v → v < 2 ^ 32
+old-fits starts i v old read =
+    let low = below_at (2 ^ 32) starts i (old-below starts old) (slice_get_within starts i v read) in
+    omega (arith, low, get_or_from_slice_get starts i v 0 read)
 
 -- each row has the distance of two offsets
 pub length-counts_between : (starts : List ℕ) → length (differences starts) ≡ length starts - 1

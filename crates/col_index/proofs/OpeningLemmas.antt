@@ -1,5 +1,5 @@
 -- Parts of the bytes of indexes.
-use Rattle.std.proofs.Common.{◌≡◌, ℕ, ◌+◌, ◌-◌, ◌^◌, ◌≤◌, ◌&&◌, nat_lt, Bool, List, ◌++◌, length, drop, Option, Some, None, refl, sym, ◌∙◌, ap, subst, arith, length-append, true, false}
+use Rattle.std.proofs.Common.{◌≡◌, ℕ, ◌+◌, ◌-◌, ◌^◌, ◌≤◌, ◌&&◌, nat_lt, Bool, List, ◌++◌, length, drop, Option, Some, None, option_map, refl, sym, ◌∙◌, ap, subst, arith, length-append, true, false}
 use Rattle.std.specs.Int.{w64}
 use Rattle.std.proofs.lemmas.Bool.{lt-ltb}
 use Rattle.std.proofs.lemmas.Option.{option_and_then_some, cond_some}
@@ -7,11 +7,12 @@ use Rattle.std.proofs.Math.Seq.{drop-append_seam}
 use Rattle.col_common.specs.Reading.{◌>>=◌, IsBytes, only_if, parts_by_first}
 use Rattle.col_common.specs.VInt.{vint, vint_bytes}
 use Rattle.col_common.proofs.VIntLemmas.{vint_bytes-vint}
-use Rattle.col_model.specs.Index.{RowSet, row_set, row_offsets}
+use Rattle.col_common.specs.Ascending.{is_never_falling, differences}
+use Rattle.col_model.specs.Index.{RowSet, row_set, row_offsets, are_offsets, offset_counts_v1}
 use Rattle.col_model.specs.U64List.{values64}
 use Rattle.col_model.proofs.ItemLaws.{only_if-none}
 use Rattle.col_index.specs.Sets.{is_row_list, set_by}
-use Rattle.col_index.specs.Offsets.{offsets_by}
+use Rattle.col_index.specs.Offsets.{offsets_by, old_offsets_by}
 use Rattle.col_index.specs.Opening.{row_count_at}
 
 -- what stands behind a number ends with the bytes
@@ -90,3 +91,21 @@ pub row_offsets-read : (bytes a b starts : List ℕ) (set : RowSet) → parts_by
     → row_set a ≡ Some set → values64 b ≡ Some starts → row_offsets bytes ≡ offsets_by set starts
 row_offsets-read bytes a b starts set e f g =
     row_offsets-parted bytes a b e ∙ ap (λ s. s >>= λ set. values64 b >>= offsets_by set) f ∙ ap (λ values. values >>= offsets_by set) g
+
+-- ---- offsets of all rows
+
+-- offsets that aren't read
+pub offset_counts_v1-unread : (bytes : List ℕ) → values64 bytes ≡ None → offset_counts_v1 bytes ≡ None
+unfolding offset_counts_v1
+offset_counts_v1-unread bytes e = rw e refl
+
+-- counts that are told apart by a test
+tested_counts : (b : Bool) (starts : List ℕ) → only_if b (differences starts) ≡ option_map differences (only_if b starts)
+tested_counts true starts = refl
+tested_counts false starts = refl
+
+-- offsets that are read
+pub offset_counts_v1-read : (bytes starts : List ℕ) → values64 bytes ≡ Some starts
+    → offset_counts_v1 bytes ≡ option_map differences (old_offsets_by starts)
+unfolding offset_counts_v1
+offset_counts_v1-read bytes starts e = rw e (tested_counts (are_offsets starts && is_never_falling starts) starts)

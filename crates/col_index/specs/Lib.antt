@@ -8,6 +8,7 @@ pub mod RankedRows
 pub mod Versions
 pub mod Offsets
 pub mod MultiValues
+pub mod Walked
 pub mod Indexes
 pub mod Opening
 pub mod Laws

@@ -1,5 +1,5 @@
 -- Rows with a value and where their values start.
-use Rattle.std.specs.Prelude.{◌≡◌, ℕ, ◌+◌, ◌-◌, ◌^◌, ◌==◌, ◌≤◌, ◌&&◌, Bool, true, List, length, map, flat_map, slice_index, sum, Option, if◌then◌else◌}
+use Rattle.std.specs.Prelude.{◌≡◌, ℕ, ◌+◌, ◌-◌, ◌^◌, ◌==◌, ◌≤◌, ◌&&◌, Bool, true, List, [], ◌∷◌, length, map, flat_map, slice_index, sum, Option, if◌then◌else◌}
 use Rattle.std.specs.List.{range_with_len}
 use Rattle.col_common.specs.Reading.{only_if}
 use Rattle.col_common.specs.Ascending.{is_rising, is_never_falling, are_below}
@@ -21,6 +21,21 @@ is_start_list n starts = are_offsets starts && is_rising starts && (length start
 abbrev pub offsets_by : RowSet → List ℕ → Option RowOffsets
 offsets_by set starts =
     only_if (is_start_list (length set.rows) starts) (record { set = set; starts = starts })
+
+-- the offsets, where they are those of version 1
+abbrev pub old_offsets_by : List ℕ → Option (List ℕ)
+old_offsets_by starts = only_if (are_offsets starts && is_never_falling starts) starts
+
+-- behind a number, the list without each item that equals the one before it
+abbrev pub changes_behind : ℕ → List ℕ → List ℕ
+changes_behind last [] = []
+changes_behind last (x ∷ xs) =
+    let later = changes_behind x xs in if x == last then later else x ∷ later
+
+-- the list without each item that equals the one before it
+abbrev pub without_repeats : List ℕ → List ℕ
+without_repeats [] = []
+without_repeats (x ∷ xs) = x ∷ changes_behind x xs
 
 -- one start offset more than rows, from 0 on, which never fall; at most 2 ^ 32 - 1 of them
 pub record AreOldOffsets (starts : List ℕ) : Type 0 where

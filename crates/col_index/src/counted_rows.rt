@@ -1,8 +1,6 @@
-//! Rising numbers of a list, where each look at one is a step.
-ghost use Rattle.std.specs.Prelude.{◌≡◌, ◌<◌, ◌+◌, ◌-◌, ◌*◌, ◌≤◌, ◌^◌, true, length, slice_get, Some};
-ghost use Rattle.col_common.specs.Ascending.{is_rising};
-ghost use Rattle.col_model.specs.Positions.{rank};
-ghost use Rattle.col_index.specs.Search.{IsNarrowed};
+//! The numbers of a list, where each look at one is a step. No search stands in this file: outside
+//! it the list can't be asked in another way.
+ghost use Rattle.std.specs.Prelude.{◌≡◌, ◌<◌, ◌+◌, length, slice_get, Some};
 
 use col_common::Steps;
 use col_numbers::U64Values;
@@ -50,32 +48,4 @@ impl<'a, L: Ledger> CountedRows<'a, L> {
         steps.tick();
         self.values.get_val(at)
     }
-}
-
-/// How many numbers are below a target, where those below `low` are, and those from `high` on are
-/// not: by halves.
-#[inline(always)]
-pub fn narrow_counted<L: Ledger>(
-    rows: &CountedRows<'_, L>,
-    low: u32,
-    high: u32,
-    target: u64,
-    steps: &mut Steps<L>,
-) -> u32
-    requires rising { is_rising rows.now ≡ true }
-    requires narrowed { IsNarrowed rows.now target low high }
-    ensures rank { result ≡ rank rows.now target }
-    ensures steps { 2 ^ (steps.new - steps.old) ≤ 2 * (high - low) + 1 }
-{
-    let mut low = low;
-    let mut high = high;
-    while low < high {
-        let middle = low + (high - low) / 2;
-        if rows.look(middle, steps) < target {
-            low = middle + 1;
-        } else {
-            high = middle;
-        }
-    }
-    low
 }

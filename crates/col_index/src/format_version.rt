@@ -7,9 +7,13 @@ use col_common::InvalidData;
 use col_model::CURRENT_VERSION as CURRENT_NUMBER;
 use std::fmt;
 
+// The number of version 1.
+const FIRST_NUMBER: u32 = 1;
+
 /// The version of a file.
 #[derive(Clone, Copy, Debug, PartialEq, Eq)]
 pub enum Version {
+    V1,
     V2,
 }
 
@@ -24,6 +28,7 @@ impl Version {
         ensures { result ≡ to_le_bytes w32 (version_number self.now) }
     {
         match self {
+            Version::V1 => FIRST_NUMBER.to_le_bytes(),
             Version::V2 => CURRENT_NUMBER.to_le_bytes(),
         }
     }
@@ -33,10 +38,10 @@ impl Version {
         ensures ok { IfOk result (λ version. version_number version ≡ from_le_bytes w32 bytes) }
         ensures invalid_data { IfErr result (λ _. is_version (from_le_bytes w32 bytes) ≡ false) }
     {
-        if u32::from_le_bytes(bytes) == CURRENT_NUMBER {
-            Ok(Version::V2)
-        } else {
-            Err(InvalidData)
+        match u32::from_le_bytes(bytes) {
+            FIRST_NUMBER => Ok(Version::V1),
+            CURRENT_NUMBER => Ok(Version::V2),
+            _ => Err(InvalidData),
         }
     }
 }
@@ -48,6 +53,7 @@ impl fmt::Display for Version {
 
     fn fmt<W: fmt::Write>(&self, f: &mut fmt::Formatter<W>) -> fmt::Result {
         f.write_str(match self {
+            Version::V1 => "v1",
             Version::V2 => "v2",
         })
     }

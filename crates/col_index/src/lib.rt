@@ -9,11 +9,13 @@ mod counted_rows;
 mod format_version;
 mod laws;
 mod multivalued_index;
+mod multivalued_index_v1;
 mod multivalued_index_v2;
 mod non_null_docs;
 mod open;
 mod optional_counts;
 mod optional_index;
+mod optional_walks;
 mod rank_buckets;
 mod rank_words;
 mod ranks;
@@ -22,6 +24,7 @@ mod row_lows;
 mod search;
 mod select_cursor;
 mod set;
+mod walked_rows;
 mod windows;
 
 pub use cardinality::Cardinality;
@@ -32,6 +35,7 @@ pub use laws::{
     cardinalities_compare_as_their_codes, indexes_have_counts, versions_are_equal_as_their_numbers,
 };
 pub use multivalued_index::MultiValueIndex;
+pub use multivalued_index_v1::MultiValueIndexV1;
 pub use multivalued_index_v2::MultiValueIndexV2;
 pub use non_null_docs::NonNullDocs;
 pub use open::{open_column_index, open_multivalued_index, open_optional_index};

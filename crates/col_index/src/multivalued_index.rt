@@ -1,14 +1,16 @@
 //! Rows that have any number of values.
-ghost use Rattle.std.specs.Prelude.{◌≡◌, ◌^◌, ◌==◌, not, true, nat_le, length, sum, slice_index};
+ghost use Rattle.std.specs.Prelude.{◌≡◌, ◌+◌, ◌^◌, ◌==◌, not, true, nat_le, length, sum, slice_index};
+ghost use Rattle.std.specs.Prelude.{option_map, slice_get};
 ghost use Rattle.std.specs.Prelude.{IfOk, IfErr};
 ghost use Rattle.std.specs.List.{list_all};
 ghost use Rattle.col_common.specs.declared.error.ColumnarError.TheVariants as refusals;
 ghost use Rattle.col_common.specs.Ascending.{is_rising, differences, AreBelow};
-ghost use Rattle.col_model.specs.Positions.{start_of, index_range, rows_with_value, next_row, starts_of, rows_at};
+ghost use Rattle.col_model.specs.Positions.{rank, start_of, index_range, rows_with_value, next_row, starts_of, rows_at};
 ghost use Rattle.col_numbers.specs.Readers.{list_of};
-ghost use Rattle.col_index.specs.Offsets.{range_if_any, AreOldOffsets, row_positions, found_rows, positions_of};
+ghost use Rattle.col_index.specs.Offsets.{range_if_any, AreOldOffsets, without_repeats, row_positions, found_rows, positions_of};
 ghost use Rattle.col_index.specs.Appending.{PushesBoth};
 
+use crate::multivalued_index_v1::MultiValueIndexV1;
 use crate::multivalued_index_v2::MultiValueIndexV2;
 use crate::non_null_docs::NonNullDocs;
 use col_common::{ColumnarError, DocId, RowId};
@@ -21,6 +23,7 @@ use std::ops::Range;
 /// How many values each row has.
 #[derive(Drop)]
 pub enum MultiValueIndex {
+    MultiValueIndexV1(MultiValueIndexV1),
     MultiValueIndexV2(MultiValueIndexV2),
 }
 
@@ -44,18 +47,24 @@ impl MultiValueIndex {
         ensures { IfOk result (λ index. value_counts_of index ≡ value_counts_of self.now) }
     {
         match self {
+            MultiValueIndex::MultiValueIndexV1(index) => {
+                Ok(MultiValueIndex::MultiValueIndexV1(index.try_clone(alloc)?))
+            }
             MultiValueIndex::MultiValueIndexV2(index) => {
                 Ok(MultiValueIndex::MultiValueIndexV2(index.try_clone(alloc)?))
             }
         }
     }
 
-    /// Where the values of each row with a value start, and behind the last where they end.
+    /// Where the values of rows start, and behind the last where they end. In version 2 these are
+    /// the rows with a value; in version 1 all rows, so that a start may come more than once.
     pub fn get_start_index_column(&self) -> &U64Values
-        ensures counts { list_of result.now ≡ starts_of (value_counts_of self.now) }
+        ensures counts { without_repeats (list_of result.now)
+            ≡ starts_of (value_counts_of self.now) }
         ensures fits { AreBelow (2 ^ 32) (list_of result.now) }
     {
         match self {
+            MultiValueIndex::MultiValueIndexV1(index) => index.start_index_column(),
             MultiValueIndex::MultiValueIndexV2(index) => index.start_index_column(),
         }
     }
@@ -67,6 +76,7 @@ impl MultiValueIndex {
         ensures end { result.end ≡ (index_range (value_counts_of self.now) doc_id).1 }
     {
         match self {
+            MultiValueIndex::MultiValueIndexV1(index) => index.range(doc_id),
             MultiValueIndex::MultiValueIndexV2(index) => index.range(doc_id),
         }
     }
@@ -78,6 +88,7 @@ impl MultiValueIndex {
         ensures end { result.end ≡ (range_if_any (value_counts_of self.now) doc_id).1 }
     {
         match self {
+            MultiValueIndex::MultiValueIndexV1(index) => index.range_if_any(doc_id),
             MultiValueIndex::MultiValueIndexV2(index) => index.range_if_any(doc_id),
         }
     }
@@ -87,6 +98,7 @@ impl MultiValueIndex {
         ensures { result ≡ start_of (value_counts_of self.now) doc_id }
     {
         match self {
+            MultiValueIndex::MultiValueIndexV1(index) => index.start_of(doc_id),
             MultiValueIndex::MultiValueIndexV2(index) => index.start_of(doc_id),
         }
     }
@@ -96,6 +108,7 @@ impl MultiValueIndex {
         ensures { result ≡ length (value_counts_of self.now) }
     {
         match self {
+            MultiValueIndex::MultiValueIndexV1(index) => index.num_docs(),
             MultiValueIndex::MultiValueIndexV2(index) => index.num_docs(),
         }
     }
@@ -105,6 +118,7 @@ impl MultiValueIndex {
         ensures { result ≡ not (slice_index (value_counts_of self.now) doc_id == 0) }
     {
         match self {
+            MultiValueIndex::MultiValueIndexV1(index) => index.has_value(doc_id),
             MultiValueIndex::MultiValueIndexV2(index) => index.has_value(doc_id),
         }
     }
@@ -114,7 +128,24 @@ impl MultiValueIndex {
         ensures { result ≡ next_row (rows_with_value (value_counts_of self.now)) target }
     {
         match self {
+            MultiValueIndex::MultiValueIndexV1(index) => index.next_non_null_doc(target),
             MultiValueIndex::MultiValueIndexV2(index) => index.next_non_null_doc(target),
+        }
+    }
+
+    /// The row of a rank, and where its values end. So many rows with a value stand before the row
+    /// from which on it is looked for.
+    #[inline(always)]
+    pub fn next_run(&self, place: u64, from: DocId) -> Option<(RowId, RowId)>
+        requires { rank (rows_with_value (value_counts_of self.now)) from ≡ place }
+        ensures row { option_map (λ r. r.0) result
+            ≡ slice_get (rows_with_value (value_counts_of self.now)) place }
+        ensures end { option_map (λ r. r.1) result
+            ≡ slice_get (starts_of (value_counts_of self.now)) (place + 1) }
+    {
+        match self {
+            MultiValueIndex::MultiValueIndexV1(index) => index.next_run(from),
+            MultiValueIndex::MultiValueIndexV2(index) => index.run_at(place),
         }
     }
 
@@ -123,6 +154,7 @@ impl MultiValueIndex {
         ensures { result ≡ rows_with_value (value_counts_of self.now) }
     {
         match self {
+            MultiValueIndex::MultiValueIndexV1(index) => index.iter_non_null_docs(),
             MultiValueIndex::MultiValueIndexV2(index) => index.iter_non_null_docs(),
         }
     }
@@ -141,6 +173,9 @@ impl MultiValueIndex {
             (positions_of (row_positions (value_counts_of self.now) docs.now)) }
     {
         match self {
+            MultiValueIndex::MultiValueIndexV1(index) => {
+                index.push_positions(docs, docs_out, rows_out)
+            }
             MultiValueIndex::MultiValueIndexV2(index) => {
                 index.push_positions(docs, docs_out, rows_out)
             }
@@ -157,6 +192,9 @@ impl MultiValueIndex {
         ensures { ranks.new.items ≡ rows_at (value_counts_of self.now) ranks.old.items }
     {
         match self {
+            MultiValueIndex::MultiValueIndexV1(index) => {
+                index.select_batch_in_place(doc_id_start, ranks)
+            }
             MultiValueIndex::MultiValueIndexV2(index) => {
                 index.select_batch_in_place(doc_id_start, ranks)
             }

@@ -1,6 +1,6 @@
 //! Rows that have any number of values, in version 2.
 ghost use Rattle.std.specs.Prelude.{◌≡◌, ◌≤◌, ◌<◌, ◌+◌, ◌^◌, ◌==◌, not, true, length, take, sum, slice_index, OnOk};
-ghost use Rattle.std.specs.Prelude.{◌++◌, IfOk, IfErr};
+ghost use Rattle.std.specs.Prelude.{◌++◌, option_map, slice_get, IfOk, IfErr};
 ghost use Rattle.col_common.specs.declared.error.ColumnarError.TheVariants as refusals;
 ghost use Rattle.col_common.specs.Ascending.{is_rising, differences, AreBelow};
 ghost use Rattle.col_model.specs.Index.{offset_counts};
@@ -158,6 +158,21 @@ impl MultiValueIndexV2 {
     {
         let (start, end) = self.start_index_column.get_pair(rank);
         start as RowId..end as RowId
+    }
+
+    /// The row of a rank, and where its values end.
+    #[inline(always)]
+    pub(crate) fn run_at(&self, place: u64) -> Option<(RowId, RowId)>
+        ensures row { option_map (λ r. r.0) result
+            ≡ slice_get (rows_with_value (offset_counts self.now)) place }
+        ensures end { option_map (λ r. r.1) result
+            ≡ slice_get (starts_of (offset_counts self.now)) (place + 1) }
+    {
+        if place >= u64::from(self.optional_index.num_non_nulls()) {
+            return None;
+        }
+        let row = self.optional_index.select(place as u32);
+        Some((row, self.start_at(place as u32 + 1)))
     }
 
     /// How many values stand before a row.

@@ -1,17 +1,19 @@
 //! Reads indexes.
 ghost use Rattle.std.specs.Prelude.{◌≡◌, ◌≤◌, ◌-◌, ◌∷◌, drop, length, option_map, None, IfSome, IfNone};
 ghost use Rattle.col_common.specs.Decoding.{Decodes};
-ghost use Rattle.col_model.specs.Index.{row_set, row_offsets, shape};
+ghost use Rattle.col_model.specs.Index.{row_set, row_offsets, offset_counts_v1, shape, multivalued_shape};
 ghost use Rattle.col_model.specs.Table.{cardinality_code};
 ghost use Rattle.col_index.specs.Versions.{version_number, cardinality_of};
-ghost use Rattle.col_index.specs.Opening.{row_count_at, first_byte_cardinality};
-ghost use Rattle.col_index.specs.MultiValues.{rows_and_offsets};
+ghost use Rattle.col_common.specs.Ascending.{differences};
+ghost use Rattle.col_index.specs.Opening.{row_count_at, first_byte_cardinality, multivalued_at};
+ghost use Rattle.col_index.specs.MultiValues.{value_counts_of};
 ghost use Rattle.col_index.specs.Indexes.{shape_of};
 
 use crate::cardinality::Cardinality;
 use crate::column_index::ColumnIndex;
 use crate::format_version::Version;
 use crate::multivalued_index::MultiValueIndex;
+use crate::multivalued_index_v1::MultiValueIndexV1;
 use crate::multivalued_index_v2::MultiValueIndexV2;
 use crate::optional_index::OptionalIndex;
 use bytes::Bytes;
@@ -29,16 +31,28 @@ pub fn open_optional_index(alloc: Global, bytes: Bytes) -> Result<OptionalIndex,
     OptionalIndex::from_rows(alloc, num_rows, load_u64_values(alloc, rows)?)
 }
 
-/// Reads an index of rows that have any number of values.
+/// Reads an index of rows that have any number of values, as a version has it.
 pub fn open_multivalued_index(
     alloc: Global,
     bytes: Bytes,
     format_version: Version,
 ) -> Result<MultiValueIndex, ColumnarError>
-    ensures { Decodes rows_and_offsets result (row_offsets bytes) }
+    ensures { Decodes (λ index. multivalued_shape (value_counts_of index)) result
+        (multivalued_at (version_number format_version) bytes) }
 {
     match format_version {
+        Version::V1 => Ok(MultiValueIndex::MultiValueIndexV1(open_old_offsets(alloc, bytes)?)),
         Version::V2 => Ok(MultiValueIndex::MultiValueIndexV2(open_offsets(alloc, bytes)?)),
+    }
+}
+
+// Reads the offsets of all rows.
+fn open_old_offsets(alloc: Global, bytes: Bytes) -> Result<MultiValueIndexV1, ColumnarError>
+    ensures { Decodes (λ index. differences index) result (offset_counts_v1 bytes) }
+{
+    match MultiValueIndexV1::from_offsets(load_u64_values(alloc, bytes)?) {
+        Some(index) => Ok(index),
+        None => Err(ColumnarError::InvalidData),
     }
 }
 

@@ -7,17 +7,15 @@ ghost use Rattle.col_common.specs.Decoding.{Decodes};
 ghost use Rattle.col_common.specs.Reading.{only_if};
 ghost use Rattle.col_model.specs.Index.{RowSet, set_counts};
 ghost use Rattle.col_model.specs.Positions.{rank, next_row, index_range};
-ghost use Rattle.col_index.specs.Appending.{AppendsBoth, PushesBoth};
 ghost use Rattle.col_index.specs.Offsets.{range_if_any};
 ghost use Rattle.col_index.specs.RankedRows.{AreRankedRows};
-ghost use Rattle.col_index.specs.Sets.{AreRows, holds, held, held_ranks, set_by};
+ghost use Rattle.col_index.specs.Sets.{AreRows, holds, set_by};
 ghost use Rattle.col_numbers.specs.Readers.{list_of};
 
-use crate::appending::push_pair;
-use crate::counted_rows::{CountedRows, narrow_counted};
+use crate::counted_rows::CountedRows;
 use crate::non_null_docs::NonNullDocs;
 use crate::ranks::Ranks;
-use crate::search::Place;
+use crate::search::{Place, narrow_counted};
 use crate::select_cursor::OptionalIndexSelectCursor;
 use crate::set::Set;
 use col_common::{ColumnarError, DocId, RowId, Steps};
@@ -143,28 +141,6 @@ impl OptionalIndex {
         ensures { result ≡ self.now.rows }
     {
         NonNullDocs::of(self)
-    }
-
-    /// Appends those of the documents that have a value, and their ranks. Documents that ascend are
-    /// walked.
-    pub fn rank_if_exists_batch(
-        &self,
-        docs: &[DocId],
-        docs_out: &mut Vec<DocId>,
-        rows_out: &mut Vec<RowId>,
-    ) -> Result<(), AllocError>
-        ensures { AppendsBoth docs_out.old.items docs_out.new.items
-            rows_out.old.items rows_out.new.items result
-            (held self.now.rows docs.now) (held_ranks self.now.rows docs.now) }
-    {
-        let num_docs = docs_out.len();
-        let num_rows = rows_out.len();
-        let result = self.push_ranks(docs, docs_out, rows_out);
-        if result.is_err() {
-            docs_out.truncate(num_docs);
-            rows_out.truncate(num_rows);
-        }
-        result
     }
 
     /// Puts the row of each rank in its place.
@@ -349,48 +325,6 @@ impl OptionalIndex {
         } else {
             self.rank_if_exists(doc_id)
         }
-    }
-
-    /// Appends those of the documents that have a value, and their ranks, as far as memory reaches.
-    pub(crate) fn push_ranks(
-        &self,
-        docs: &[DocId],
-        docs_out: &mut Vec<DocId>,
-        rows_out: &mut Vec<RowId>,
-    ) -> Result<(), AllocError>
-        ensures { PushesBoth docs_out.old.items docs_out.new.items
-            rows_out.old.items rows_out.new.items result
-            (held self.now.rows docs.now) (held_ranks self.now.rows docs.now) }
-    {
-        if self.is_walked() {
-            self.push_ranks_by(true, docs, docs_out, rows_out)
-        } else {
-            self.push_ranks_by(false, docs, docs_out, rows_out)
-        }
-    }
-
-    // The same, by a walk or by ranks.
-    #[inline(always)]
-    fn push_ranks_by(
-        &self,
-        is_walked: bool,
-        docs: &[DocId],
-        docs_out: &mut Vec<DocId>,
-        rows_out: &mut Vec<RowId>,
-    ) -> Result<(), AllocError>
-        ensures { PushesBoth docs_out.old.items docs_out.new.items
-            rows_out.old.items rows_out.new.items result
-            (held self.now.rows docs.now) (held_ranks self.now.rows docs.now) }
-    {
-        let mut place = self.first_place();
-        for doc in docs {
-            let doc = *doc;
-            let Some(rank) = self.rank_near(is_walked, &mut place, doc) else {
-                continue;
-            };
-            push_pair(docs_out, rows_out, doc, rank)?;
-        }
-        Ok(())
     }
 }
 

@@ -1,12 +1,12 @@
 //! Places in rising lists.
-ghost use Rattle.std.specs.Prelude.{◌≡◌, ◌^◌, ◌-◌, ◌+◌, ◌<◌, true, length, slice_index_or, IfSome};
+ghost use Rattle.std.specs.Prelude.{◌≡◌, ◌^◌, ◌-◌, ◌+◌, ◌*◌, ◌<◌, ◌≤◌, true, length, slice_index_or, IfSome};
 ghost use Rattle.col_common.specs.Ascending.{is_rising};
 ghost use Rattle.col_model.specs.Positions.{rank};
 ghost use Rattle.col_numbers.specs.Readers.{list_of};
 ghost use Rattle.col_index.specs.Search.{IsNarrowed};
 ghost use Rattle.col_index.specs.Sets.{holds};
 
-use crate::counted_rows::{CountedRows, narrow_counted};
+use crate::counted_rows::CountedRows;
 use col_common::{RowId, Steps};
 use col_numbers::U64Values;
 use col_values::ColumnValues;
@@ -36,6 +36,34 @@ fn narrow_by<L: Ledger>(values: &U64Values, low: u32, high: u32, target: u64, bl
 {
     let mut steps = Steps::<L>::new(blank);
     narrow_counted(&CountedRows::new(values), low, high, target, &mut steps)
+}
+
+/// How many numbers are below a target, where those below `low` are, and those from `high` on are
+/// not: by halves.
+#[inline(always)]
+pub fn narrow_counted<L: Ledger>(
+    rows: &CountedRows<'_, L>,
+    low: u32,
+    high: u32,
+    target: u64,
+    steps: &mut Steps<L>,
+) -> u32
+    requires rising { is_rising rows.now ≡ true }
+    requires narrowed { IsNarrowed rows.now target low high }
+    ensures rank { result ≡ rank rows.now target }
+    ensures steps { 2 ^ (steps.new - steps.old) ≤ 2 * (high - low) + 1 }
+{
+    let mut low = low;
+    let mut high = high;
+    while low < high {
+        let middle = low + (high - low) / 2;
+        if rows.look(middle, steps) < target {
+            low = middle + 1;
+        } else {
+            high = middle;
+        }
+    }
+    low
 }
 
 /// Whether a row is the one with its rank in a list.

@@ -1,6 +1,5 @@
 -- How many bytes the lists of an index take.
 use Rattle.std.proofs.Common.{◌≡◌, ℕ, suc, ◌+◌, ◌-◌, ◌*◌, ◌/◌, ◌^◌, ◌≤◌, ◌&&◌, Bool, true, false, cond, List, [], ◌∷◌, ◌++◌, length, Option, Some, None, refl, sym, ap, ◌∙◌, arith, length-append, subst, nat_le, nat_lt, unwrap_or}
-use Rattle.std.proofs.lemmas.Bool.Decides.{nat_tests}
 use Rattle.std.proofs.lemmas.Option.{same_Some, none-some}
 use Rattle.std.proofs.Math.Nat.{mul-le-mul_left}
 use Rattle.col_bits.proofs.PackedLemmas.{length-digits}
@@ -9,7 +8,7 @@ use Rattle.col_model.specs.Packed.{width, is_width, packed_bytes, number_of}
 use Rattle.col_model.specs.Stats.{Stats, stats_of, steps_of, stats_bytes}
 use Rattle.col_model.specs.U64List.{LinearParams}
 use Rattle.col_model.specs.Codecs.{chosen_codec, chosen_before, is_not_below, estimate, bitpacked_estimate, linear_estimate, bitpacked_body, linear_body, linear_line, params_bytes, packed_len, packed_offsets, line_len, stats_len, steps_above, offsets_from, codec_bytes, block_size}
-use Rattle.col_model.proofs.BlockLaws.{length-group_bytes, vint_bytes-most}
+use Rattle.col_model.proofs.BlockLaws.{vint_bytes-most}
 use Rattle.col_model.proofs.CodecLaws.{is_width-width, linear_line-writable}
 use Rattle.col_model.proofs.LinearLaws.{length-offsets_from}
 use Rattle.std.proofs.lemmas.List.{length-map}

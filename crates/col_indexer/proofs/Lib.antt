@@ -3,10 +3,12 @@ pub mod SegmentCountLemmas
 pub mod SegmentLemmas
 mod UniformLemmas
 mod StackedStartLemmas
+mod NextRowLemmas
 mod StackedWalkLemmas
 mod StackedOffsetLemmas
 mod StackedMergeLemmas
 mod CollectedLemmas
+mod ChangeLemmas
 pub mod ShuffleLemmas
 pub mod ValueCountLemmas
 mod ByteCountLemmas

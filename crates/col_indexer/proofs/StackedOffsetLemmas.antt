@@ -1,28 +1,38 @@
 -- Steps of walks over the start offsets of indexes one behind another.
-use Rattle.std.proofs.Common.{◌≡◌, ℕ, ◌+◌, ◌<◌, ◌≤◌, ◌^◌, List, [], ◌∷◌, ◌++◌, length, map, drop, get_or, slice_get, Option, Some, None, refl, sym, ap, ◌∙◌, arith}
+use Rattle.std.proofs.Common.{◌≡◌, ℕ, ◌+◌, ◌-◌, ◌<◌, ◌≤◌, ◌^◌, List, [], ◌∷◌, ◌++◌, length, map, drop, get_or, slice_get, Option, Some, None, refl, sym, ap, subst, ◌∙◌, arith}
 use Rattle.std.specs.List.{sum}
 use Rattle.std.proofs.lemmas.List.{length-map, drop_all}
 use Rattle.std.proofs.lemmas.Option.{slice_get_within}
 use Rattle.col_common.specs.declared.iterable.Walk.{Walk}
-use Rattle.col_model.specs.Positions.{starts_of, starts_after}
+use Rattle.col_model.specs.Positions.{rank, rows_with_value, starts_of, starts_after}
 use Rattle.col_indexer.specs.Counted.{counts_in}
 use Rattle.col_index.specs.Indexes.{shape_of}
 use Rattle.col_indexer.specs.Merged.{FitSegments}
-use Rattle.col_indexer.specs.Stacks.{Segments, AreSegments, index_segments, segment_counts, counts_from, values_before, StandsAtOffset, stacked_offsets_to_give}
+use Rattle.col_indexer.specs.Stacks.{Segments, AreSegments, index_segments, segment_counts, counts_from, values_before, IsWalkOfStarts, StandsAtOffset, stacked_offsets_to_give}
 use Rattle.col_index.specs.declared.column_index.ColumnIndex.{ColumnIndex}
-use Rattle.col_indexer.proofs.CountedLemmas.{length-rows_with_value}
+use Rattle.col_index.proofs.RankLaws.{rank-le-length}
+use Rattle.col_indexer.proofs.CountedLemmas.{length-rows_with_value, row-below}
+use Rattle.col_indexer.proofs.NextRowLemmas.{rank-first, rank-after}
 use Rattle.col_indexer.proofs.SegmentLemmas.{counts_from-first, counts_from-end, length-segment, values_before-more, rows_within, values_within}
 use Rattle.col_indexer.proofs.StackedStartLemmas.{starts_after-append, starts_after-moved, starts_after-first, starts-le, length-starts}
 use Rattle.col_indexer.proofs.StackedWalkLemmas.{segment_read, item_of, none_of}
 
--- what was read of the segment's starts
-pub start_read :
-    (indexes : List ColumnIndex) (counts : List ℕ) (at : Walk) (n : ℕ) (index : ColumnIndex) (read got : Option ℕ)
+-- what was read of a row and the end of its values
+pub run_read :
+    (indexes : List ColumnIndex) (counts : List ℕ) (at : Walk) (n : ℕ) (index : ColumnIndex) (row end : Option ℕ)
     → FitSegments counts (map shape_of indexes) → at.segment < length counts → n ≡ get_or counts at.segment 0
-    → index ≡ get_or indexes at.segment index → read ≡ slice_get (starts_of (counts_in n (shape_of index))) at.place
-    → read ≡ got → slice_get (starts_of (segment_counts (index_segments indexes counts) at.segment)) at.place ≡ got
-start_read indexes counts at n index read got fit within e f g h =
-    ap (λ cs. slice_get (starts_of cs) at.place) (sym (segment_read indexes counts at.segment n index fit within e f)) ∙ sym g ∙ h
+    → index ≡ get_or indexes at.segment index → 0 < at.place
+    → row ≡ slice_get (rows_with_value (counts_in n (shape_of index))) (at.place - 1)
+    → end ≡ slice_get (starts_of (counts_in n (shape_of index))) (at.place - 1 + 1)
+    → (slice_get (rows_with_value (segment_counts (index_segments indexes counts) at.segment)) (at.place - 1) ≡ row)
+    × (slice_get (starts_of (segment_counts (index_segments indexes counts) at.segment)) at.place ≡ end)
+run_read indexes counts at n index row end fit within e f begun g h =
+    let same = sym (segment_read indexes counts at.segment n index fit within e f) in
+    let here : at.place ≡ at.place - 1 + 1 = omega arith in (
+      ap (λ cs. slice_get (rows_with_value cs) (at.place - 1)) same ∙ sym g,
+      ap (slice_get (starts_of (segment_counts (index_segments indexes counts) at.segment))) here
+          ∙ ap (λ cs. slice_get (starts_of cs) (at.place - 1 + 1)) same ∙ sym h,
+    )
 
 -- how many values a segment has whose index was read
 pub sum_read : (indexes : List ColumnIndex) (counts : List ℕ) (k n : ℕ) (index : ColumnIndex)
@@ -44,19 +54,53 @@ values-fit indexes counts k n b index are within e f g =
       values_within (index_segments indexes counts) k are.fit within,
     )
 
--- and are few
-pub values-few : (indexes : List ColumnIndex) (counts : List ℕ) (k n : ℕ) (index : ColumnIndex)
-    → AreSegments (index_segments indexes counts) → k < length counts → n ≡ get_or counts k 0
-    → index ≡ get_or indexes k index → sum (counts_in n (shape_of index)) < 2 ^ 32
-values-few indexes counts k n index are within e f = omega (arith, values-fit indexes counts k n _ index are within e f refl)
+-- ---- the starts of rows with these counts
+
+-- behind the first start a walk stands at the next place
+pub first_start : (cs : List ℕ) (a b : Walk) → IsWalkOfStarts cs a → a.place ≡ 0 → b.place ≡ 1 → b.inner ≡ a.inner → IsWalkOfStarts cs b
+first_start cs a b stands z f i = record {
+  ranked = ap (rank (rows_with_value cs)) i ∙ stands.ranked ∙ omega arith;
+  small = omega (arith, stands.small);
+}
+
+-- so does one at the front
+pub start-front : (cs : List ℕ) (w : Walk) → w.place ≡ 0 → w.inner ≡ 0 → IsWalkOfStarts cs w
+start-front cs w f i = record {
+  ranked = ap (rank (rows_with_value cs)) i ∙ rank-first cs ∙ omega arith;
+  small = omega arith;
+}
+
+-- behind the end of a row's values the walk stands at the next place too
+pub next_start : (cs : List ℕ) (a b : Walk) (row : ℕ) → slice_get (rows_with_value cs) (a.place - 1) ≡ Some row → 0 < a.place
+    → row + 1 < 2 ^ 32 → b.place ≡ a.place + 1 → b.inner ≡ row + 1 → IsWalkOfStarts cs b
+next_start cs a b row read begun small f i = record {
+  ranked = ap (rank (rows_with_value cs)) i ∙ rank-after cs (a.place - 1) row read ∙ omega arith;
+  small = omega arith;
+}
+
+-- no place is behind the last start
+pub place-within : (cs : List ℕ) (a : Walk) → IsWalkOfStarts cs a → a.place ≤ length (starts_of cs)
+place-within cs a stands = omega (arith, stands.ranked, rank-le-length (rows_with_value cs) a.inner, length-starts cs)
+
+-- ---- the starts of segments
+
+-- a walk at the front stands
+pub offset-front : (s : Segments) (w : Walk) → w.segment ≡ 0 → w.place ≡ 0 → w.inner ≡ 0 → w.sum ≡ 0 → StandsAtOffset s w
+offset-front s w e f i g = record {
+  segment = omega arith;
+  start = start-front (segment_counts s w.segment) w f i;
+  before = g ∙ sym (ap (values_before s) e);
+}
 
 module _ (s : Segments) (a b : Walk) (are : AreSegments s) (stands : StandsAtOffset s a) where
   -- the first offset of all is given where the place is 0
-  pub first_stands : b.segment ≡ a.segment → b.place ≡ 1 → b.sum ≡ a.sum → StandsAtOffset s b
-  first_stands e f g =
+  pub first_stands : a.place ≡ 0 → b.segment ≡ a.segment → b.place ≡ 1 → b.inner ≡ a.inner → b.sum ≡ a.sum → StandsAtOffset s b
+  first_stands z e f i g =
       record {
         segment = omega (arith, stands.segment);
-        place = omega (arith, length-starts (segment_counts s b.segment));
+        start =
+            subst (λ k. IsWalkOfStarts (segment_counts s k) b) (sym e)
+            (first_start (segment_counts s a.segment) a b stands.start z f i);
         before = g ∙ stands.before ∙ ap (values_before s) (sym e);
       }
 
@@ -90,9 +134,11 @@ module _ (s : Segments) (a b : Walk) (are : AreSegments s) (stands : StandsAtOff
   unfolding starts_of
   front_moved = starts_after-moved a.sum 0 a.sum (segment_counts s a.segment) (omega arith)
 
-  module _ (start : ℕ) (read : slice_get (starts_of (segment_counts s a.segment)) a.place ≡ Some start) where
-    -- the start and the next place fit
-    pub start_fits : (a.sum + start < 2 ^ 32) × (a.place + 1 < 2 ^ 64)
+  module _
+      (start row : ℕ) (read : slice_get (starts_of (segment_counts s a.segment)) a.place ≡ Some start)
+      (found : slice_get (rows_with_value (segment_counts s a.segment)) (a.place - 1) ≡ Some row) where
+    -- the start, the next place and the row behind fit
+    pub start_fits : (a.sum + start < 2 ^ 32) × (a.place + 1 < 2 ^ 64) × (row + 1 < 2 ^ 32)
     start_fits =
         let cs = segment_counts s a.segment in
         let long = length-segment s a.segment are.fit within in
@@ -105,17 +151,18 @@ module _ (s : Segments) (a b : Walk) (are : AreSegments s) (stands : StandsAtOff
         let before = stands.before in
         let total = are.few_rows in
         let values = are.few_values in
-        (omega arith, omega arith)
+        let below = row-below cs (a.place - 1) row found in
+        (omega arith, omega arith, omega arith)
 
     -- behind a start the walk stands at the next place
-    pub start_stands : b.segment ≡ a.segment → b.place ≡ a.place + 1 → b.sum ≡ a.sum → StandsAtOffset s b
-    start_stands e f g =
-        let inside = slice_get_within (starts_of (segment_counts s a.segment)) a.place start read in
-        let same : length (starts_of (segment_counts s b.segment)) ≡ length (starts_of (segment_counts s a.segment))
-        = ap (λ k. length (starts_of (segment_counts s k))) e in
+    pub start_stands : 0 < a.place → b.segment ≡ a.segment → b.place ≡ a.place + 1 → b.inner ≡ row + 1 → b.sum ≡ a.sum
+        → StandsAtOffset s b
+    start_stands begun e f i g =
         record {
           segment = omega (arith, stands.segment);
-          place = omega arith;
+          start =
+              subst (λ k. IsWalkOfStarts (segment_counts s k) b) (sym e)
+              (next_start (segment_counts s a.segment) a b row found begun start_fits.2 f i);
           before = g ∙ stands.before ∙ ap (values_before s) (sym e);
         }
 
@@ -130,11 +177,17 @@ module _ (s : Segments) (a b : Walk) (are : AreSegments s) (stands : StandsAtOff
 
   module _ (none : slice_get (starts_of (segment_counts s a.segment)) a.place ≡ None) where
     -- behind a segment the walk stands behind the first start of the next
-    pub starts_stand : b.segment ≡ a.segment + 1 → b.place ≡ 1 → b.sum ≡ a.sum + sum (segment_counts s a.segment) → StandsAtOffset s b
-    starts_stand e f g =
+    pub starts_stand : b.segment ≡ a.segment + 1 → b.place ≡ 1 → b.inner ≡ 0 → b.sum ≡ a.sum + sum (segment_counts s a.segment)
+        → StandsAtOffset s b
+    starts_stand e f i g =
         record {
           segment = omega arith;
-          place = omega (arith, length-starts (segment_counts s b.segment));
+          start = record {
+            ranked =
+                ap (rank (rows_with_value (segment_counts s b.segment))) i
+                ∙ rank-first (segment_counts s b.segment) ∙ omega arith;
+            small = omega arith;
+          };
           before =
               g ∙ ap (λ n. n + sum (segment_counts s a.segment)) stands.before
               ∙ sym (values_before-more s a.segment are.fit within) ∙ ap (values_before s) (sym e);
@@ -149,4 +202,4 @@ module _ (s : Segments) (a b : Walk) (are : AreSegments s) (stands : StandsAtOff
         ∙ ap (λ k. drop 1 (starts_after (a.sum + sum (segment_counts s a.segment)) (counts_from s k))) e
         ∙ sym (none_of a.place _ _ _ _
         (ap length front_moved ∙ length-map (starts_of (segment_counts s a.segment)) (λ start. a.sum + start))
-        starts_split stands.place none)
+        starts_split (place-within (segment_counts s a.segment) a stands.start) none)

@@ -41,26 +41,6 @@ pub starts-le : (cs : List ℕ) (k x : ℕ) → slice_get (starts_of cs) k ≡ S
 unfolding starts_of
 starts-le cs k x e = omega (arith, get_or_from_slice_get (starts_of cs) k x 0 e, starts_after-le 0 cs k)
 
--- the last start is the number of values, behind so many
-starts_after-last : (b a : ℕ) (cs : List ℕ) → get_or (starts_after b cs) (length (rows_from a cs)) 0 ≡ b + sum cs
-starts_after-last b a [] = omega arith
-starts_after-last b a (zero ∷ cs) = starts_after-last (b + 0) (suc a) cs ∙ omega (arith, sum_by-cons (λ x. x) 0 cs)
-starts_after-last b a (suc c ∷ cs) =
-    ap (λ xs. get_or xs (length (rows_from a (suc c ∷ cs))) 0) (starts_after-some b c cs)
-    ∙ ap (λ rows. get_or (b ∷ starts_after (b + suc c) cs) (length rows) 0) (rows_from-some a c cs)
-    ∙ starts_after-last (b + suc c) (suc a) cs
-    ∙ omega (arith, sum_by-cons (λ x. x) (suc c) cs)
-
--- the last is how many values there are
-pub starts-last : (cs : List ℕ) (k x : ℕ) → length (starts_of cs) ≡ k + 1 → slice_get (starts_of cs) k ≡ Some x → x ≡ sum cs
-unfolding starts_of
-starts-last cs k x long e =
-    let last : k ≡ length (rows_from 0 cs) = omega (arith, length-starts_after 0 0 cs) in
-    sym (get_or_from_slice_get (starts_of cs) k x 0 e)
-    ∙ ap (λ n. get_or (starts_after 0 cs) n 0) last
-    ∙ starts_after-last 0 0 cs
-    ∙ omega arith
-
 -- behind more values each starts so much further
 pub starts_after-moved : (b a m : ℕ) (cs : List ℕ) → m ≡ b + a → starts_after m cs ≡ map (λ start. b + start) (starts_after a cs)
 starts_after-moved b a m [] e = ap (λ n. n ∷ []) e

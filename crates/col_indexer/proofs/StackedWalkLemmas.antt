@@ -3,15 +3,17 @@ use Rattle.std.proofs.Common.{◌≡◌, ℕ, ◌+◌, ◌<◌, ◌≤◌, ◌^�
 use Rattle.std.proofs.lemmas.List.{length-append, length-map, get_or-map, get_or_append_left, drop_more, drop_at, drop_all}
 use Rattle.std.proofs.lemmas.Option.{get_or_from_slice_get, slice_get_within}
 use Rattle.col_common.specs.declared.iterable.Walk.{Walk}
-use Rattle.col_model.specs.Positions.{start_of, rows_with_value}
+use Rattle.col_model.specs.Positions.{rank, start_of, rows_with_value}
 use Rattle.col_model.specs.Index.{empty_shape}
 use Rattle.col_indexer.specs.Counted.{rows_behind, counts_in}
 use Rattle.col_index.specs.Indexes.{shape_of}
+use Rattle.col_index.proofs.RankLaws.{rank-le-length}
 use Rattle.col_indexer.specs.Merged.{FitSegments}
 use Rattle.col_index.specs.declared.column_index.ColumnIndex.{ColumnIndex}
 use Rattle.col_indexer.specs.Stacks.{Segments, AreSegments, index_segments, segment_counts, counts_from, StandsAtRow, stacked_rows_to_give}
 use Rattle.col_indexer.proofs.CountedLemmas.{rows_behind-append, length-rows_with_value, row-below}
 use Rattle.col_indexer.proofs.SegmentLemmas.{length-fit, counts_from-first, counts_from-end, length-segment, start_of-more, rows_within}
+use Rattle.col_indexer.proofs.NextRowLemmas.{rank-first, rank-after}
 use Rattle.col_indexer.proofs.StackedStartLemmas.{slice_get-none}
 
 -- an item of the front of a list, each so far behind
@@ -61,21 +63,31 @@ rows-fit indexes counts k n b index are within e f g =
       rows_within s k are.fit within,
     )
 
--- the walk at the next place
-abbrev pub next_place : Walk → Walk
-next_place w = record { segment = w.segment; place = w.place + 1; inner = w.inner; sum = w.sum }
+-- the walk behind a row, at the next place
+abbrev pub behind_row : Walk → ℕ → Walk
+behind_row w row = record { segment = w.segment; place = w.place + 1; inner = row + 1; sum = w.sum }
 
 -- ---- rows
 
--- what was read of the segment's rows
-pub row_read :
-    (indexes : List ColumnIndex) (counts : List ℕ) (at : Walk) (n : ℕ) (index : ColumnIndex) (read got : Option ℕ)
+-- the rank of the row from which on the segment's next is looked for
+pub row_ranked : (indexes : List ColumnIndex) (counts : List ℕ) (at : Walk) (n place : ℕ) (index : ColumnIndex)
     → FitSegments counts (map shape_of indexes) → at.segment < length counts → n ≡ get_or counts at.segment 0
     → index ≡ get_or indexes at.segment index
-    → read ≡ slice_get (rows_with_value (counts_in n (shape_of index))) at.place → read ≡ got
-    → slice_get (rows_with_value (segment_counts (index_segments indexes counts) at.segment)) at.place ≡ got
-row_read indexes counts at n index read got fit within e f g h =
-    ap (λ cs. slice_get (rows_with_value cs) at.place) (sym (segment_read indexes counts at.segment n index fit within e f)) ∙ sym g ∙ h
+    → rank (rows_with_value (segment_counts (index_segments indexes counts) at.segment)) at.inner ≡ place
+    → rank (rows_with_value (counts_in n (shape_of index))) at.inner ≡ place
+row_ranked indexes counts at n place index fit within e f ranked =
+    ap (λ cs. rank (rows_with_value cs) at.inner) (segment_read indexes counts at.segment n index fit within e f) ∙ ranked
+
+-- what was read of the segment's rows
+pub row_read :
+    (indexes : List ColumnIndex) (counts : List ℕ) (at : Walk) (n place : ℕ) (index : ColumnIndex)
+    (read got : Option ℕ)
+    → FitSegments counts (map shape_of indexes) → at.segment < length counts → n ≡ get_or counts at.segment 0
+    → index ≡ get_or indexes at.segment index
+    → read ≡ slice_get (rows_with_value (counts_in n (shape_of index))) place → read ≡ got
+    → slice_get (rows_with_value (segment_counts (index_segments indexes counts) at.segment)) place ≡ got
+row_read indexes counts at n place index read got fit within e f g h =
+    ap (λ cs. slice_get (rows_with_value cs) place) (sym (segment_read indexes counts at.segment n index fit within e f)) ∙ sym g ∙ h
 
 module _ (s : Segments) (a b : Walk) (are : AreSegments s) (stands : StandsAtRow s a) (within : a.segment < length s.counts) where
   -- the rows of a segment, and those behind it
@@ -89,8 +101,8 @@ module _ (s : Segments) (a b : Walk) (are : AreSegments s) (stands : StandsAtRow
       (counts_from s (a.segment + 1)) (omega arith)
 
   module _ (row : ℕ) (read : slice_get (rows_with_value (segment_counts s a.segment)) a.place ≡ Some row) where
-    -- the row and the next place fit
-    pub row_fits : (a.sum + row < 2 ^ 32) × (a.place + 1 < 2 ^ 64)
+    -- the row, the next place and the row behind fit
+    pub row_fits : (a.sum + row < 2 ^ 32) × (a.place + 1 < 2 ^ 64) × (row + 1 < 2 ^ 32)
     row_fits =
         let long = length-segment s a.segment are.fit within in
         let all = rows_within s a.segment are.fit within in
@@ -99,18 +111,21 @@ module _ (s : Segments) (a b : Walk) (are : AreSegments s) (stands : StandsAtRow
         let few = length-rows_with_value (segment_counts s a.segment) in
         let before = stands.before in
         let total = are.few_rows in
-        (omega arith, omega arith)
+        (omega arith, omega arith, omega arith)
 
     -- behind a row the walk stands at the next place
-    pub row_stands : b.segment ≡ a.segment → b.place ≡ a.place + 1 → b.sum ≡ a.sum → StandsAtRow s b
-    row_stands e f g =
-        let inside = slice_get_within (rows_with_value (segment_counts s a.segment)) a.place row read in
-        let same : length (rows_with_value (segment_counts s b.segment)) ≡ length
-        (rows_with_value (segment_counts s a.segment)) =
-        ap (λ k. length (rows_with_value (segment_counts s k))) e in
+    pub row_stands : b.segment ≡ a.segment → b.place ≡ a.place + 1 → b.inner ≡ row + 1 → b.sum ≡ a.sum → StandsAtRow s b
+    row_stands e f i g =
         record {
           segment = omega (arith, stands.segment);
-          place = omega arith;
+          row = record {
+            ranked =
+                ap (λ k. rank (rows_with_value (segment_counts s k)) b.inner) e
+                ∙ ap (rank (rows_with_value (segment_counts s a.segment))) i
+                ∙ rank-after (segment_counts s a.segment) a.place row read
+                ∙ sym f;
+            small = omega (arith, row_fits.2);
+          };
           before = g ∙ stands.before ∙ ap (start_of s.counts) (sym e);
         }
 
@@ -125,11 +140,17 @@ module _ (s : Segments) (a b : Walk) (are : AreSegments s) (stands : StandsAtRow
 
   module _ (none : slice_get (rows_with_value (segment_counts s a.segment)) a.place ≡ None) where
     -- behind a segment the walk stands at the front of the next
-    pub segment_stands : b.segment ≡ a.segment + 1 → b.place ≡ 0 → b.sum ≡ a.sum + get_or s.counts a.segment 0 → StandsAtRow s b
-    segment_stands e f g =
+    pub segment_stands : b.segment ≡ a.segment + 1 → b.place ≡ 0 → b.inner ≡ 0 → b.sum ≡ a.sum + get_or s.counts a.segment 0
+        → StandsAtRow s b
+    segment_stands e f i g =
         record {
           segment = omega arith;
-          place = omega arith;
+          row = record {
+            ranked =
+                ap (rank (rows_with_value (segment_counts s b.segment))) i
+                ∙ rank-first (segment_counts s b.segment) ∙ sym f;
+            small = omega arith;
+          };
           before =
               g ∙ ap (λ n. n + get_or s.counts a.segment 0) stands.before
               ∙ sym (start_of-more s a.segment are.fit within) ∙ ap (start_of s.counts) (sym e);
@@ -143,8 +164,19 @@ module _ (s : Segments) (a b : Walk) (are : AreSegments s) (stands : StandsAtRow
         ∙ ap (λ n. rows_behind n (counts_from s b.segment)) g
         ∙ ap (λ k. rows_behind (a.sum + get_or s.counts a.segment 0) (counts_from s k)) e
         ∙ sym (none_of a.place _ _ _ _
-        (length-map (rows_with_value (segment_counts s a.segment)) (λ row. a.sum + row)) rows_split stands.place
-        none)
+        (length-map (rows_with_value (segment_counts s a.segment)) (λ row. a.sum + row)) rows_split
+        (omega (arith, stands.row.ranked, rank-le-length (rows_with_value (segment_counts s a.segment)) a.inner)) none)
+
+-- a walk at the front stands
+pub row-front : (s : Segments) (w : Walk) → w.segment ≡ 0 → w.place ≡ 0 → w.inner ≡ 0 → w.sum ≡ 0 → StandsAtRow s w
+row-front s w e f i g = record {
+  segment = omega arith;
+  row = record {
+    ranked = ap (rank (rows_with_value (segment_counts s w.segment))) i ∙ rank-first (segment_counts s w.segment) ∙ sym f;
+    small = omega arith;
+  };
+  before = g ∙ sym (ap (start_of s.counts) e);
+}
 
 -- behind the last segment no row is left
 pub rows_end : (s : Segments) (a : Walk) → AreSegments s → length s.counts ≤ a.segment → stacked_rows_to_give s a ≡ []

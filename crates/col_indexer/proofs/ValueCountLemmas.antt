@@ -1,30 +1,12 @@
 -- The positions of a row's values are as many as its count.
-use Rattle.std.proofs.Common.{◌≡◌, ◌⊎◌, inl, inr, ℕ, ◌+◌, ◌-◌, ◌<◌, ◌≤◌, ◌==◌, Bool, true, false, cond, List, length, get_or, refl, sym, arith}
-use Rattle.std.proofs.Math.ListN.{get_or-eq_default}
-use Rattle.std.proofs.lemmas.Bool.{cases_lt, eqb-true, lt-ltb, le-ltb}
-use Rattle.std.proofs.lemmas.List.Sums.{sum_by_more}
+use Rattle.std.proofs.Common.{◌≡◌, ℕ, ◌-◌, ◌≤◌, ◌==◌, Bool, true, false, cond, List, get_or, refl, sym, arith}
+use Rattle.std.proofs.lemmas.Bool.{eqb-true}
 use Rattle.col_model.specs.Index.{Shape, empty_shape, full_shape, optional_shape, multivalued_shape}
-use Rattle.col_model.specs.Positions.{count_in, start_of, index_range, positions_in}
+use Rattle.col_model.specs.Positions.{count_in, index_range, positions_in}
 use Rattle.col_index.specs.Offsets.{range_if_any}
+use Rattle.col_index.proofs.RangeLaws.{range-counts}
 
--- of a row that is there
-pub within_counts : (cs : List ℕ) (row : ℕ) → row < length cs
-    → (start_of cs row ≤ start_of cs (row + 1)) × (start_of cs (row + 1) - start_of cs row ≡ get_or cs row 0)
-within_counts cs row h = let more = sum_by_more (λ x. x) cs row 0 h in (omega arith, omega arith)
-
--- of any number
-pub range-counts : (cs : List ℕ) (row : ℕ)
-    → ((index_range cs row).0 ≤ (index_range cs row).1)
-    × ((index_range cs row).1 - (index_range cs row).0 ≡ get_or cs row 0)
-range-counts cs row = go (cases_lt row (length cs))
-  where
-    go : (row < length cs) ⊎ (length cs ≤ row)
-        → ((index_range cs row).0 ≤ (index_range cs row).1)
-        × ((index_range cs row).1 - (index_range cs row).0 ≡ get_or cs row 0)
-    go (inl h) = rw (lt-ltb row (length cs) h) (within_counts cs row h)
-    go (inr h) = rw (le-ltb row (length cs) h) (omega arith, sym (get_or-eq_default cs 0 h))
-
--- and from 0 to 0 where it has none
+-- of any row, from 0 to 0 where it has none
 pub if_any-counts : (cs : List ℕ) (row : ℕ)
     → ((range_if_any cs row).0 ≤ (range_if_any cs row).1)
     × ((range_if_any cs row).1 - (range_if_any cs row).0 ≡ get_or cs row 0)

@@ -3,7 +3,7 @@ use Rattle.std.specs.Prelude.{ℕ, ◌≤◌, List, drop, length}
 use Rattle.col_common.specs.declared.iterable.Walk.{Walk}
 use Rattle.col_model.specs.Positions.{starts_of}
 use Rattle.col_index.specs.MultiValues.{value_counts_of}
-use Rattle.col_indexer.specs.Stacks.{stacked_counts, StandsAtOffset, stacked_offsets_to_give}
+use Rattle.col_indexer.specs.Stacks.{stacked_counts, IsWalkOfStarts, StandsAtOffset, stacked_offsets_to_give}
 use Rattle.col_indexer.specs.Shuffles.{shuffled_counts, StandsAtSum, sums_to_give}
 use Rattle.col_indexer.specs.declared.start_offsets.StartOffsets.{StartOffsets}
 use Rattle.col_indexer.specs.declared.start_offsets.StartOffsets.TheVariants.{Slice, Index, Stacked, Shuffled}
@@ -18,7 +18,7 @@ start_offsets_of (Shuffled p) = starts_of (shuffled_counts p)
 -- a walk of them
 abbrev pub OffsetsStand : StartOffsets → Walk → Type 0
 OffsetsStand (Slice s) w = w.place ≤ length s.now
-OffsetsStand (Index i) w = w.place ≤ length (starts_of (value_counts_of i.now))
+OffsetsStand (Index i) w = IsWalkOfStarts (value_counts_of i.now) w
 OffsetsStand (Stacked s) w = StandsAtOffset s w
 OffsetsStand (Shuffled p) w = StandsAtSum p w
 

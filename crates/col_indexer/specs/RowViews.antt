@@ -2,6 +2,7 @@
 use Rattle.std.specs.Prelude.{ℕ, ◌≤◌, List, drop, length}
 use Rattle.col_common.specs.declared.iterable.Walk.{Walk}
 use Rattle.col_model.specs.Positions.{rows_with_value}
+use Rattle.col_index.specs.Walked.{IsWalkOfRows}
 use Rattle.col_indexer.specs.Stacks.{stacked_counts, StandsAtRow, stacked_rows_to_give}
 use Rattle.col_indexer.specs.Shuffles.{shuffled_counts, StandsAtPick, picks_to_give}
 use Rattle.col_indexer.specs.declared.row_ids.RowIds.{RowIds}
@@ -17,7 +18,7 @@ rows_of (Shuffled p) = rows_with_value (shuffled_counts p)
 -- a walk of them
 abbrev pub RowsStand : RowIds → Walk → Type 0
 RowsStand (Slice s) w = w.place ≤ length s.now
-RowsStand (Index i) w = w.place ≤ length i.now.rows
+RowsStand (Index i) w = IsWalkOfRows i.now.rows w
 RowsStand (Stacked s) w = StandsAtRow s w
 RowsStand (Shuffled p) w = StandsAtPick p w
 

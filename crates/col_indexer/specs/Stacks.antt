@@ -1,12 +1,13 @@
 -- Rows and offsets of indexes one behind another. A walk stands in a segment, at a place among its
 -- rows with a value; its sum is how many rows, or values, stand before the segment.
-use Rattle.std.specs.Prelude.{◌≡◌, ℕ, ◌≤◌, ◌<◌, ◌^◌, List, map, take, drop, length, sum, slice_index, slice_index_or}
+use Rattle.std.specs.Prelude.{◌≡◌, ℕ, ◌-◌, ◌≤◌, ◌<◌, ◌^◌, List, map, take, drop, length, sum, slice_index, slice_index_or}
 use Rattle.col_common.specs.declared.iterable.Walk.{Walk}
 use Rattle.col_model.specs.Index.{Shape, empty_shape}
 use Rattle.col_model.specs.Order.{all_rows}
-use Rattle.col_model.specs.Positions.{start_of, picked_counts, rows_with_value, starts_of, starts_after}
+use Rattle.col_model.specs.Positions.{start_of, picked_counts, rows_with_value, starts_after}
 use Rattle.col_index.specs.declared.column_index.ColumnIndex.{ColumnIndex}
 use Rattle.col_index.specs.Indexes.{shape_of}
+use Rattle.col_index.specs.Walked.{IsRanked32, IsWalkOfRows}
 use Rattle.col_indexer.specs.Counted.{counts_in, rows_behind}
 use Rattle.col_indexer.specs.Merged.{FitSegments}
 
@@ -45,18 +46,23 @@ pub record AreSegments (s : Segments) : Type 0 where
 -- a walk of rows: behind the last segment its place is 0
 pub record StandsAtRow (s : Segments) (w : Walk) : Type 0 where
   pub segment : w.segment ≤ length s.counts
-  pub place : w.place ≤ length (rows_with_value (segment_counts s w.segment))
+  pub row : IsWalkOfRows (rows_with_value (segment_counts s w.segment)) w
   pub before : w.sum ≡ start_of s.counts w.segment
 
 -- the rows that it has still to give
 abbrev pub stacked_rows_to_give : Segments → Walk → List ℕ
 stacked_rows_to_give s w = drop w.place (rows_behind w.sum (counts_from s w.segment))
 
+-- A walk of the start offsets of rows with these counts. The first offset is 0, and behind it each
+-- row with a value has the one where its values end: the next of these rows is looked for.
+abbrev pub IsWalkOfStarts : List ℕ → Walk → Type 0
+IsWalkOfStarts counts w = IsRanked32 (rows_with_value counts) w.inner (w.place - 1)
+
 -- A walk of offsets: its place is among the start offsets of the segment. The first of a segment is
 -- given once, at the front, so that behind the last segment the place is 0 or 1.
 pub record StandsAtOffset (s : Segments) (w : Walk) : Type 0 where
   pub segment : w.segment ≤ length s.counts
-  pub place : w.place ≤ length (starts_of (segment_counts s w.segment))
+  pub start : IsWalkOfStarts (segment_counts s w.segment) w
   pub before : w.sum ≡ values_before s w.segment
 
 -- the offsets that it has still to give

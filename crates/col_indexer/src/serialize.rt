@@ -4,6 +4,7 @@ ghost use Rattle.col_common.specs.Serializing.{Serializes};
 ghost use Rattle.col_model.specs.Index.{row_set};
 ghost use Rattle.col_model.specs.Positions.{rows_with_value, starts_of};
 ghost use Rattle.col_numbers.specs.Written.{done};
+ghost use Rattle.col_index.specs.MultiValues.{value_counts_of};
 ghost use Rattle.col_index.specs.Versions.{cardinality_of};
 ghost use Rattle.col_indexer.specs.RowViews.{rows_of};
 ghost use Rattle.col_indexer.specs.OffsetViews.{start_offsets_of};
@@ -12,11 +13,11 @@ ghost use Rattle.col_indexer.specs.Spelling.{index_list_bytes, row_set_bytes, Ar
 ghost use Rattle.col_indexer.specs.Spelling.{optional_index, IsIndex};
 ghost use Rattle.col_indexer.specs.Written.{SerializesIndexList};
 
+use crate::stacked_lists::starts_of_index;
 use crate::{RowIds, StackedRowIds, StackedStartOffsets, StartOffsets, indexes_are_read_back};
 use col_common::{ColumnarError, Iterable, RowId, Sink, VInt};
-use col_index::{Cardinality, OptionalIndex};
+use col_index::{Cardinality, MultiValueIndex, OptionalIndex};
 use col_numbers::{CodecType, serialize_estimated_values};
-use col_values::ColumnValues;
 use std::alloc::{AllocError, Global};
 
 // The codecs that the lists of an index are offered.
@@ -192,15 +193,28 @@ pub(crate) fn serialize_starts<K: Sink>(
 {
     match starts {
         StartOffsets::Slice(starts) => serialize_list(alloc, starts, sink),
-        StartOffsets::Index(index) => {
-            let len = index.get_start_index_column().num_vals();
-            serialize_collected(alloc, starts, len as usize, sink)
-        }
+        StartOffsets::Index(index) => serialize_index_starts(alloc, index, sink),
         StartOffsets::Stacked(starts) => serialize_stacked_starts(alloc, starts, sink),
         StartOffsets::Shuffled(starts) => {
             serialize_collected(alloc, starts, starts.max_len(), sink)
         }
     }
+}
+
+// Writes the start offsets of an index, and tells how many bytes they take.
+fn serialize_index_starts<K: Sink>(
+    alloc: Global,
+    index: &MultiValueIndex,
+    sink: &mut K,
+) -> Result<u64, ColumnarError>
+    requires { length (starts_of (value_counts_of index.now)) < 2 ^ 32 }
+    ensures ok { SerializesIndexList (K.seen sink.old) (K.seen sink.new) result
+        (starts_of (value_counts_of index.now)) }
+    ensures length { IfOk result (λ n.
+        n ≡ length (index_list_bytes (starts_of (value_counts_of index.now)))) }
+{
+    let items = starts_of_index(alloc, index)?;
+    serialize_list(alloc, &items.as_slice(), sink)
 }
 
 // Writes the rows of indexes one behind another, and tells how many bytes they take.

@@ -1,19 +1,17 @@
 //! Indexes one behind another.
-ghost use Rattle.std.specs.Prelude.{◌≡◌, ◌≤◌, ◌<◌, ◌^◌, length, sum, slice_get, IfOk};
+ghost use Rattle.std.specs.Prelude.{◌≡◌, ◌≤◌, ◌<◌, ◌+◌, ◌^◌, length, sum, slice_get, option_map, IfOk, IfSome};
 ghost use Rattle.std.specs.List.{range_with_len};
-ghost use Rattle.col_common.specs.Ascending.{AreBelow};
-ghost use Rattle.col_model.specs.Positions.{rows_with_value, starts_of};
-ghost use Rattle.col_numbers.specs.Readers.{list_of};
+ghost use Rattle.col_model.specs.Positions.{rank, rows_with_value, starts_of};
 ghost use Rattle.col_indexer.specs.Counted.{counts_in};
 ghost use Rattle.col_index.specs.Indexes.{shape_of};
+ghost use Rattle.col_index.specs.MultiValues.{value_counts_of};
 ghost use Rattle.col_common.specs.Walks.{IsNext};
 ghost use Rattle.col_indexer.specs.Stacks.{AreSegments, index_segments, stacked_counts};
 ghost use Rattle.col_indexer.specs.Stacks.{StandsAtRow, stacked_rows_to_give, StandsAtOffset, stacked_offsets_to_give};
 
 use crate::stacked_lists::{collected_rows, collected_starts};
-use col_common::{Iterable, RowId, Walk};
-use col_index::{ColumnIndex, NonNullDocs};
-use col_numbers::U64Values;
+use col_common::{DocId, Iterable, RowId, Walk};
+use col_index::{ColumnIndex, MultiValueIndex, NonNullDocs};
 use col_order::StackMergeOrder;
 use col_values::ColumnValues;
 use std::alloc::{AllocError, Global};
@@ -135,34 +133,41 @@ impl Iterable<RowId> for StackedStartOffsets<'_> {
     }
 }
 
-/// The row of a rank among those of a segment that have a value; none past the last.
+/// The row at a place among those of a segment that have a value; none past the last. So many rows
+/// with a value stand before the row from which on it is looked for.
 #[inline(always)]
-pub(crate) fn row_at(column_index: &ColumnIndex, num_rows: RowId, rank: u64) -> Option<RowId>
-    requires { rank ≤ length (rows_with_value (counts_in num_rows (shape_of column_index.now))) }
+pub(crate) fn row_at(
+    column_index: &ColumnIndex,
+    num_rows: RowId,
+    place: u64,
+    from: DocId,
+) -> Option<RowId>
+    requires { let counts = counts_in num_rows (shape_of column_index.now) in
+        rank (rows_with_value counts) from ≡ place }
     ensures { let counts = counts_in num_rows (shape_of column_index.now) in
-        result ≡ slice_get (rows_with_value counts) rank }
+        result ≡ slice_get (rows_with_value counts) place }
 {
     match column_index {
         ColumnIndex::Empty { .. } => None,
-        ColumnIndex::Full => number_below(u64::from(num_rows), rank),
+        ColumnIndex::Full => number_below(u64::from(num_rows), place),
         ColumnIndex::Optional(index) => {
             index.rows_rise();
-            row_of(&index.iter_non_null_docs(), rank)
+            row_of(&index.iter_non_null_docs(), place, from)
         }
-        ColumnIndex::Multivalued(index) => row_of(&index.iter_non_null_docs(), rank),
+        ColumnIndex::Multivalued(index) => row_of(&index.iter_non_null_docs(), place, from),
     }
 }
 
-// The row of a rank; none past the last.
+// The row at a place, looked for from a row on; none past the last.
 #[inline(always)]
-fn row_of(rows: &NonNullDocs<'_>, rank: u64) -> Option<RowId>
-    requires { rank ≤ length rows.now }
-    ensures { result ≡ slice_get rows.now rank }
+fn row_of(rows: &NonNullDocs<'_>, place: u64, from: DocId) -> Option<RowId>
+    requires { rank rows.now from ≡ place }
+    ensures { result ≡ slice_get rows.now place }
 {
     let mut walk = Walk {
         segment: 0,
-        place: rank,
-        inner: 0,
+        place,
+        inner: u64::from(from),
         sum: 0,
     };
     rows.next(&mut walk)
@@ -181,40 +186,59 @@ fn number_below(limit: u64, number: u64) -> Option<RowId>
     }
 }
 
-/// The start offset at a place in a segment; none past the last.
-#[inline(always)]
-pub(crate) fn start_at(column_index: &ColumnIndex, num_rows: RowId, place: u64) -> Option<RowId>
-    requires { sum (counts_in num_rows (shape_of column_index.now)) < 2 ^ 32 }
-    ensures { let counts = counts_in num_rows (shape_of column_index.now) in
-        result ≡ slice_get (starts_of counts) place }
+// The same row, and where its values end.
+fn run_at(
+    column_index: &ColumnIndex,
+    num_rows: RowId,
+    place: u64,
+    from: DocId,
+) -> Option<(RowId, RowId)>
+    requires place { let counts = counts_in num_rows (shape_of column_index.now) in
+        rank (rows_with_value counts) from ≡ place }
+    requires few { length (counts_in num_rows (shape_of column_index.now)) < 2 ^ 32 }
+    ensures row { let counts = counts_in num_rows (shape_of column_index.now) in
+        option_map (λ r. r.0) result ≡ slice_get (rows_with_value counts) place }
+    ensures end { let counts = counts_in num_rows (shape_of column_index.now) in
+        option_map (λ r. r.1) result ≡ slice_get (starts_of counts) (place + 1) }
 {
     match column_index {
-        ColumnIndex::Empty { .. } => number_below(1, place),
-        ColumnIndex::Full => number_below(u64::from(num_rows) + 1, place),
+        ColumnIndex::Empty { .. } => None,
+        ColumnIndex::Full => with_end(number_below(u64::from(num_rows), place), place),
         ColumnIndex::Optional(index) => {
             index.rows_rise();
-            number_below(u64::from(index.num_non_nulls()) + 1, place)
+            with_end(row_of(&index.iter_non_null_docs(), place, from), place)
         }
-        ColumnIndex::Multivalued(index) => value_at(index.get_start_index_column(), place),
+        ColumnIndex::Multivalued(index) => index.next_run(place, from),
     }
 }
 
-// The value at a place; none past the last.
-#[inline(always)]
-fn value_at(values: &U64Values, place: u64) -> Option<RowId>
-    requires { AreBelow (2 ^ 32) (list_of values.now) }
-    ensures { result ≡ slice_get (list_of values.now) place }
+// A row and where its value ends, where each row with a value has one.
+fn with_end(row: Option<RowId>, place: u64) -> Option<(RowId, RowId)>
+    requires { IfSome row (λ r. place + 1 < 2 ^ 32) }
+    ensures row { option_map (λ r. r.0) result ≡ row }
+    ensures end { option_map (λ r. r.1) result ≡ option_map (λ r. place + 1) row }
 {
-    if place < u64::from(values.num_vals()) {
-        Some(values.get_val(place as u32) as RowId)
-    } else {
-        None
-    }
+    let row = row?;
+    Some((row, place as RowId + 1))
+}
+
+/// How many values an index has: its last start offset.
+pub(crate) fn last_start(index: &MultiValueIndex) -> RowId
+    ensures { result ≡ sum (value_counts_of index.now) }
+{
+    let starts = index.get_start_index_column();
+    starts.get_val(starts.num_vals() - 1) as RowId
+}
+
+/// An index has at most so many start offsets: no more than it stores, nor more than one beside its
+/// values.
+pub(crate) fn max_starts(index: &MultiValueIndex) -> RowId {
+    let stored = index.get_start_index_column().num_vals();
+    stored.min(last_start(index).saturating_add(1))
 }
 
 /// How many values a segment has.
 pub(crate) fn num_values(column_index: &ColumnIndex, num_rows: RowId) -> RowId
-    requires { sum (counts_in num_rows (shape_of column_index.now)) < 2 ^ 32 }
     ensures { result ≡ sum (counts_in num_rows (shape_of column_index.now)) }
 {
     match column_index {
@@ -224,10 +248,7 @@ pub(crate) fn num_values(column_index: &ColumnIndex, num_rows: RowId) -> RowId
             index.rows_rise();
             index.num_non_nulls()
         }
-        ColumnIndex::Multivalued(index) => {
-            let starts = index.get_start_index_column();
-            starts.get_val(starts.num_vals() - 1) as RowId
-        }
+        ColumnIndex::Multivalued(index) => last_start(index),
     }
 }
 
@@ -244,14 +265,21 @@ fn next_row(column_indexes: &[ColumnIndex], order: &StackMergeOrder, at: &mut Wa
     while at.segment < num_segments {
         let segment = at.segment as usize;
         let num_rows = order.segment_num_rows(segment);
-        match row_at(&column_indexes[segment], num_rows, at.place) {
+        match row_at(
+            &column_indexes[segment],
+            num_rows,
+            at.place,
+            at.inner as DocId,
+        ) {
             Some(row) => {
                 at.place += 1;
+                at.inner = u64::from(row) + 1;
                 return Some((at.sum + u64::from(row)) as RowId);
             }
             None => {
                 at.segment += 1;
                 at.place = 0;
+                at.inner = 0;
                 at.sum += u64::from(num_rows);
             }
         }
@@ -282,14 +310,16 @@ fn next_start(
         let segment = at.segment as usize;
         let num_rows = order.segment_num_rows(segment);
         let column_index = &column_indexes[segment];
-        match start_at(column_index, num_rows, at.place) {
-            Some(start) => {
+        match run_at(column_index, num_rows, at.place - 1, at.inner as DocId) {
+            Some((row, end)) => {
                 at.place += 1;
-                return Some((at.sum + u64::from(start)) as RowId);
+                at.inner = u64::from(row) + 1;
+                return Some((at.sum + u64::from(end)) as RowId);
             }
             None => {
                 at.segment += 1;
                 at.place = 1;
+                at.inner = 0;
                 at.sum += u64::from(num_values(column_index, num_rows));
             }
         }

@@ -1,13 +1,18 @@
 //! The lists of indexes one behind another, in memory.
-ghost use Rattle.std.specs.Prelude.{◌≡◌, ◌<◌, ◌^◌, ◌+◌, ◌++◌, length, sum, IfOk, OnOk};
+ghost use Rattle.std.specs.Prelude.{◌≡◌, ◌<◌, ◌^◌, ◌+◌, ◌++◌, length, map, sum, IfOk, OnOk};
+ghost use Rattle.std.specs.List.{range_with_len, AllByRecursion};
 ghost use Rattle.col_model.specs.Positions.{rows_with_value, starts_of};
+ghost use Rattle.col_numbers.specs.Readers.{list_of};
 ghost use Rattle.col_index.specs.Indexes.{shape_of};
+ghost use Rattle.col_index.specs.MultiValues.{value_counts_of};
+ghost use Rattle.col_index.specs.Offsets.{changes_behind};
 ghost use Rattle.col_indexer.specs.Counted.{counts_in, rows_behind, ends_behind};
 ghost use Rattle.col_indexer.specs.Stacks.{AreSegments, index_segments, stacked_counts};
 
-use crate::stacked::{num_values, row_at, start_at};
-use col_common::RowId;
-use col_index::ColumnIndex;
+use crate::stacked::{last_start, max_starts, num_values, row_at};
+use col_common::{DocId, RowId};
+use col_index::{ColumnIndex, MultiValueIndex};
+use col_numbers::U64Values;
 use col_order::StackMergeOrder;
 use col_values::ColumnValues;
 use std::alloc::{AllocError, Global};
@@ -23,10 +28,12 @@ fn push_rows(
     ensures { OnOk result (rows.new.items ≡ rows.old.items
         ++ rows_behind before (counts_in num_rows (shape_of column_index.now))) }
 {
-    let mut rank = 0u64;
-    while let Some(row) = row_at(column_index, num_rows, rank) {
+    let mut place = 0u64;
+    let mut from: DocId = 0;
+    while let Some(row) = row_at(column_index, num_rows, place, from) {
         rows.push((before + u64::from(row)) as RowId)?;
-        rank += 1;
+        place += 1;
+        from = row + 1;
     }
     Ok(())
 }
@@ -59,17 +66,79 @@ fn push_ends(
     num_rows: RowId,
     before: u64,
 ) -> Result<(), AllocError>
-    requires rows { length (counts_in num_rows (shape_of column_index.now)) < 2 ^ 32 }
-    requires values { before + sum (counts_in num_rows (shape_of column_index.now)) < 2 ^ 32 }
+    requires { before + sum (counts_in num_rows (shape_of column_index.now)) < 2 ^ 32 }
     ensures { OnOk result (starts.new.items ≡ starts.old.items
         ++ ends_behind before (counts_in num_rows (shape_of column_index.now))) }
 {
-    let mut place = 1u64;
-    while let Some(start) = start_at(column_index, num_rows, place) {
-        starts.push((before + u64::from(start)) as RowId)?;
-        place += 1;
+    match column_index {
+        ColumnIndex::Empty { .. } => Ok(()),
+        ColumnIndex::Full => push_numbers(starts, before, num_rows),
+        ColumnIndex::Optional(index) => {
+            index.rows_rise();
+            push_numbers(starts, before, index.num_non_nulls())
+        }
+        ColumnIndex::Multivalued(index) => push_later_starts(starts, index, before),
+    }
+}
+
+// Appends so many numbers behind a number.
+fn push_numbers(starts: &mut Vec<RowId>, before: u64, count: RowId) -> Result<(), AllocError>
+    requires { before + count < 2 ^ 32 }
+    ensures { OnOk result (starts.new.items
+        ≡ starts.old.items ++ range_with_len (before + 1) count) }
+{
+    for number in 0..count {
+        starts.push((before + u64::from(number) + 1) as RowId)?;
     }
     Ok(())
+}
+
+// Appends the start offsets of an index but the first, behind so many values.
+fn push_later_starts(
+    starts: &mut Vec<RowId>,
+    index: &MultiValueIndex,
+    before: u64,
+) -> Result<(), AllocError>
+    requires { before + sum (value_counts_of index.now) < 2 ^ 32 }
+    ensures { OnOk result (starts.new.items
+        ≡ starts.old.items ++ ends_behind before (value_counts_of index.now)) }
+{
+    push_changes(starts, index.get_start_index_column(), before)
+}
+
+// Appends each offset that isn't the one before it, the first where it isn't 0, behind so many
+// values.
+fn push_changes(starts: &mut Vec<RowId>, offsets: &U64Values, before: u64) -> Result<(), AllocError>
+    requires { AllByRecursion (λ offset. before + offset < 2 ^ 32) (list_of offsets.now) }
+    ensures { let later = changes_behind 0 (list_of offsets.now) in
+        OnOk result (starts.new.items
+        ≡ starts.old.items ++ map (λ offset. before + offset) later) }
+{
+    let mut last = 0;
+    for at in 0..offsets.num_vals() {
+        let offset = offsets.get_val(at);
+        if offset == last {
+            continue;
+        }
+        starts.push((before + offset) as RowId)?;
+        last = offset;
+    }
+    Ok(())
+}
+
+/// The start offsets of an index, in memory.
+pub(crate) fn starts_of_index(
+    alloc: Global,
+    index: &MultiValueIndex,
+) -> Result<Vec<RowId>, AllocError>
+    ensures { IfOk result (λ v. v.items ≡ starts_of (value_counts_of index.now)) }
+{
+    // 32 bits count the values.
+    let _num_values = last_start(index);
+    let mut starts = Vec::with_capacity(alloc, max_starts(index) as usize)?;
+    starts.push(0)?;
+    push_later_starts(&mut starts, index, 0)?;
+    Ok(starts)
 }
 
 /// The start offsets of indexes one behind another, in memory.
@@ -103,7 +172,7 @@ fn max_rows(column_indexes: &[ColumnIndex], num_rows: RowId) -> RowId {
             ColumnIndex::Empty { .. } => 0,
             ColumnIndex::Full => num_rows,
             ColumnIndex::Optional(index) => index.num_non_nulls(),
-            ColumnIndex::Multivalued(index) => index.get_start_index_column().num_vals(),
+            ColumnIndex::Multivalued(index) => max_starts(index),
         };
         sum = sum.saturating_add(more);
     }

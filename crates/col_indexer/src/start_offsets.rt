@@ -1,13 +1,13 @@
 //! Lists of start offsets, from anywhere.
-ghost use Rattle.std.specs.Prelude.{◌≤◌, drop, length};
+ghost use Rattle.std.specs.Prelude.{drop};
 ghost use Rattle.col_common.specs.Walks.{IsNext};
 ghost use Rattle.col_model.specs.Positions.{starts_of};
 ghost use Rattle.col_index.specs.MultiValues.{value_counts_of};
+ghost use Rattle.col_indexer.specs.Stacks.{IsWalkOfStarts};
 
 use crate::{ShuffledStartOffsets, StackedStartOffsets};
-use col_common::{Iterable, RowId, Walk};
+use col_common::{DocId, Iterable, RowId, Walk};
 use col_index::MultiValueIndex;
-use col_values::ColumnValues;
 
 /// Start offsets: a list, those of an index, or merged ones.
 #[derive(Drop)]
@@ -47,18 +47,25 @@ impl Iterable<RowId> for StartOffsets<'_> {
     }
 }
 
-// The next start offset of an index.
+// The next start offset of an index, from a walk.
 fn next_start(index: &MultiValueIndex, at: &mut Walk) -> Option<RowId>
-    requires { at.old.place ≤ length (starts_of (value_counts_of index.now)) }
-    ensures stands { at.new.place ≤ length (starts_of (value_counts_of index.now)) }
+    requires { IsWalkOfStarts (value_counts_of index.now) at.old }
+    ensures stands { IsWalkOfStarts (value_counts_of index.now) at.new }
     ensures value { let starts = starts_of (value_counts_of index.now) in
         IsNext (drop at.old.place starts) result (drop at.new.place starts) }
 {
-    let starts = index.get_start_index_column();
-    let place = at.place;
-    if place >= u64::from(starts.num_vals()) {
-        return None;
+    if at.place == 0 {
+        at.place = 1;
+        return Some(0);
     }
-    at.place = place + 1;
-    Some(starts.get_val(place as u32) as RowId)
+    // A row is below their number, so that the one behind it is a number of 32 bits.
+    let _num_docs = index.num_docs();
+    match index.next_run(at.place - 1, at.inner as DocId) {
+        Some((row, end)) => {
+            at.place += 1;
+            at.inner = u64::from(row) + 1;
+            Some(end)
+        }
+        None => None,
+    }
 }

@@ -1,14 +1,15 @@
 -- Rows that have few values have few in all: as many as the greatest count for each row at most.
-use Rattle.std.proofs.Common.{◌≡◌, ℕ, zero, suc, ◌+◌, ◌-◌, ◌*◌, ◌<◌, ◌≤◌, ◌^◌, ◌==◌, Bool, true, false, List, [], ◌∷◌, length, map, zip, drop, get_or, slice_get, replicate, unwrap_or, Option, Some, min, max, sym, ap, subst, ◌∙◌, suc-mul, arith}
+use Rattle.std.proofs.Common.{◌≡◌, ℕ, zero, suc, ◌+◌, ◌-◌, ◌*◌, ◌<◌, ◌≤◌, ◌^◌, ◌==◌, Bool, true, false, List, [], ◌∷◌, length, map, zip, drop, get_or, slice_get, replicate, unwrap_or, Option, Some, min, max, cond, refl, sym, ap, subst, ◌∙◌, suc-mul, arith}
 use Rattle.std.specs.List.{sum, range_with_len}
 use Rattle.std.specs.Option.{option_map}
 use Rattle.std.specs.Prelude.{nat_le, find, if◌then◌else◌}
 use Rattle.std.proofs.Math.ListN.{get_or-eq_default}
-use Rattle.std.proofs.lemmas.Bool.{lt-leb}
+use Rattle.std.proofs.lemmas.Bool.{lt-leb, eqb-true}
 use Rattle.std.proofs.lemmas.List.{drop_more, drop_all}
 use Rattle.std.proofs.lemmas.List.Sums.{sum_by-cons}
 use Rattle.std.proofs.lemmas.Option.{get_or_from_slice_get}
 use Rattle.col_index.specs.Indexes.{shape_of}
+use Rattle.col_index.specs.Offsets.{changes_behind, without_repeats}
 use Rattle.col_index.specs.declared.column_index.ColumnIndex.{ColumnIndex}
 use Rattle.col_indexer.proofs.CountedLemmas.{starts_after-some}
 use Rattle.col_merge_column.specs.Limits.{StepsAtMost, HasAtMost, HaveAtMost}
@@ -60,10 +61,28 @@ steps-counts m b0 b (suc c ∷ cs) h =
     let rest = steps-counts m b (b + suc c) cs all.1 in
     (all.0, first-row (suc c) m cs (omega (arith, rest.0)) rest.1)
 
--- the same where the starts are those of an index
-pub steps-row : (m : ℕ) (cs starts : List ℕ) → starts ≡ starts_of cs → StepsAtMost m 0 starts → (row : ℕ) → get_or cs row 0 ≤ m
+-- steps stay small where an item that equals the one before it is left out, behind a number ..
+steps-changes : (m last : ℕ) (xs : List ℕ) → StepsAtMost m last xs → StepsAtMost m last (changes_behind last xs)
+unfolding StepsAtMost
+steps-changes m last [] h = tt
+steps-changes m last (x ∷ xs) h = go (x == last) refl (steps-changes m x xs h.1)
+  where
+    go : (b : Bool) → (x == last) ≡ b → StepsAtMost m x (changes_behind x xs)
+        → StepsAtMost m last (cond b (changes_behind x xs) (x ∷ changes_behind x xs))
+    go true e more = subst (λ y. StepsAtMost m y (changes_behind x xs)) (eqb-true x last e) more
+    go false e more = (h.0, more)
+
+-- .. and in a list
+steps-without : (m b : ℕ) (xs : List ℕ) → StepsAtMost m b xs → StepsAtMost m b (without_repeats xs)
+unfolding StepsAtMost
+steps-without m b [] h = tt
+steps-without m b (x ∷ xs) h = (h.0, steps-changes m x xs h.1)
+
+-- the same where the offsets are those of an index
+pub steps-row : (m : ℕ) (cs starts : List ℕ) → without_repeats starts ≡ starts_of cs → StepsAtMost m 0 starts
+    → (row : ℕ) → get_or cs row 0 ≤ m
 unfolding starts_of
-steps-row m cs starts e h = (steps-counts m 0 0 cs (subst (StepsAtMost m 0) e h)).1
+steps-row m cs starts e h = (steps-counts m 0 0 cs (subst (StepsAtMost m 0) e (steps-without m 0 starts h))).1
 
 -- one index more was looked at
 pub one-index : (indexes : List ColumnIndex) (k most n g : ℕ) (i : ColumnIndex) → k < length indexes

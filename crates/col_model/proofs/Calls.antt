@@ -136,10 +136,11 @@ other_header = refl
 version_read : version_of version_bytes ≡ Some 2
 version_read = refl
 
-version_unread : map version_of
-    ((1 ∷ 0 ∷ 0 ∷ 0 ∷ 0x02 ∷ 0x71 ∷ 0x77 ∷ 0x42 ∷ []) ∷ (3 ∷ 0 ∷ 0 ∷ 0 ∷ 0x02 ∷ 0x71 ∷ 0x77 ∷ 0x42 ∷ []) ∷ [])
-    ≡ None ∷ None ∷ []
-version_unread = refl
+versions_read : map version_of
+    ((1 ∷ 0 ∷ 0 ∷ 0 ∷ 0x02 ∷ 0x71 ∷ 0x77 ∷ 0x42 ∷ []) ∷ (3 ∷ 0 ∷ 0 ∷ 0 ∷ 0x02 ∷ 0x71 ∷ 0x77 ∷ 0x42 ∷ [])
+    ∷ (0 ∷ 0 ∷ 0 ∷ 0 ∷ 0x02 ∷ 0x71 ∷ 0x77 ∷ 0x42 ∷ []) ∷ [])
+    ≡ Some 1 ∷ None ∷ None ∷ []
+versions_read = refl
 
 full_counts : counts (0 ∷ []) 2 3 ≡ Some (record { cardinality = full; of_rows = 1 ∷ 1 ∷ 1 ∷ [] })
 unfolding col_model_on_literals

@@ -1,5 +1,5 @@
 -- The versions of the format. States docs/FORMAT.md, section 11.
-use Rattle.std.specs.Prelude.{ℕ, ◌==◌, ◌&&◌, Bool, List, [], ◌∷◌, ◌++◌, bytes_eq, Option}
+use Rattle.std.specs.Prelude.{ℕ, ◌==◌, ◌&&◌, ◌||◌, Bool, List, [], ◌∷◌, ◌++◌, bytes_eq, Option}
 use Rattle.std.specs.Int.{w32, to_le_bytes}
 use Rattle.col_common.specs.Reading.{◌>>=◌, only_if, le_number}
 
@@ -7,11 +7,9 @@ use Rattle.col_common.specs.Reading.{◌>>=◌, only_if, le_number}
 abbrev pub current_version : ℕ
 current_version = 2
 
--- The versions that are read: 2 alone. Where version 1 is read too, this line becomes `is_version
--- v = (v == 1) || (v == 2)`, and nothing else changes: `counts` has the indexes of version 1
--- already.
+-- the versions that are read
 abbrev pub is_version : ℕ → Bool
-is_version v = v == current_version
+is_version v = (v == 1) || (v == 2)
 
 -- the last four bytes of a file
 abbrev pub magic : List ℕ

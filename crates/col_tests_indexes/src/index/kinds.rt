@@ -2,7 +2,7 @@
 
 use col_common::Buffer;
 use col_index::{
-    CURRENT_VERSION, Cardinality, cardinalities_compare_as_their_codes,
+    CURRENT_VERSION, Cardinality, Version, cardinalities_compare_as_their_codes,
     versions_are_equal_as_their_numbers,
 };
 use std::test::Fail;
@@ -24,7 +24,7 @@ fn cardinalities_and_versions_have_texts(rt: HostRuntime) -> Result<(), Fail> {
         let text = format!(in rt.alloc(); "{cardinality}")?;
         assert_eq!(rt; text.as_str(), name);
     }
-    let text = format!(in rt.alloc(); "{CURRENT_VERSION}")?;
-    assert_eq!(rt; text.as_str(), "v2");
+    let text = format!(in rt.alloc(); "{CURRENT_VERSION} {}", Version::V1)?;
+    assert_eq!(rt; text.as_str(), "v2 v1");
     Ok(())
 }

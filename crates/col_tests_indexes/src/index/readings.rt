@@ -1,8 +1,10 @@
 //! What indexes answer of their rows.
 
+use bytes::Bytes;
 use col_common::{DocId, RowId};
 use col_index::{
-    ColumnIndex, MultiValueIndex, OptionalIndex, SelectCursor, Set, indexes_have_counts,
+    ColumnIndex, MultiValueIndex, OptionalIndex, SelectCursor, Set, Version, indexes_have_counts,
+    open_multivalued_index,
 };
 use std::alloc::Global;
 use std::process::Abort;
@@ -46,6 +48,38 @@ fn rows_with_many_values_have_runs_of_positions(rt: HostRuntime) -> Result<(), F
         positions: &[0, 1, 2, 3],
     };
     let text = "Multivalued(MultiValuedIndex { num_rows: 3, .. })";
+    assert_answers(&rt, rt.alloc(), &ColumnIndex::from(index), answers, text)
+}
+
+// A copy has the rows and positions that follow from offsets 0, 2, 2, 3.
+fn assert_copied(rt: &impl Abort, alloc: Global, index: &MultiValueIndex) -> Result<(), Fail> {
+    let copy = index.try_clone(alloc)?;
+    assert_eq!(rt;
+        (copy.range(1), copy.range_if_any(1), copy.range(2)),
+        (2..2, 0..0, 2..3)
+    );
+    assert_eq!(rt;
+        (
+            copy.num_docs(),
+            copy.has_value(1),
+            copy.next_non_null_doc(1)
+        ),
+        (3, false, Some(2))
+    );
+    Ok(())
+}
+
+#[test]
+fn an_index_of_version_1_passes_over_rows_without_values(rt: HostRuntime) -> Result<(), Fail> {
+    let bytes = Bytes::from_static(b"\x00\x80\x81\x83\x84\xe8");
+    let index = open_multivalued_index(rt.alloc(), bytes, Version::V1)?;
+    assert_copied(&rt, rt.alloc(), &index)?;
+    let answers = Answers {
+        docs: &[2, 1, 0, 3],
+        with_values: &[2, 0, 0],
+        positions: &[2, 0, 1],
+    };
+    let text = "Multivalued(MultiValuedIndex { num_rows: 4, .. })";
     assert_answers(&rt, rt.alloc(), &ColumnIndex::from(index), answers, text)
 }
 

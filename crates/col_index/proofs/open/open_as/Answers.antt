@@ -1,11 +1,12 @@
 use Rattle.std.proofs.Common.{◌∙◌, ap, sym, ◌∷◌, option_map}
 use Rattle.std.proofs.lemmas.Result.{err_from_is_err_and}
 use Rattle.col_common.specs.Reading.{only_if}
-use Rattle.col_model.specs.Index.{RowSet, RowOffsets, row_set, row_offsets, shape, optional_shape, multivalued_shape, full_shape, set_counts, offset_counts}
+use Rattle.col_model.specs.Index.{RowSet, row_set, shape, optional_shape, full_shape, set_counts}
 use Rattle.col_model.specs.Table.{cardinality_code}
 use Rattle.col_codecs.proofs.BlockReaderLemmas.{refuses-list}
+use Rattle.col_index.specs.Opening.{multivalued_at}
 use Rattle.col_index.specs.Versions.{version_number, cardinality_of}
-use Rattle.col_index.proofs.ShapeLemmas.{shape-full, shape-optional, shape-multivalued, shape-multivalued_index}
+use Rattle.col_index.proofs.ShapeLemmas.{shape-full, shape-optional, shape-multivalued}
 use Rattle.col_index.proofs.open.open_as.Goals as goal
 
 pub returns-then-not-is_empty : goal.returns-then-not-is_empty
@@ -31,10 +32,10 @@ pub returns-in_err-open_multivalued_index-in-Multivalued : goal.returns-in_err-o
 returns-in_err-open_multivalued_index-in-Multivalued c =
     let after = c.from_residual-in_err-open_multivalued_index-in-Multivalued in
     let p = err_from_is_err_and after.result after.ensures.1 in
-    rw (p.1, p.2) (refuses-list c.in_err-open_multivalued_index-in-Multivalued.field-0.0 (row_offsets c.args.bytes)
+    rw (p.1, p.2) (refuses-list c.in_err-open_multivalued_index-in-Multivalued.field-0.0
+    (multivalued_at (version_number c.args.format_version) c.args.bytes)
     (shape (cardinality_code (cardinality_of c.args.cardinality) ∷ c.args.bytes) (version_number c.args.format_version))
-    (λ e. shape-multivalued c.args.cardinality c.args.format_version c.args.bytes c.in-Multivalued.is
-    ∙ ap (option_map (λ (o : RowOffsets). multivalued_shape (offset_counts o))) e)
+    (λ e. shape-multivalued c.args.cardinality c.args.format_version c.args.bytes c.in-Multivalued.is ∙ e)
     c.in_err-open_multivalued_index-in-Multivalued.ensures)
 
 pub returns-in_ok-open_optional_index-in-Optional : goal.returns-in_ok-open_optional_index-in-Optional
@@ -45,6 +46,5 @@ returns-in_ok-open_optional_index-in-Optional c =
 
 pub returns-in_ok-open_multivalued_index-in-Multivalued : goal.returns-in_ok-open_multivalued_index-in-Multivalued
 returns-in_ok-open_multivalued_index-in-Multivalued c =
-    shape-multivalued_index c.args.cardinality c.args.format_version c.args.bytes
-    c.in_ok-open_multivalued_index-in-Multivalued.field-0 c.in-Multivalued.is
-    c.in_ok-open_multivalued_index-in-Multivalued.ensures
+    shape-multivalued c.args.cardinality c.args.format_version c.args.bytes c.in-Multivalued.is
+    ∙ c.in_ok-open_multivalued_index-in-Multivalued.ensures

@@ -2,8 +2,7 @@ use Rattle.std.proofs.Common.{◌++◌, [], ◌∷◌, refl, ap, ◌∙◌, arit
 use Rattle.col_indexer.specs.Counted.{ends_behind}
 use Rattle.col_indexer.specs.Stacks.{index_segments, counts_from}
 use Rattle.col_indexer.proofs.CollectedLemmas.{ends-appended, starts-front, ends-end}
-use Rattle.col_indexer.proofs.StackedOffsetLemmas.{values-fit, values-few}
-use Rattle.col_indexer.proofs.StackedWalkLemmas.{rows-fit}
+use Rattle.col_indexer.proofs.StackedOffsetLemmas.{values-fit}
 use Rattle.col_indexer.proofs.stacked_lists.collected_starts.Goals as goal
 
 pub loop-segment-init : goal.loop-segment-init
@@ -17,24 +16,11 @@ loop-segment-init c =
           ∙ starts-front s;
     }
 
-pub push_ends-requires-clause-rows : goal.push_ends-requires-clause-rows
-push_ends-requires-clause-rows c =
-    let fits = rows-fit c.args.column_indexes.now c.args.order.now c.loop-segment.segment _ _ _ c.requires.segments
-    (omega (arith, c.loop-segment-test.true, c.num_segments-segment-end.ensures)) c.segment_num_rows-num_rows.ensures
-    c.index-column_indexes-segment.is refl in
-    omega (arith, fits)
-
-pub push_ends-requires-clause-values : goal.push_ends-requires-clause-values
-push_ends-requires-clause-values c =
+pub push_ends-requires : goal.push_ends-requires
+push_ends-requires c =
     values-fit c.args.column_indexes.now c.args.order.now c.loop-segment.segment _ _ _ c.requires.segments
     (omega (arith, c.loop-segment-test.true, c.num_segments-segment-end.ensures)) c.segment_num_rows-num_rows.ensures
     c.index-column_indexes-segment.is c.loop-segment.invariant.before
-
-pub num_values-requires : goal.num_values-requires
-num_values-requires c =
-    values-few c.args.column_indexes.now c.args.order.now c.loop-segment.segment _ _ c.requires.segments
-    (omega (arith, c.loop-segment-test.true, c.num_segments-segment-end.ensures)) c.segment_num_rows-num_rows.ensures
-    c.index-column_indexes-segment.is
 
 pub loop-segment-preserved : goal.loop-segment-preserved
 loop-segment-preserved c =

@@ -1,0 +1,21 @@
+-- Walks over the rows with a value.
+use Rattle.std.specs.Prelude.{◌≡◌, ◌<◌, ◌^◌, ℕ, List}
+use Rattle.col_common.specs.Ascending.{differences}
+use Rattle.col_common.specs.declared.iterable.Walk.{Walk}
+use Rattle.col_model.specs.Positions.{rank, rows_with_value}
+use Rattle.col_index.specs.declared.walked_rows.WalkedRows.{WalkedRows}
+use Rattle.col_index.specs.declared.walked_rows.WalkedRows.TheVariants.{OfOptional, OfOffsets}
+
+-- the rows that are walked
+abbrev pub rows_walked : WalkedRows → List ℕ
+rows_walked (OfOptional i) = i.now.rows
+rows_walked (OfOffsets i) = rows_with_value (differences i.now)
+
+-- so many of the rows stand before a number of 32 bits
+pub record IsRanked32 (rows : List ℕ) (row place : ℕ) : Type 0 where
+  pub ranked : rank rows row ≡ place
+  pub small : row < 2 ^ 32
+
+-- `place` of a walk is the rank of `inner`, from which on the next row is looked for
+abbrev pub IsWalkOfRows : List ℕ → Walk → Type 0
+IsWalkOfRows rows w = IsRanked32 rows w.inner w.place
