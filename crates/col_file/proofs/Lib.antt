@@ -7,3 +7,4 @@ pub mod PartLemmas
 pub mod ReadLemmas
 mod OpenedLemmas
 mod TypeLemmas
+mod CheckLemmas

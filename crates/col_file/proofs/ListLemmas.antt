@@ -6,7 +6,7 @@ use Rattle.col_model.specs.Keys.{Entry}
 use Rattle.col_file.specs.Handles.{Handle, handle_of, listed}
 
 -- one more item of a part
-take-next : {A : Type 0} (xs : List A) (n : ℕ) (x : A) → slice_get xs n ≡ Some x → take (suc n) xs ≡ take n xs ++ x ∷ []
+pub take-next : {A : Type 0} (xs : List A) (n : ℕ) (x : A) → slice_get xs n ≡ Some x → take (suc n) xs ≡ take n xs ++ x ∷ []
 take-next [] n x e = cc
 take-next (y ∷ xs) zero x e = ap (λ z. z ∷ []) (same_Some y x e)
 take-next (y ∷ xs) (suc n) x e = ap (λ ys. y ∷ ys) (take-next xs n x e)

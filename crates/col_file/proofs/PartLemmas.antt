@@ -14,7 +14,7 @@ both true b e f = f
 both false b e f = e
 
 -- an entry is where its handle says
-is_at-own : (e : Entry) → is_at (handle_of e) e ≡ true
+pub is_at-own : (e : Entry) → is_at (handle_of e) e ≡ true
 is_at-own e =
     let kind : same_type e.key.column_type e.key.column_type ≡ true =
     eq-eqb (type_code e.key.column_type) (type_code e.key.column_type) refl in

@@ -5,3 +5,4 @@ pub mod Files
 pub mod Ends
 pub mod Readers
 pub mod Columns
+pub mod Checks

@@ -2,6 +2,7 @@
 //! what its end says, and a handle as a type and a place in the file.
 #![tactic(auto)]
 
+mod check;
 mod column_entry;
 mod column_iter;
 mod columnar_keys;
@@ -13,6 +14,7 @@ mod path;
 mod reader;
 mod reading;
 
+pub use check::check_columns;
 pub use column_iter::ColumnIter;
 pub use dynamic_column_handle::DynamicColumnHandle;
 pub use laws::count_columns;

@@ -1,5 +1,5 @@
 //! Open files.
-ghost use Rattle.std.specs.Prelude.{◌≡◌, false, length, map, option_and_then, is_some, slice_get, string_bytes, Err, IfOk, IfErr};
+ghost use Rattle.std.specs.Prelude.{◌≡◌, ◌<◌, false, length, map, option_and_then, option_map, is_some, slice_get, string_bytes, Some, Err, IfOk, IfErr};
 ghost use Rattle.std.specs.List.{AllByRecursion};
 ghost use Rattle.col_index.specs.Versions.{version_number};
 ghost use Rattle.col_file.specs.Columns.{bytes_at};
@@ -148,6 +148,14 @@ impl<F: FileHandle> ColumnarReader<F> {
         ensures { version_number result ≡ self.now.keys.version }
     {
         self.keys.version()
+    }
+
+    // The handle of the entry at a place.
+    pub(crate) fn handle_at(&self, place: usize) -> DynamicColumnHandle
+        requires { place < length self.now.keys.entries }
+        ensures { option_map handle_of (slice_get self.now.keys.entries place) ≡ Some result }
+    {
+        self.keys.handle_at(place)
     }
 
     // Reads the bytes of a handle's column, where the handle is that of an entry.

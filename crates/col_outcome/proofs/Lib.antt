@@ -10,3 +10,4 @@ mod OrderLemmas
 mod SegmentLemmas
 mod StayLemmas
 mod TableLemmas
+mod CheckingLemmas

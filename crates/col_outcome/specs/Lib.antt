@@ -3,3 +3,4 @@ pub mod InMemory
 pub mod Inputs
 pub mod Making
 pub mod Ordered
+pub mod Checking

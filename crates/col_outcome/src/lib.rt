@@ -1,7 +1,8 @@
-//! What a script and inputs come to: one merged file, and a report on it. Contracts see what the
-//! definitions make of them.
+//! What a script and inputs come to: one merged file, and a report on it; and a report on a check of
+//! one input. Contracts see what the definitions make of them.
 #![tactic(auto)]
 
+mod checking;
 mod in_memory;
 mod inputs;
 mod merging;
@@ -9,5 +10,6 @@ mod order;
 mod part;
 mod segments;
 
+pub use checking::check_and_report;
 pub use merging::{FileAndReport, merge_and_report};
 pub use part::Part;

@@ -6,3 +6,4 @@ mod ReadLemmas
 mod PlaceLemmas
 mod OpenLemmas
 mod ReportLemmas
+mod CheckLemmas

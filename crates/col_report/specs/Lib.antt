@@ -1,3 +1,5 @@
 pub mod Printed
 pub mod Reported
 pub mod Opened
+pub mod Checked
+pub mod Check

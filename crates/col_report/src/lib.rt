@@ -3,6 +3,7 @@
 #![tactic(auto)]
 
 mod cells;
+mod check;
 mod found;
 mod lines;
 mod lookups;
@@ -13,4 +14,5 @@ mod term_cells;
 mod text;
 mod words;
 
+pub use check::report_on_check;
 pub use report::write_report;

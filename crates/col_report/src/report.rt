@@ -82,7 +82,8 @@ fn push_report<F: FileHandle>(
     push_finds(alloc, reader, columns, finds, short, out)
 }
 
-fn rows_value(alloc: Global, count: u32) -> Result<Value, AllocError>
+// The line of a row count.
+pub(crate) fn rows_value(alloc: Global, count: u32) -> Result<Value, AllocError>
     ensures { IfOk result (λ v. view v ≡ rows_line count) }
 {
     json!(in alloc; ["rows", count])

@@ -3,7 +3,7 @@ use bytes::Bytes;
 use col_common::{ColumnarError, FileHandle, MemHandle};
 use col_dynamic::{Column, ColumnSpaceUsage, ColumnType};
 use col_dynamic_open::LenientColumn;
-use col_file::{ColumnarReader, DynamicColumnHandle, count_columns};
+use col_file::{ColumnarReader, DynamicColumnHandle, check_columns, count_columns};
 use col_values::ColumnValues;
 use std::alloc::Global;
 use std::test::Fail;
@@ -105,6 +105,27 @@ fn columns_are_found_by_name_and_by_path(rt: HostRuntime) -> Result<(), Fail> {
     Ok(())
 }
 
+// Whether a check of a file of these bytes tells this of its entries.
+fn are_checked(
+    alloc: Global,
+    bytes: &'static [u8],
+    failing: &[u64],
+    wanted: &[bool],
+) -> Result<bool, ColumnarError> {
+    let mut reader = opened(alloc, bytes, failing)?;
+    Ok(check_columns(alloc, &mut reader)?.as_slice() == wanted)
+}
+
+#[test]
+fn entries_are_told_apart_from_columns(rt: HostRuntime) -> Result<(), Fail> {
+    let alloc = rt.alloc();
+    assert!(rt; are_checked(alloc, TEN_AND_TWENTY, &[], &[true])?);
+    assert!(rt; are_checked(alloc, PATHS, &[], &[false, false, false, false])?);
+    let fault = are_checked(alloc, PATHS, &[4], &[]);
+    assert_eq!(rt; fault, Err(ColumnarError::ReadFault));
+    Ok(())
+}
+
 fn num_walked(alloc: Global) -> Result<u64, ColumnarError> {
     Ok(count_columns(&opened(alloc, PATHS, &[])?))
 }
@@ -123,7 +144,9 @@ fn a_reader_prints_its_counts(rt: HostRuntime) -> Result<(), Fail> {
 }
 
 // The handle of the first column.
-fn first_handle(reader: &ColumnarReader<MemHandle>) -> Result<DynamicColumnHandle, ColumnarError> {
+pub(crate) fn first_handle(
+    reader: &ColumnarReader<MemHandle>,
+) -> Result<DynamicColumnHandle, ColumnarError> {
     match reader.iter_columns().next() {
         Some((_, handle)) => Ok(handle),
         None => Err(ColumnarError::InvalidData),
@@ -135,7 +158,7 @@ fn handle_in(alloc: Global, bytes: &'static [u8]) -> Result<DynamicColumnHandle,
 }
 
 // The first value of the last of two rows.
-fn last_of_two<V: ColumnValues<u64>>(column: &Column<u64, V>) -> Option<u64> {
+pub(crate) fn last_of_two<V: ColumnValues<u64>>(column: &Column<u64, V>) -> Option<u64> {
     if column.num_docs() != 2 {
         return None;
     }

@@ -9,7 +9,7 @@ use Rattle.col_model.specs.Refusal.{Refusal, status_of, invalid_data, bad_order,
 use Rattle.col_writer_columns.specs.Answers.{answer_of}
 use Rattle.col_outcome.specs.Making.{IsKnown}
 use Rattle.col_tool.specs.Answer.{answers, refusals}
-use Rattle.col_tool.specs.Statuses.{Exactly, statuses}
+use Rattle.col_tool.specs.Statuses.{Exactly, check_statuses, statuses}
 
 -- an answer has the status of the refusal that it is
 pub code-answer : (r : Refusal) → code_of (answer_of r) ≡ status_of r
@@ -55,6 +55,22 @@ delivered-among status (zero, within, e) = (0, omega arith, e)
 delivered-among status (suc zero, within, e) = (2, omega arith, e)
 delivered-among status (suc (suc zero), within, e) = (1, omega arith, e)
 delivered-among status (suc (suc (suc k)), within, e) = absurd (omega arith)
+
+-- so are those of a check
+pub check-among : (status : ℕ) → Contains check_statuses status → Contains answers status
+check-among status (zero, within, e) = (0, omega arith, e)
+check-among status (suc zero, within, e) = (2, omega arith, e)
+check-among status (suc (suc zero), within, e) = (3, omega arith, e)
+check-among status (suc (suc (suc zero)), within, e) = (1, omega arith, e)
+check-among status (suc (suc (suc (suc zero))), within, e) = (4, omega arith, e)
+check-among status (suc (suc (suc (suc (suc k)))), within, e) = absurd (omega (arith, within))
+
+-- the statuses of a delivery are among those of a check
+pub delivered-checks : (status : ℕ) → Contains (0 ∷ 3 ∷ 5 ∷ []) status → Contains check_statuses status
+delivered-checks status (zero, within, e) = (0, omega arith, e)
+delivered-checks status (suc zero, within, e) = (1, omega arith, e)
+delivered-checks status (suc (suc zero), within, e) = (3, omega arith, e)
+delivered-checks status (suc (suc (suc k)), within, e) = absurd (omega (arith, within))
 
 -- the statuses of answers are among those of the program
 pub answers-among : (status : ℕ) → Contains answers status → Contains statuses status

@@ -21,7 +21,7 @@ pub use col_dynamic::{
     BytesColumn, Column, ColumnSpaceUsage, ColumnType, DynamicColumn, HasAssociatedColumnType,
     IpColumn, NumColumn, NumericalType, NumericalValue, StrColumn,
 };
-pub use col_file::{ColumnIter, ColumnarReader, DynamicColumnHandle};
+pub use col_file::{ColumnIter, ColumnarReader, DynamicColumnHandle, check_columns};
 pub use col_index::{CURRENT_VERSION, Cardinality, ColumnIndex, Version};
 pub use col_merge::{StackFromReaders, merge_columnar};
 pub use col_merge_terms::compute_merged_term_ord_mapping;
