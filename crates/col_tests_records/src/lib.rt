@@ -6,4 +6,6 @@ mod keys;
 #[cfg(test)]
 mod record;
 #[cfg(test)]
+mod refused;
+#[cfg(test)]
 mod writer;
