@@ -21,7 +21,8 @@ column_seen_by rows count values s =
 
 -- the shape that the bytes of an index stand for, with such values
 abbrev pub indexed_by : {V : Type 0} → List ℕ → ℕ → ℕ → ℕ → V → Option (Seen V)
-indexed_by bytes version rows count values = shape bytes version >>= column_seen_by rows count values
+indexed_by bytes version rows count values =
+    shape bytes version >>= column_seen_by rows count values
 
 -- the codes, with their ranges, that the bytes of a column of addresses spell behind its index
 abbrev pub codes_behind : List ℕ → Option Coded

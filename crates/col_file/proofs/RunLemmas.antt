@@ -1,5 +1,5 @@
 -- Items that stand side by side, by a rank that never falls.
-use Rattle.std.proofs.Common.{◌≡◌, ℕ, zero, suc, ◌-◌, ◌≤◌, Bool, true, false, cond, List, [], ◌∷◌, length, get_or, take, drop, map, filter, slice_range, refl, sym, ap, ◌∙◌, subst, inl, inr, arith}
+use Rattle.std.proofs.Common.{◌≡◌, ℕ, zero, suc, ◌-◌, ◌≤◌, Bool, true, false, List, [], ◌∷◌, length, get_or, take, drop, map, filter, slice_range, refl, sym, ap, ◌∙◌, subst, inl, inr, arith}
 use Rattle.std.specs.declared.cmp.Ordering.{Ordering}
 use Rattle.std.specs.declared.cmp.Ordering.TheVariants.{Less, Equal, Greater}
 use Rattle.std.specs.Ordering.{is_lt, is_le, is_eq, ordering_index}
@@ -7,7 +7,7 @@ use Rattle.std.specs.List.Sorted.{IsNonDecreasingBy, IsPartitionedBy, IsPartitio
 use Rattle.std.proofs.lemmas.Bool.{cases_lt, false≢true, true≢false}
 use Rattle.std.proofs.lemmas.List.{take-map, drop-map, length-map}
 use Rattle.col_common.proofs.OrderingLemmas.{lt_le}
-use Rattle.col_model.proofs.ListLaws.{filter_run}
+use Rattle.col_model.proofs.ListLaws.{filter_run, filter-map}
 use Rattle.col_file.specs.Runs.{IsRun}
 
 -- ---- what ranks say
@@ -43,27 +43,15 @@ le-lower Greater Less h e = absurd (omega arith)
 le-lower Greater Equal h e = absurd (omega arith)
 le-lower Greater Greater h e = absurd (false≢true e)
 
--- ---- the items between two places
-
-filter-map : {A B : Type 0} (f : A → B) (test : B → Bool) (xs : List A) → filter test (map f xs) ≡ map f (filter (λ x. test (f x)) xs)
-filter-map f test [] = refl
-filter-map {A = A} {B = B} f test (x ∷ xs) = at (test (f x)) (filter-map f test xs)
-  where
-    at : (t : Bool) → filter test (map f xs) ≡ map f (filter (λ x. test (f x)) xs)
-        → cond t (f x ∷ filter test (map f xs)) (filter test (map f xs))
-        ≡ map f (cond t (x ∷ filter (λ x. test (f x)) xs) (filter (λ x. test (f x)) xs))
-    at true e = ap (λ ys. f x ∷ ys) e
-    at false e = e
-
 -- ---- the items of the middle rank
 
 module _ {A : Type 0} (rank : A → Ordering) where
   -- where ranks never fall, the items below stand before the others
-  pub lt-partitioned : (xs : List A) → IsNonDecreasingBy (λ x. ordering_index (rank x)) xs → IsPartitionedBy (λ x. is_lt (rank x)) xs
+  lt-partitioned : (xs : List A) → IsNonDecreasingBy (λ x. ordering_index (rank x)) xs → IsPartitionedBy (λ x. is_lt (rank x)) xs
   lt-partitioned xs rises i j d h k e = lt-lower (rank (get_or xs i d)) (rank (get_or xs j d)) (rises i j d h k) e
 
   -- where ranks never fall, the items that are below or equal stand before the others
-  pub le-partitioned : (xs : List A) → IsNonDecreasingBy (λ x. ordering_index (rank x)) xs → IsPartitionedBy (λ x. is_le (rank x)) xs
+  le-partitioned : (xs : List A) → IsNonDecreasingBy (λ x. ordering_index (rank x)) xs → IsPartitionedBy (λ x. is_le (rank x)) xs
   le-partitioned xs rises i j d h k e = le-lower (rank (get_or xs i d)) (rank (get_or xs j d)) (rises i j d h k) e
 
   module _ {B : Type 0} (f : A → B) (test : B → Bool) (is : (x : A) → test (f x) ≡ is_eq (rank x)) (xs : List A)
@@ -94,7 +82,7 @@ module _ {A : Type 0} (rank : A → Ordering) where
         moved = sym (take-map f (upto - start) (drop start xs)) ∙ ap (take (upto - start)) (sym (drop-map f start xs))
 
   -- the items of rank `Equal` are those between the ends of a search for each bound
-  pub run-is : {B : Type 0} (f : A → B) (test : B → Bool) → ((x : A) → test (f x) ≡ is_eq (rank x))
+  run-is : {B : Type 0} (f : A → B) (test : B → Bool) → ((x : A) → test (f x) ≡ is_eq (rank x))
       → (xs : List A) (start upto : ℕ) → start ≤ length xs → upto ≤ length xs
       → IsPartitionPoint (λ x. is_lt (rank x) ≡ true) (λ x. is_lt (rank x) ≡ false) xs start
       → IsPartitionPoint (λ x. is_le (rank x) ≡ true) (λ x. is_le (rank x) ≡ false) xs upto
@@ -103,3 +91,14 @@ module _ {A : Type 0} (rank : A → Ordering) where
   run-is f test is [] zero (suc upto) low high starts ends = absurd (omega arith)
   run-is f test is [] (suc start) upto low high starts ends = absurd (omega arith)
   run-is f test is (x ∷ xs) start upto low high starts ends = with_item f test is (x ∷ xs) start upto low high starts ends x
+
+  -- the same by searches that find the ends of items that stand side by side
+  pub run-found : {B : Type 0} (f : A → B) (test : B → Bool) → ((x : A) → test (f x) ≡ is_eq (rank x))
+      → (xs : List A) (ys : List B) → map f xs ≡ ys → IsNonDecreasingBy (λ x. ordering_index (rank x)) xs
+      → (start upto : ℕ) → start ≤ length xs → upto ≤ length xs
+      → (IsPartitionedBy (λ x. is_lt (rank x)) xs → IsPartitionPoint (λ x. is_lt (rank x) ≡ true) (λ x. is_lt (rank x) ≡ false) xs start)
+      → (IsPartitionedBy (λ x. is_le (rank x)) xs → IsPartitionPoint (λ x. is_le (rank x) ≡ true) (λ x. is_le (rank x) ≡ false) xs upto)
+      → IsRun test ys start upto
+  run-found f test is xs ys same rises start upto low high starts ends =
+      subst (λ ys. IsRun test ys start upto) same
+      (run-is f test is xs start upto low high (starts (lt-partitioned xs rises)) (ends (le-partitioned xs rises)))

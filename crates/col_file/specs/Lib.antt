@@ -5,4 +5,5 @@ pub mod Files
 pub mod Ends
 pub mod Readers
 pub mod Columns
+pub mod Usages
 pub mod Checks

@@ -3,10 +3,11 @@ ghost use Rattle.std.specs.Prelude.{◌≡◌, false, Err, IfOk};
 ghost use Rattle.col_dynamic.specs.Dynamic.{type_of, content_of};
 ghost use Rattle.col_dynamic_open.specs.Contents.{usage_of};
 ghost use Rattle.col_dynamic_open.specs.Lenient.{IsInPlaceOf};
-ghost use Rattle.col_file.specs.Columns.{content_at, HasCodesSpelled, HasContent, IsTyped, IsUsage};
+ghost use Rattle.col_file.specs.Columns.{content_at, HasCodesSpelled, HasContent, IsTyped};
 ghost use Rattle.col_file.specs.Files.{AnswersForHandle};
 ghost use Rattle.col_file.specs.Handles.{is_entry};
 ghost use Rattle.col_file.specs.Readers.{Reads};
+ghost use Rattle.col_file.specs.Usages.{TellsUsage};
 
 use crate::dynamic_column_handle::DynamicColumnHandle;
 use crate::reader::ColumnarReader;
@@ -73,11 +74,7 @@ impl DynamicColumnHandle {
         alloc: Global,
         reader: &mut ColumnarReader<F>,
     ) -> Result<ColumnSpaceUsage, ColumnarError>
-        ensures no_entry { is_entry reader.old.keys self.now ≡ false
-            → result ≡ Err ColumnarError.InvalidData }
-        ensures answer { AnswersForHandle (IsUsage self.now) reader.old.file reader.new.file
-            result (content_at reader.old.keys self.now) }
-        ensures kept { Reads 1 reader.old reader.new }
+        ensures { TellsUsage self.now reader.old reader.new result }
     {
         let column = self.open(alloc, reader)?;
         Ok(usage_of_opened(column, self.num_bytes().get_bytes()))
@@ -89,11 +86,7 @@ impl DynamicColumnHandle {
         alloc: Global,
         reader: &mut ColumnarReader<F>,
     ) -> Result<ColumnSpaceUsage, ColumnarError>
-        ensures no_entry { is_entry reader.old.keys self.now ≡ false
-            → result ≡ Err ColumnarError.InvalidData }
-        ensures answer { AnswersForHandle (IsUsage self.now) reader.old.file reader.new.file
-            result (content_at reader.old.keys self.now) }
-        ensures kept { Reads 1 reader.old reader.new }
+        ensures { TellsUsage self.now reader.old reader.new result }
     {
         self.space_usage(alloc, reader)
     }

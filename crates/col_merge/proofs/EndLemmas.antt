@@ -1,8 +1,6 @@
 -- The file of the columns that were put stands for the merged table.
-use Rattle.std.proofs.Common.{◌≡◌, ◌⊎◌, inl, inr, ℕ, ◌<◌, ◌^◌, true, ◌&&◌, List, [], ◌∷◌, map, filter_map, length, Option, Some, None, IfSome, Result, Ok, Err, refl, sym, ap, ap₂, ◌∙◌, subst, T}
+use Rattle.std.proofs.Common.{◌≡◌, ◌⊎◌, inl, inr, ℕ, ◌<◌, ◌^◌, true, List, [], ◌∷◌, map, filter_map, length, Option, Some, None, IfSome, Result, Ok, Err, refl, sym, ap, ◌∙◌, subst, T}
 use Rattle.std.specs.List.{AllByRecursion}
-use Rattle.std.specs.FinMap.Entries.{is_sorted, below_all}
-use Rattle.std.specs.Ordering.{is_lt}
 use Rattle.col_common.specs.Outside.{SeenSink, Appends}
 use Rattle.col_common.specs.Serializing.{Serializes}
 use Rattle.col_common.specs.declared.error.ColumnarError.{ColumnarError}
@@ -17,8 +15,9 @@ use Rattle.col_model.specs.Sound.{key_of_column}
 use Rattle.col_model.specs.Spelling.{file_bytes}
 use Rattle.col_model.specs.Table.{Column, Table}
 use Rattle.col_model.proofs.DistinctLaws.{rises}
-use Rattle.col_model.proofs.OrderedColumns.{entries, EachIs, each-is, sorted-each}
+use Rattle.col_model.proofs.OrderedColumns.{EachIs, each-is, sorted-each}
 use Rattle.col_model.proofs.SlotLaws.{column_slot}
+use Rattle.col_model.proofs.SoundTables.{keys-of_slots}
 use Rattle.col_keys.specs.Put.{AreKeys, HasColumns, part_put}
 use Rattle.col_order.specs.Orders.{picks_of}
 use Rattle.col_keys.proofs.StandLemmas.{same-keys, stands-for}
@@ -28,7 +27,6 @@ use Rattle.col_merge.specs.Parts.{told_parts}
 use Rattle.col_merge_plan.specs.Slots.{keys_read, counts_read, slots_by_keys}
 use Rattle.col_merge.specs.Turns.{RefusesMerge, ArePutAs}
 use Rattle.col_merge.proofs.JoinedLemmas.{joined-slot}
-use Rattle.col_merge.proofs.KeyLemmas.{bare, keys-of_slots}
 use Rattle.col_merge.proofs.MergedLemmas.{merged-slots, merged-table}
 use Rattle.col_merge.proofs.PartLemmas.{ArePartsOf, AreNames, parts-told, counts-told, slots-told, slots-named}
 use Rattle.col_merge.proofs.ReadingLemmas.{all_read-none}
@@ -36,15 +34,6 @@ use Rattle.col_merge.proofs.SlotReadLemmas.{slots-rise}
 use Rattle.col_merge.proofs.TurnLemmas.{goes-itself, merge-refused}
 
 -- ---- the keys
-
-below-bare : (s : Slot) (cs : List Column)
-    → below_all slot_cmp s (entries (map bare (map key_of_column cs))) ≡ below_all slot_cmp s (entries cs)
-below-bare s [] = refl
-below-bare s (c ∷ cs) = ap (λ b. is_lt (slot_cmp s (column_slot c)) && b) (below-bare s cs)
-
-sorted-bare : (cs : List Column) → is_sorted slot_cmp (entries (map bare (map key_of_column cs))) ≡ is_sorted slot_cmp (entries cs)
-sorted-bare [] = refl
-sorted-bare (c ∷ cs) = ap₂ (λ a b. a && b) (below-bare (column_slot c) cs) (sorted-bare cs)
 
 map-itself : (ss : List Slot) → map (λ s. s) ss ≡ ss
 map-itself [] = refl
@@ -70,7 +59,7 @@ module _ (f : Slot → Result (Option Column) Refusal) (own : (s : Slot) (c : Co
       let order = sorted-each f (λ s. s) own ss os (subst (λ ss. T (rises slot_cmp ss)) (sym (map-itself ss)) sorted) each in
       subst AreKeys (sym (same-keys n ps cs same)) record {
         names = keyed;
-        ascend = keys-of_slots (map key_of_column cs) keyed (subst T (sym (sorted-bare cs)) order);
+        ascend = keys-of_slots cs keyed order;
       }
 
 -- ---- the whole

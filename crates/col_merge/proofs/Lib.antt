@@ -1,4 +1,3 @@
-mod KeyLemmas
 mod StackLemmas
 mod JoinedLemmas
 mod EachLemmas

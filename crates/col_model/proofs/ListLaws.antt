@@ -40,6 +40,23 @@ all-filter P test (x ∷ xs) all = by (test x) (all-filter P test xs all.1)
     by true later = (all.0, later)
     by false later = later
 
+-- what one function makes of what another made of the items
+pub map-map : {A B C : Type 0} (g : B → C) (f : A → B) (xs : List A) → map g (map f xs) ≡ map (λ x. g (f x)) xs
+map-map g f [] = refl
+map-map g f (x ∷ xs) = ap (λ ys. g (f x) ∷ ys) (map-map g f xs)
+
+-- those that pass a test, of what a function made of the items
+pub filter-map : {A B : Type 0} (f : A → B) (test : B → Bool) (xs : List A)
+    → filter test (map f xs) ≡ map f (filter (λ x. test (f x)) xs)
+filter-map f test [] = refl
+filter-map {A = A} {B = B} f test (x ∷ xs) = at (test (f x)) (filter-map f test xs)
+  where
+    at : (t : Bool) → filter test (map f xs) ≡ map f (filter (λ x. test (f x)) xs)
+        → cond t (f x ∷ filter test (map f xs)) (filter test (map f xs))
+        ≡ map f (cond t (x ∷ filter (λ x. test (f x)) xs) (filter (λ x. test (f x)) xs))
+    at true e = ap (λ ys. f x ∷ ys) e
+    at false e = e
+
 -- there are at most as many items that pass a test as items
 pub filter-few : {A : Type 0} (test : A → Bool) (xs : List A) → length (filter test xs) ≤ length xs
 filter-few test [] = omega arith

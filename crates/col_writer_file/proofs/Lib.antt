@@ -5,7 +5,6 @@ pub mod PlainLemmas
 pub mod CheckLemmas
 pub mod StandLemmas
 pub mod EachLemmas
-pub mod FileLemmas
 pub mod WrittenLemmas
 pub mod PutColumnLemmas
 pub mod TableLemmas

@@ -22,13 +22,14 @@ use Rattle.col_model.specs.Written.{Recorded, has_zero}
 use Rattle.col_model.proofs.DistinctLaws.{rises}
 use Rattle.col_model.proofs.ListLaws.{all_push}
 use Rattle.col_model.proofs.SlotLaws.{column_slot}
+use Rattle.col_model.proofs.SoundTables.{keys-of_slots}
+use Rattle.col_model.proofs.WrittenSound.{sorted-slots}
 use Rattle.col_model.proofs.WrittenTables.{rising-keys}
 use Rattle.col_keys.specs.Put.{PutColumns, no_columns, Puts, HavePut, part_put, AreKeys, HasColumns}
 use Rattle.col_keys.proofs.PutLemmas.{puts-as, have-none, have-more, have-refused}
 use Rattle.col_keys.proofs.StandLemmas.{stands-for, same-keys}
 use Rattle.col_writer_rows.specs.Counted.{SerializesColumn}
 use Rattle.col_writer_file.specs.Tables.{made, PutsColumn, ArePut, PutsColumns, WritesFile}
-use Rattle.col_writer_file.proofs.FileLemmas.{keys-of-slots}
 
 -- ---- one column
 
@@ -162,10 +163,15 @@ file-written start mid new result file n rows ds es ts count put named categorie
   written = whole start put.ps put.have;
 }
   where
+    names : AllByRecursion (λ key. is_name key.name ≡ true) (map key_of_column (made ds es ts))
+    names = names-all (made ds es ts) put.text (made-named ds es ts named)
+
+    rising : T (rises slot_cmp (map column_slot (made ds es ts)))
+    rising = subst (λ slots. T (rises slot_cmp slots)) (sym (made-slots ds es ts categories)) (rising-keys es sorted)
+
     keys : AreKeys (map (λ p. p.0) put.ps)
     keys = subst AreKeys (sym (same-keys n put.ps (made ds es ts) put.are))
-        (keys-of-slots (made ds es ts) (names-all (made ds es ts) put.text (made-named ds es ts named)) (subst
-        (λ slots. T (rises slot_cmp slots)) (sym (made-slots ds es ts categories)) (rising-keys es sorted)))
+        (record { names = names; ascend = keys-of_slots (made ds es ts) names (sorted-slots (made ds es ts) rising) })
 
     by : (r : Result (Unit {0}) ColumnarError)
         → OnOk r ((from : SeenSink) (ps : List (Key × List ℕ)) → HavePut from mid file ps

@@ -50,20 +50,15 @@ loop-slot-preserved g c =
 pub returns-in_err-merge_slot-clause-answer : goal.returns-in_err-merge_slot-clause-answer
 returns-in_err-merge_slot-clause-answer g c required types =
     let p = err_from_is_err_and c.from_residual.result c.from_residual.ensures.1 in
-    let rs = c.args.columnar_readers.now in
-    let mids = c.loop-slot.columnar_readers in
-    let start = g.K.Sink.seen c.args.output.now in
-    let a = g.K.Sink.seen c.loop-slot.output in
-    let b = g.K.Sink.seen c.merge_slot.new.output in
-    let n = length (picks_of (order_of c.args.merge_row_order.now)) in
-    let was = c.loop-slot.invariant in
+    let order = order_of c.args.merge_row_order.now in
     let slot = c.slot-item.result in
     let wanted : option_map kind_of c.copied-wanted.result ≡ option_map kind_of (get slot_cmp c.args.types.now slot)
     = ap (option_map kind_of) (cc (c.get.ensures.value, c.copied-wanted.ensures)) in
-    rw (p.1, p.2) (turn-refused (slots_reads (take c.loop-slot.slot-index c.args.slots.now)) rs mids start a b
-    c.loop-slot.columns c.merge_slot.new.columns n (joined_by (order_of c.args.merge_row_order.now) required)
-    c.args.slots.now c.loop-slot.slot-index slot (omega (arith, c.loop-slot-test.true)) c.slot-item.is
-    (was.2 required types) was.0 c.merge_slot.new.columnar_readers c.in_err-merge_slot.field-0.0
+    rw (p.1, p.2) (turn-refused (slots_reads (take c.loop-slot.slot-index c.args.slots.now)) c.args.columnar_readers.now
+    c.loop-slot.columnar_readers (g.K.Sink.seen c.args.output.now) (g.K.Sink.seen c.loop-slot.output)
+    (g.K.Sink.seen c.merge_slot.new.output) c.loop-slot.columns c.merge_slot.new.columns (length (picks_of order))
+    (joined_by order required) c.args.slots.now c.loop-slot.slot-index slot (omega (arith, c.loop-slot-test.true)) c.slot-item.is
+    (c.loop-slot.invariant.2 required types) c.loop-slot.invariant.0 c.merge_slot.new.columnar_readers c.in_err-merge_slot.field-0.0
     (c.in_err-merge_slot.ensures.answer required (wanted ∙ types slot)))
 
 pub returns-in_err-merge_slot-clause-kept : goal.returns-in_err-merge_slot-clause-kept

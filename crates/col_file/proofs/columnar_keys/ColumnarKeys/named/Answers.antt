@@ -1,13 +1,12 @@
-use Rattle.std.proofs.Common.{◌≡◌, true, rules, List, map, bytes_eq, string_bytes, ap, ◌∙◌, subst}
+use Rattle.std.proofs.Common.{◌≡◌, true, rules, map, bytes_eq, string_bytes, ap, ◌∙◌}
 use Rattle.std.specs.Ordering.{nat_cmp, is_lt, is_le}
 use Rattle.std.specs.Cmp.Lexicographic.{slice_cmp}
 use Rattle.std.proofs.lemmas.Fn.{always_returns_same}
 use Rattle.col_model.specs.Keys.{Entry, are_keys}
 use Rattle.col_file.specs.Entries.{entry_of, entries_seen}
-use Rattle.col_file.specs.Runs.{IsRun}
 use Rattle.col_file.specs.declared.column_entry.ColumnEntry.{ColumnEntry}
 use Rattle.col_file.proofs.NameLemmas.{names-rise, name-is}
-use Rattle.col_file.proofs.RunLemmas.{lt-partitioned, le-partitioned, run-is}
+use Rattle.col_file.proofs.RunLemmas.{run-found}
 use Rattle.col_file.proofs.columnar_keys.ColumnarKeys.named.Goals as goal
 
 pub returns : goal.returns
@@ -20,12 +19,10 @@ returns c =
     let keys : are_keys (map (λ e. e.key) (entries_seen es)) ≡ true =
     ap (λ es. are_keys (map (λ e. e.key) (entries_seen es))) same ∙ c.self.invariant in
     let rises = names-rise es keys q in
+    let found : map entry_of es ≡ c.args.self.now.entries = ap (map entry_of) same ∙ ap (λ k. k.entries) c.self.view_is in
     let low = c.partition_point-start in
     let high = c.partition_point-end in
-    let starts = low.ensures.partitioned (λ e. is_lt (rank e))
-    (always_returns_same _ _ _ (λ a r f called. search rules)) (lt-partitioned rank es rises) in
-    let ends = high.ensures.partitioned (λ e. is_le (rank e))
-    (always_returns_same _ _ _ (λ a r f called. search rules)) (le-partitioned rank es rises) in
-    let found : map entry_of es ≡ c.args.self.now.entries = ap (map entry_of) same ∙ ap (λ k. k.entries) c.self.view_is in
-    subst (λ (xs : List Entry). IsRun test xs low.result high.result) found (run-is rank entry_of test (name-is q)
-    es low.result high.result low.ensures.bound high.ensures.bound starts ends)
+    run-found rank entry_of test (name-is q) es c.args.self.now.entries found rises
+    low.result high.result low.ensures.bound high.ensures.bound
+    (low.ensures.partitioned (λ e. is_lt (rank e)) (always_returns_same _ _ _ (λ a r f called. search rules)))
+    (high.ensures.partitioned (λ e. is_le (rank e)) (always_returns_same _ _ _ (λ a r f called. search rules)))
