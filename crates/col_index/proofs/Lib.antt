@@ -39,3 +39,4 @@ mod RankedLemmas
 mod WindowLemmas
 mod WrittenLemmas
 mod WalkLemmas
+mod OldWalkLemmas

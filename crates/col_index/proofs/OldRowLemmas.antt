@@ -126,13 +126,13 @@ module _ (xs : List ℕ) (old : AreOldOffsets xs) where
         sym (old-holds row) ∙ ap not some
 
     -- it has its rank
-    pub run-row : holds rows row ≡ true → slice_get rows (rank rows row) ≡ Some row
+    run-row : holds rows row ≡ true → slice_get rows (rank rows row) ≡ Some row
     run-row h =
         let at = holds-rank rows row (valued_rise counts) h in
         slice_get-get_or rows (rank rows row) 0 at.0 ∙ ap Some at.1
 
     -- its values end at the next offset
-    pub run-end : holds rows row ≡ true → slice_get (starts_of counts) (rank rows row + 1) ≡ Some (get_or xs (row + 1) 0)
+    run-end : holds rows row ≡ true → slice_get (starts_of counts) (rank rows row + 1) ≡ Some (get_or xs (row + 1) 0)
     run-end h =
         let at = holds-rank rows row (valued_rise counts) h in
         let next = rank-behind_held rows row (valued_rise counts) h in
@@ -143,6 +143,21 @@ module _ (xs : List ℕ) (old : AreOldOffsets xs) where
         ∙ ap (λ cs. start_of cs (row + 1)) (counts-are_offset_counts counts)
         ∙ old-start (row + 1) (omega arith) in
         slice_get-get_or (starts_of counts) (rank rows row + 1) 0 (omega (arith, long, at.0)) ∙ ap Some here
+
+  -- the first row whose offsets differ, in a walk from a row whose rank is the same
+  module _ (from row start end : ℕ) (within : row < length counts) (ranked : rank rows row ≡ rank rows from)
+      (level : row ≤ length counts → get_or xs row 0 ≡ start) (next : end ≡ get_or xs (row + 1) 0) (other : end ≡ start → ⊥) where
+    found : holds rows row ≡ true
+    found = run-held row within (λ e. other (next ∙ e ∙ level (omega arith)))
+
+    -- it is the next one with a value
+    pub found-row : Some row ≡ slice_get rows (rank rows from)
+    found-row = sym (ap (slice_get rows) (sym ranked) ∙ run-row row within found)
+
+    -- and its values end there
+    pub found-end : Some end ≡ slice_get (starts_of counts) (rank rows from + 1)
+    found-end =
+        ap Some next ∙ sym (ap (λ k. slice_get (starts_of counts) (k + 1)) (sym ranked) ∙ run-end row within found)
 
   -- from the end on there is no row
   pub run-row_past : (row : ℕ) → length counts ≤ row → slice_get rows (rank rows row) ≡ None

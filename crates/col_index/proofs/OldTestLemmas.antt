@@ -5,15 +5,12 @@ use Rattle.std.proofs.lemmas.Bool.{lt-ltb, le-ltb, le-leb, lt-leb, and_parts, fa
 use Rattle.std.proofs.lemmas.Option.{get_or_from_slice_get, slice_get_within}
 use Rattle.col_common.specs.Ascending.{is_never_falling}
 use Rattle.col_model.specs.Index.{are_offsets}
-use Rattle.col_index.proofs.StartLemmas.{offsets-zeroth}
+use Rattle.col_index.proofs.StartLemmas.{offsets-zeroth, rearranged}
 
 -- the offsets behind one that passes never fall, and are numbers of 32 bits
 abbrev pub rest_stays : ℕ → List ℕ → Bool
 rest_stays last [] = true
 rest_stays last (s ∷ ss) = nat_le last s && nat_lt s (2 ^ 32) && rest_stays s ss
-
-rearranged : (a b c d r : Bool) → (c && d) ≡ r → (a && c && (b && d)) ≡ (b && a && r)
-rearranged a b c d r e = grind arith
 
 -- the test behind an offset that passes
 stays-behind : (s : ℕ) (ss : List ℕ) → (list_all (λ s. nat_lt s (2 ^ 32)) ss && is_never_falling (s ∷ ss)) ≡ rest_stays s ss

@@ -27,6 +27,19 @@ pub pushes-stopped : {docs_old docs_new rows_old rows_new docs rows : List ℕ} 
 pushes-stopped Q (Ok v) h p q = absurd h
 pushes-stopped Q (Err e) h p q = record { docs = tt; rows = tt; err = (p, q) }
 
+-- a list that begins with another begins with each front of this
+begins_later : (new found front more : List ℕ) → found ≡ front ++ more → BeginsWith new found → BeginsWith new front
+begins_later new found front more e b = (more ++ b.0, b.1 ∙ ap (λ xs. xs ++ b.0) e ∙ append_assoc front more b.0)
+
+-- want of memory in a later call
+pub pushes-stopped_later : {docs_old docs_found docs_new rows_old rows_found rows_new docs rows : List ℕ}
+    {r : Result (Unit {0}) AllocError} (docs_more rows_more : List ℕ) (Q : AllocError → Type 0) → IsErrAnd r Q
+    → docs_found ≡ docs_old ++ docs_more → rows_found ≡ rows_old ++ rows_more
+    → BeginsWith docs_new docs_found × BeginsWith rows_new rows_found
+    → PushesBoth docs_old docs_new rows_old rows_new r docs rows
+pushes-stopped_later {r = r} docs_more rows_more Q h d e b =
+    pushes-stopped Q r h (begins_later _ _ _ docs_more d b.0) (begins_later _ _ _ rows_more e b.1)
+
 -- ---- a run, one position after another
 
 module _ (front found new : List ℕ) (doc start position : ℕ) (h : start ≤ position) where

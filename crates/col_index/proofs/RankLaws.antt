@@ -1,5 +1,5 @@
 -- Ranks in rising lists.
-use Rattle.std.proofs.Common.{◌≡◌, ℕ, zero, suc, ◌+◌, ◌<◌, ◌≤◌, nat_lt, nat_le, true, cond, List, [], ◌∷◌, length, get_or, slice_get, Some, refl, sym, ap, ◌∙◌, inl, inr, arith}
+use Rattle.std.proofs.Common.{◌≡◌, ℕ, zero, suc, ◌+◌, ◌<◌, ◌≤◌, nat_lt, nat_le, true, cond, List, [], ◌∷◌, length, get_or, slice_get, Some, None, refl, sym, ap, ◌∙◌, inl, inr, arith}
 use Rattle.std.specs.List.{AllByRecursion, list_all}
 use Rattle.std.proofs.lemmas.Bool.{and_parts, lt-ltb, le-ltb, ltb-true, le-leb, lt-leb, cases_lt, cond-true, cond-false}
 use Rattle.std.proofs.lemmas.List.Sums.{sum_by-cons, count_by-le-length}
@@ -140,3 +140,11 @@ next_row-rank (x ∷ xs) t e = elim (cases_lt x t) [
   | inr a ↦ cond-true (nat_le t x) (Some x) (next_row xs t) (le-leb t x a)
       ∙ ap (slice_get (x ∷ xs)) (sym (rank-none (x ∷ xs) t (a, rising_from t x xs e (omega arith))))
 ]
+
+-- ---- any list
+
+-- nothing stands past the end
+pub slice_get-none : (xs : List ℕ) (k : ℕ) → slice_get xs k ≡ None → length xs ≤ k
+slice_get-none [] k e = omega arith
+slice_get-none (x ∷ xs) zero e = absurd (cc)
+slice_get-none (x ∷ xs) (suc k) e = omega (arith, slice_get-none xs k e)

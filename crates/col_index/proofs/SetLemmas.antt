@@ -1,16 +1,15 @@
 -- Rows that have a value, by their ranks and one after another.
-use Rattle.std.proofs.Common.{◌≡◌, ℕ, suc, ◌+◌, ◌-◌, ◌^◌, ◌<◌, ◌≤◌, ◌&&◌, Bool, true, false, nat_eq, nat_lt, nat_le, List, [], ◌∷◌, ◌++◌, length, drop, get_or, slice_get, slice_index_or, Some, None, refl, sym, ap, ◌∙◌, inl, inr, arith}
+use Rattle.std.proofs.Common.{◌≡◌, ℕ, suc, ◌+◌, ◌-◌, ◌^◌, ◌<◌, ◌≤◌, ◌&&◌, Bool, true, false, nat_eq, nat_lt, nat_le, List, [], ◌∷◌, length, drop, get_or, slice_get, slice_index_or, Some, None, refl, sym, ap, ◌∙◌, inl, inr, arith}
 use Rattle.std.specs.List.{list_all}
 use Rattle.std.proofs.lemmas.Bool.{and_parts, le-leb, ltb-true, eq-eqb, ne_eqb, cases_lt, cases_order}
 use Rattle.std.proofs.lemmas.Bool.Decides.{nat_tests}
-use Rattle.std.proofs.lemmas.List.{append_assoc, get_or_past, drop_more}
+use Rattle.std.proofs.lemmas.List.{get_or_past, drop_more}
 use Rattle.std.proofs.lemmas.Option.{get_or_from_slice_get, slice_get_within, slice_get-get_or}
 use Rattle.col_common.specs.Reading.{only_if}
 use Rattle.col_common.specs.Ascending.{is_rising}
 use Rattle.col_model.specs.Index.{RowSet}
 use Rattle.col_model.specs.Positions.{rank}
 use Rattle.col_model.proofs.ItemLaws.{only_if-some, only_if-none}
-use Rattle.col_index.specs.Appending.{BeginsWith}
 use Rattle.col_index.specs.Sets.{AreRows, holds, is_row_list}
 use Rattle.col_index.proofs.RankLaws.{tail_rises}
 use Rattle.col_index.proofs.CountLaws.{rows_below}
@@ -126,9 +125,3 @@ module _ (n next : ℕ) (rows : List ℕ) (at : ℕ) (within : at < length rows)
             behind ∙ ap (λ b. b && rest_rises n (here + 1) (drop (at + 1) rows)) told.0
             ∙ ap (λ r. rest_rises n (r + 1) (drop (at + 1) rows)) (sym told.1);
       }
-
--- ---- lists that were added to
-
--- a list that begins with another begins with each front of this
-pub begins_later : (xs ys front more : List ℕ) → xs ≡ front ++ more → BeginsWith ys xs → BeginsWith ys front
-begins_later xs ys front more e b = (more ++ b.0, b.1 ∙ ap (λ l. l ++ b.0) e ∙ append_assoc front more b.0)

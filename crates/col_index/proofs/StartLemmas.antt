@@ -60,7 +60,8 @@ abbrev pub rest_rises : ℕ → List ℕ → Bool
 rest_rises last [] = true
 rest_rises last (s ∷ ss) = nat_lt last s && nat_lt s (2 ^ 32) && rest_rises s ss
 
-rearranged : (a b c d r : Bool) → (c && d) ≡ r → (a && c && (b && d)) ≡ (b && a && r)
+-- what is asked of one offset and of the rest, taken together and one after another
+pub rearranged : (a b c d r : Bool) → (c && d) ≡ r → (a && c && (b && d)) ≡ (b && a && r)
 rearranged a b c d r e = grind arith
 
 -- the test behind an offset that passes

@@ -2,13 +2,13 @@
 use Rattle.std.proofs.Common.{◌≡◌, ℕ, ◌+◌, ◌<◌, ◌≤◌, ◌^◌, true, length, get_or, slice_get, Option, Some, None, IfSome, sym, ap, ◌∙◌, arith}
 use Rattle.std.proofs.lemmas.Option.{get_or_from_slice_get, slice_get_within, slice_get-get_or, slice_get_past}
 use Rattle.col_model.specs.Index.{RowSet, RowOffsets, offset_counts}
-use Rattle.col_model.specs.Positions.{rank, rows_with_value, starts_of}
+use Rattle.col_model.specs.Positions.{rank, starts_of}
 use Rattle.col_index.specs.Offsets.{AreOffsets}
 use Rattle.col_index.specs.Sets.{AreRows, holds}
 use Rattle.col_index.specs.Walked.{IsRanked32}
 use Rattle.col_index.proofs.RankLaws.{rows_rise, rank-at}
 use Rattle.col_index.proofs.HeldLaws.{holds-at}
-use Rattle.col_index.proofs.CountLaws.{offset_starts, offset_counts-rows, offset_counts-starts}
+use Rattle.col_index.proofs.CountLaws.{offset_starts, offset_counts-starts}
 use Rattle.col_index.proofs.RangeLemmas.{rank-behind_held}
 use Rattle.col_index.proofs.SetLemmas.{row_below, few_rows}
 
@@ -34,25 +34,16 @@ module _ (s : RowSet) (a : AreRows s) (small : s.num_rows < 2 ^ 32) (place : ℕ
   row-few (Some row) e =
       omega (arith, small, slice_get_within s.rows place row (sym e), few_rows s.num_rows s.rows a)
 
--- ---- a row with its start offsets
+-- ---- the ends of rows, by their start offsets
 
 module _ (o : RowOffsets) (a : AreOffsets o) (place : ℕ) where
-  -- past the last rank there is no row
-  pub run-past_row : length o.set.rows ≤ place → slice_get (rows_with_value (offset_counts o)) place ≡ None
-  run-past_row h =
-      ap (λ rows. slice_get rows place) (offset_counts-rows o a) ∙ slice_get_past o.set.rows place h
-
-  -- and no end of one
+  -- past the last rank no values end
   pub run-past_end : length o.set.rows ≤ place → slice_get (starts_of (offset_counts o)) (place + 1) ≡ None
   run-past_end h =
       ap (λ ss. slice_get ss (place + 1)) (offset_counts-starts o a)
       ∙ slice_get_past o.starts (place + 1) (omega (arith, h, (offset_starts o a).long))
 
-  -- the row of a rank
-  pub run-at_row : (row : ℕ) → slice_get o.set.rows place ≡ Some row → slice_get (rows_with_value (offset_counts o)) place ≡ Some row
-  run-at_row row e = ap (λ rows. slice_get rows place) (offset_counts-rows o a) ∙ e
-
-  -- and where its values end
+  -- where the values of the row with a rank end
   pub run-at_end : place < length o.set.rows → slice_get (starts_of (offset_counts o)) (place + 1) ≡ Some (get_or o.starts (place + 1) 0)
   run-at_end h =
       ap (λ ss. slice_get ss (place + 1)) (offset_counts-starts o a)

@@ -1,9 +1,10 @@
 -- Laws about indexes: public calls ensure them, and have nothing else to do.
-use Rattle.std.specs.Prelude.{◌≡◌, ◌↔◌, ℕ, Bool, true, Option, Some}
+use Rattle.std.specs.Prelude.{◌≡◌, ◌↔◌, ℕ, List, Bool, true, Option, Some}
 use Rattle.col_model.specs.Index.{RowSet, RowOffsets, set_counts, offset_counts}
+use Rattle.col_common.specs.Ascending.{differences}
 use Rattle.col_model.specs.Positions.{rank, start_of, rows_with_value, starts_of}
 use Rattle.col_index.specs.Sets.{AreRows}
-use Rattle.col_index.specs.Offsets.{AreOffsets}
+use Rattle.col_index.specs.Offsets.{AreOffsets, AreOldOffsets, without_repeats}
 
 -- A number that a rank selects has this rank; a number is in exactly where its rank selects it; the
 -- ranks that may be selected are those that select a number.
@@ -20,3 +21,4 @@ pub record IndexesHaveCounts : Type 0 where
       → (row : ℕ) → start_of (set_counts s) row ≡ rank s.rows row
   pub offset_rows : (o : RowOffsets) → AreOffsets o → rows_with_value (offset_counts o) ≡ o.set.rows
   pub offset_starts : (o : RowOffsets) → AreOffsets o → starts_of (offset_counts o) ≡ o.starts
+  pub old_starts : (o : List ℕ) → AreOldOffsets o → starts_of (differences o) ≡ without_repeats o

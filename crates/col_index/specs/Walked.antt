@@ -1,5 +1,5 @@
 -- Walks over the rows with a value.
-use Rattle.std.specs.Prelude.{◌≡◌, ◌<◌, ◌^◌, ℕ, List}
+use Rattle.std.specs.Prelude.{◌≡◌, ◌⊎◌, ◌<◌, ◌^◌, ℕ, List}
 use Rattle.col_common.specs.Ascending.{differences}
 use Rattle.col_common.specs.declared.iterable.Walk.{Walk}
 use Rattle.col_model.specs.Positions.{rank, rows_with_value}
@@ -14,6 +14,12 @@ rows_walked (OfOffsets i) = rows_with_value (differences i.now)
 -- so many of the rows stand before a number of 32 bits
 pub record IsRanked32 (rows : List ℕ) (row place : ℕ) : Type 0 where
   pub ranked : rank rows row ≡ place
+  pub small : row < 2 ^ 32
+
+-- a number of 32 bits from which on the row of a rank can be looked for: as many of the rows stand
+-- before it, or it is 0, which tells nothing
+pub record IsHint32 (rows : List ℕ) (row place : ℕ) : Type 0 where
+  pub told : (row ≡ 0) ⊎ (rank rows row ≡ place)
   pub small : row < 2 ^ 32
 
 -- `place` of a walk is the rank of `inner`, from which on the next row is looked for

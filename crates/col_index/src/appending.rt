@@ -1,7 +1,7 @@
 //! Documents that are appended to one list, and positions to another.
 ghost use Rattle.std.specs.Prelude.{◌-◌, [], ◌∷◌};
-ghost use Rattle.col_index.specs.Appending.{PushesBoth};
-ghost use Rattle.col_index.specs.Offsets.{found_rows, positions_of, run};
+ghost use Rattle.col_index.specs.Appending.{PushesBoth, PushesValues};
+ghost use Rattle.col_index.specs.Offsets.{run};
 
 use col_common::{DocId, RowId};
 use std::alloc::AllocError;
@@ -31,9 +31,8 @@ pub(crate) fn push_run(
     start: RowId,
     end: RowId,
 ) -> Result<(), AllocError>
-    ensures { PushesBoth docs_out.old.items docs_out.new.items
-        rows_out.old.items rows_out.new.items result
-        (found_rows (run doc start (end - start))) (positions_of (run doc start (end - start))) }
+    ensures { PushesValues (run doc start (end - start))
+        docs_out.old.items docs_out.new.items rows_out.old.items rows_out.new.items result }
 {
     for position in start..end {
         docs_out.push(doc)?;

@@ -6,8 +6,8 @@ ghost use Rattle.col_common.specs.declared.error.ColumnarError.TheVariants as re
 ghost use Rattle.col_model.specs.Index.{set_counts, optional_shape, multivalued_shape, full_shape};
 ghost use Rattle.col_model.specs.Positions.{count_in, start_in, positions_in, rows_in};
 ghost use Rattle.col_index.specs.Versions.{cardinality_of};
-ghost use Rattle.col_index.specs.Appending.{AppendsBoth, PushesBoth};
-ghost use Rattle.col_index.specs.Offsets.{positions_if_any, cardinality_in, positions_of_rows, found_rows, positions_of, AreInside};
+ghost use Rattle.col_index.specs.Appending.{AppendsValues, PushesValues};
+ghost use Rattle.col_index.specs.Offsets.{positions_if_any, cardinality_in, positions_of_rows, AreInside};
 ghost use Rattle.col_index.specs.MultiValues.{value_counts_of};
 
 use crate::cardinality::Cardinality;
@@ -129,10 +129,8 @@ impl ColumnIndex {
         doc_ids_out: &mut Vec<DocId>,
         row_ids: &mut Vec<RowId>,
     ) -> Result<(), ColumnarError>
-        ensures ok { AppendsBoth doc_ids_out.old.items doc_ids_out.new.items
-            row_ids.old.items row_ids.new.items result
-            (found_rows (positions_of_rows (shape_of self.now) doc_ids.now))
-            (positions_of (positions_of_rows (shape_of self.now) doc_ids.now)) }
+        ensures ok { AppendsValues (positions_of_rows (shape_of self.now) doc_ids.now)
+            doc_ids_out.old.items doc_ids_out.new.items row_ids.old.items row_ids.new.items result }
         ensures err { IfErr result (λ e. e ≡ refusals.OutOfMemory) }
     {
         let num_docs = doc_ids_out.len();
@@ -152,10 +150,8 @@ impl ColumnIndex {
         doc_ids_out: &mut Vec<DocId>,
         row_ids: &mut Vec<RowId>,
     ) -> Result<(), AllocError>
-        ensures { PushesBoth doc_ids_out.old.items doc_ids_out.new.items
-            row_ids.old.items row_ids.new.items result
-            (found_rows (positions_of_rows (shape_of self.now) doc_ids.now))
-            (positions_of (positions_of_rows (shape_of self.now) doc_ids.now)) }
+        ensures { PushesValues (positions_of_rows (shape_of self.now) doc_ids.now)
+            doc_ids_out.old.items doc_ids_out.new.items row_ids.old.items row_ids.new.items result }
     {
         match self {
             ColumnIndex::Empty { .. } => Ok(()),

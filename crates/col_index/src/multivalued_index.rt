@@ -1,14 +1,15 @@
 //! Rows that have any number of values.
 ghost use Rattle.std.specs.Prelude.{◌≡◌, ◌+◌, ◌^◌, ◌==◌, not, true, nat_le, length, sum, slice_index};
 ghost use Rattle.std.specs.Prelude.{option_map, slice_get};
-ghost use Rattle.std.specs.Prelude.{IfOk, IfErr};
+ghost use Rattle.std.specs.Prelude.{IfOk, IfErr, IfSome};
 ghost use Rattle.std.specs.List.{list_all};
 ghost use Rattle.col_common.specs.declared.error.ColumnarError.TheVariants as refusals;
 ghost use Rattle.col_common.specs.Ascending.{is_rising, differences, AreBelow};
-ghost use Rattle.col_model.specs.Positions.{rank, start_of, index_range, rows_with_value, next_row, starts_of, rows_at};
+ghost use Rattle.col_model.specs.Positions.{start_of, index_range, rows_with_value, next_row, starts_of, rows_at};
 ghost use Rattle.col_numbers.specs.Readers.{list_of};
-ghost use Rattle.col_index.specs.Offsets.{range_if_any, AreOldOffsets, without_repeats, row_positions, found_rows, positions_of};
-ghost use Rattle.col_index.specs.Appending.{PushesBoth};
+ghost use Rattle.col_index.specs.Offsets.{range_if_any, AreOldOffsets, without_repeats, row_positions};
+ghost use Rattle.col_index.specs.Appending.{PushesValues};
+ghost use Rattle.col_index.specs.Walked.{IsHint32};
 
 use crate::multivalued_index_v1::MultiValueIndexV1;
 use crate::multivalued_index_v2::MultiValueIndexV2;
@@ -28,7 +29,7 @@ pub enum MultiValueIndex {
 }
 
 impl MultiValueIndex {
-    ghost use Rattle.col_index.specs.MultiValues.{value_counts_of};
+    ghost use Rattle.col_index.specs.MultiValues.{value_counts_of, offsets_kept, version_kept};
 
     /// The index with one more start offset than rows, from 0 on, which never fall.
     pub fn for_test(
@@ -38,13 +39,15 @@ impl MultiValueIndex {
         requires { AreOldOffsets start_offsets.now }
         ensures ok { IfOk result (λ index. value_counts_of index ≡ differences start_offsets.now) }
         ensures err { IfErr result (λ e. e ≡ refusals.OutOfMemory) }
+        ensures version { IfOk result (λ index. version_kept index ≡ 2) }
     {
         Ok(MultiValueIndex::MultiValueIndexV2(MultiValueIndexV2::for_test(alloc, start_offsets)?))
     }
 
     /// The same index once more, which shares its bytes and has ranks of its own.
     pub fn try_clone(&self, alloc: Global) -> Result<MultiValueIndex, AllocError>
-        ensures { IfOk result (λ index. value_counts_of index ≡ value_counts_of self.now) }
+        ensures counts { IfOk result (λ index. value_counts_of index ≡ value_counts_of self.now) }
+        ensures version { IfOk result (λ index. version_kept index ≡ version_kept self.now) }
     {
         match self {
             MultiValueIndex::MultiValueIndexV1(index) => {
@@ -62,6 +65,7 @@ impl MultiValueIndex {
         ensures counts { without_repeats (list_of result.now)
             ≡ starts_of (value_counts_of self.now) }
         ensures fits { AreBelow (2 ^ 32) (list_of result.now) }
+        ensures offsets { list_of result.now ≡ offsets_kept self.now }
     {
         match self {
             MultiValueIndex::MultiValueIndexV1(index) => index.start_index_column(),
@@ -133,19 +137,22 @@ impl MultiValueIndex {
         }
     }
 
-    /// The row of a rank, and where its values end. So many rows with a value stand before the row
-    /// from which on it is looked for.
+    /// Where the values of the row with a rank end, and beside it a number from which on the row of
+    /// the next rank can be looked for. Version 2 looks for no row, and answers 0.
     #[inline(always)]
-    pub fn next_run(&self, place: u64, from: DocId) -> Option<(RowId, RowId)>
-        requires { rank (rows_with_value (value_counts_of self.now)) from ≡ place }
-        ensures row { option_map (λ r. r.0) result
-            ≡ slice_get (rows_with_value (value_counts_of self.now)) place }
+    pub fn next_end(&self, place: u64, from: DocId) -> Option<(DocId, RowId)>
+        requires { IsHint32 (rows_with_value (value_counts_of self.now)) from place }
         ensures end { option_map (λ r. r.1) result
             ≡ slice_get (starts_of (value_counts_of self.now)) (place + 1) }
+        ensures hint { IfSome result (λ r.
+            IsHint32 (rows_with_value (value_counts_of self.now)) r.0 (place + 1)) }
     {
         match self {
-            MultiValueIndex::MultiValueIndexV1(index) => index.next_run(from),
-            MultiValueIndex::MultiValueIndexV2(index) => index.run_at(place),
+            MultiValueIndex::MultiValueIndexV1(index) => index.end_at(place, from),
+            MultiValueIndex::MultiValueIndexV2(index) => {
+                let end = index.end_at(place)?;
+                Some((0, end))
+            }
         }
     }
 
@@ -167,10 +174,8 @@ impl MultiValueIndex {
         docs_out: &mut Vec<DocId>,
         rows_out: &mut Vec<RowId>,
     ) -> Result<(), AllocError>
-        ensures { PushesBoth docs_out.old.items docs_out.new.items
-            rows_out.old.items rows_out.new.items result
-            (found_rows (row_positions (value_counts_of self.now) docs.now))
-            (positions_of (row_positions (value_counts_of self.now) docs.now)) }
+        ensures { PushesValues (row_positions (value_counts_of self.now) docs.now)
+            docs_out.old.items docs_out.new.items rows_out.old.items rows_out.new.items result }
     {
         match self {
             MultiValueIndex::MultiValueIndexV1(index) => {

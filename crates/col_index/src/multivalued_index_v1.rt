@@ -1,13 +1,14 @@
 //! Rows that have any number of values, in version 1.
 ghost use Rattle.std.specs.Prelude.{◌≡◌, ◌≤◌, ◌<◌, ◌+◌, ◌^◌, ◌==◌, ◌&&◌, not, true, nat_le, length, take, sum, slice_index};
-ghost use Rattle.std.specs.Prelude.{slice_get, option_map, IfOk};
+ghost use Rattle.std.specs.Prelude.{slice_get, option_map, min, IfOk, IfSome};
 ghost use Rattle.std.specs.List.{list_all};
 ghost use Rattle.col_common.specs.Ascending.{is_rising, is_never_falling, differences, AreBelow};
 ghost use Rattle.col_model.specs.Index.{are_offsets};
 ghost use Rattle.col_model.specs.Positions.{rank, start_of, index_range, rows_with_value, next_row, starts_of, rows_at};
 ghost use Rattle.col_numbers.specs.Readers.{list_of};
-ghost use Rattle.col_index.specs.Offsets.{old_offsets_by, without_repeats, range_if_any, row_positions, found_rows, positions_of};
-ghost use Rattle.col_index.specs.Appending.{PushesBoth};
+ghost use Rattle.col_index.specs.Offsets.{old_offsets_by, without_repeats, range_if_any, row_positions};
+ghost use Rattle.col_index.specs.Appending.{PushesValues};
+ghost use Rattle.col_index.specs.Walked.{IsHint32};
 
 use crate::appending::push_run;
 use crate::non_null_docs::NonNullDocs;
@@ -156,6 +157,43 @@ impl MultiValueIndexV1 {
         None
     }
 
+    /// Where the values of the row with a rank end, and the row behind it. The row is looked for
+    /// from a number on, unless that is 0.
+    pub(crate) fn end_at(&self, place: u64, from: DocId) -> Option<(DocId, RowId)>
+        requires { IsHint32 (rows_with_value (differences self.now)) from place }
+        ensures end { option_map (λ r. r.1) result
+            ≡ slice_get (starts_of (differences self.now)) (place + 1) }
+        ensures hint { IfSome result (λ r.
+            IsHint32 (rows_with_value (differences self.now)) r.0 (place + 1)) }
+    {
+        self.offsets_never_fall();
+        let from = self.first_from(place, from);
+        match self.next_run(from) {
+            Some((row, end)) => Some((row + 1, end)),
+            None => None,
+        }
+    }
+
+    // A row before which so many rows with a value stand, or all where there are fewer.
+    fn first_from(&self, place: u64, from: DocId) -> DocId
+        requires { IsHint32 (rows_with_value (differences self.now)) from place }
+        ensures { rank (rows_with_value (differences self.now)) result
+            ≡ min place (length (rows_with_value (differences self.now))) }
+    {
+        if from != 0 {
+            return from;
+        }
+        self.offsets_never_fall();
+        let mut behind = 0;
+        for passed in 0..place {
+            match self.next_run(behind) {
+                Some((row, _)) => behind = row + 1,
+                None => return behind,
+            }
+        }
+        behind
+    }
+
     /// The first row with a value that isn't before a target.
     pub(crate) fn next_non_null_doc(&self, target: DocId) -> Option<DocId>
         ensures { result ≡ next_row (rows_with_value (differences self.now)) target }
@@ -181,10 +219,8 @@ impl MultiValueIndexV1 {
         docs_out: &mut Vec<DocId>,
         rows_out: &mut Vec<RowId>,
     ) -> Result<(), AllocError>
-        ensures { PushesBoth docs_out.old.items docs_out.new.items
-            rows_out.old.items rows_out.new.items result
-            (found_rows (row_positions (differences self.now) docs.now))
-            (positions_of (row_positions (differences self.now) docs.now)) }
+        ensures { PushesValues (row_positions (differences self.now) docs.now)
+            docs_out.old.items docs_out.new.items rows_out.old.items rows_out.new.items result }
     {
         for doc in docs {
             let doc = *doc;

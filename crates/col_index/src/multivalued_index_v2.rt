@@ -1,13 +1,13 @@
 //! Rows that have any number of values, in version 2.
 ghost use Rattle.std.specs.Prelude.{◌≡◌, ◌≤◌, ◌<◌, ◌+◌, ◌^◌, ◌==◌, not, true, length, take, sum, slice_index, OnOk};
-ghost use Rattle.std.specs.Prelude.{◌++◌, option_map, slice_get, IfOk, IfErr};
+ghost use Rattle.std.specs.Prelude.{◌++◌, slice_get, IfOk, IfErr};
 ghost use Rattle.col_common.specs.declared.error.ColumnarError.TheVariants as refusals;
 ghost use Rattle.col_common.specs.Ascending.{is_rising, differences, AreBelow};
 ghost use Rattle.col_model.specs.Index.{offset_counts};
 ghost use Rattle.col_model.specs.Positions.{start_of, index_range, rows_with_value, next_row, starts_of, rows_at};
 ghost use Rattle.col_numbers.specs.Readers.{list_of};
-ghost use Rattle.col_index.specs.Offsets.{AreOldOffsets, range_if_any, row_positions, found_rows, positions_of, is_start_list, offsets_by};
-ghost use Rattle.col_index.specs.Appending.{PushesBoth};
+ghost use Rattle.col_index.specs.Offsets.{AreOldOffsets, range_if_any, row_positions, is_start_list, offsets_by};
+ghost use Rattle.col_index.specs.Appending.{PushesValues};
 
 use crate::appending::push_run;
 use crate::non_null_docs::NonNullDocs;
@@ -160,19 +160,15 @@ impl MultiValueIndexV2 {
         start as RowId..end as RowId
     }
 
-    /// The row of a rank, and where its values end.
+    /// Where the values of the row with a rank end.
     #[inline(always)]
-    pub(crate) fn run_at(&self, place: u64) -> Option<(RowId, RowId)>
-        ensures row { option_map (λ r. r.0) result
-            ≡ slice_get (rows_with_value (offset_counts self.now)) place }
-        ensures end { option_map (λ r. r.1) result
-            ≡ slice_get (starts_of (offset_counts self.now)) (place + 1) }
+    pub(crate) fn end_at(&self, place: u64) -> Option<RowId>
+        ensures { result ≡ slice_get (starts_of (offset_counts self.now)) (place + 1) }
     {
-        if place >= u64::from(self.optional_index.num_non_nulls()) {
+        if place >= u64::from(self.start_index_column.num_vals()) - 1 {
             return None;
         }
-        let row = self.optional_index.select(place as u32);
-        Some((row, self.start_at(place as u32 + 1)))
+        Some(self.start_at(place as u32 + 1))
     }
 
     /// How many values stand before a row.
@@ -219,10 +215,8 @@ impl MultiValueIndexV2 {
         docs_out: &mut Vec<DocId>,
         rows_out: &mut Vec<RowId>,
     ) -> Result<(), AllocError>
-        ensures { PushesBoth docs_out.old.items docs_out.new.items
-            rows_out.old.items rows_out.new.items result
-            (found_rows (row_positions (offset_counts self.now) docs.now))
-            (positions_of (row_positions (offset_counts self.now) docs.now)) }
+        ensures { PushesValues (row_positions (offset_counts self.now) docs.now)
+            docs_out.old.items docs_out.new.items rows_out.old.items rows_out.new.items result }
     {
         if self.optional_index.is_walked() {
             self.push_positions_by(true, docs, docs_out, rows_out)
@@ -240,10 +234,8 @@ impl MultiValueIndexV2 {
         docs_out: &mut Vec<DocId>,
         rows_out: &mut Vec<RowId>,
     ) -> Result<(), AllocError>
-        ensures { PushesBoth docs_out.old.items docs_out.new.items
-            rows_out.old.items rows_out.new.items result
-            (found_rows (row_positions (offset_counts self.now) docs.now))
-            (positions_of (row_positions (offset_counts self.now) docs.now)) }
+        ensures { PushesValues (row_positions (offset_counts self.now) docs.now)
+            docs_out.old.items docs_out.new.items rows_out.old.items rows_out.new.items result }
     {
         let mut place = self.optional_index.first_place();
         for doc in docs {

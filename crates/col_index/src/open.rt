@@ -1,12 +1,12 @@
 //! Reads indexes.
-ghost use Rattle.std.specs.Prelude.{◌≡◌, ◌≤◌, ◌-◌, ◌∷◌, drop, length, option_map, None, IfSome, IfNone};
+ghost use Rattle.std.specs.Prelude.{◌≡◌, ◌≤◌, ◌-◌, ◌∷◌, drop, length, option_map, None, IfSome, IfNone, IfOk};
 ghost use Rattle.col_common.specs.Decoding.{Decodes};
 ghost use Rattle.col_model.specs.Index.{row_set, row_offsets, offset_counts_v1, shape, multivalued_shape};
 ghost use Rattle.col_model.specs.Table.{cardinality_code};
 ghost use Rattle.col_index.specs.Versions.{version_number, cardinality_of};
 ghost use Rattle.col_common.specs.Ascending.{differences};
 ghost use Rattle.col_index.specs.Opening.{row_count_at, first_byte_cardinality, multivalued_at};
-ghost use Rattle.col_index.specs.MultiValues.{value_counts_of};
+ghost use Rattle.col_index.specs.MultiValues.{value_counts_of, version_kept};
 ghost use Rattle.col_index.specs.Indexes.{shape_of};
 
 use crate::cardinality::Cardinality;
@@ -37,8 +37,9 @@ pub fn open_multivalued_index(
     bytes: Bytes,
     format_version: Version,
 ) -> Result<MultiValueIndex, ColumnarError>
-    ensures { Decodes (λ index. multivalued_shape (value_counts_of index)) result
+    ensures answer { Decodes (λ index. multivalued_shape (value_counts_of index)) result
         (multivalued_at (version_number format_version) bytes) }
+    ensures version { IfOk result (λ index. version_kept index ≡ version_number format_version) }
 {
     match format_version {
         Version::V1 => Ok(MultiValueIndex::MultiValueIndexV1(open_old_offsets(alloc, bytes)?)),

@@ -3,8 +3,8 @@ ghost use Rattle.std.specs.Prelude.{◌≡◌, ◌==◌, not, true, sum, slice_i
 ghost use Rattle.col_common.specs.Ascending.{is_rising, are_below};
 ghost use Rattle.col_model.specs.Index.{set_counts, optional_shape};
 ghost use Rattle.col_model.specs.Positions.{start_of, rows_at};
-ghost use Rattle.col_index.specs.Offsets.{positions_of_rows, found_rows, positions_of};
-ghost use Rattle.col_index.specs.Appending.{PushesBoth};
+ghost use Rattle.col_index.specs.Offsets.{positions_of_rows};
+ghost use Rattle.col_index.specs.Appending.{PushesValues};
 
 use crate::optional_index::OptionalIndex;
 use crate::set::Set;
@@ -36,10 +36,8 @@ impl OptionalIndex {
         docs_out: &mut Vec<DocId>,
         rows_out: &mut Vec<RowId>,
     ) -> Result<(), AllocError>
-        ensures { PushesBoth docs_out.old.items docs_out.new.items
-            rows_out.old.items rows_out.new.items result
-            (found_rows (positions_of_rows (optional_shape (set_counts self.now)) docs.now))
-            (positions_of (positions_of_rows (optional_shape (set_counts self.now)) docs.now)) }
+        ensures { PushesValues (positions_of_rows (optional_shape (set_counts self.now)) docs.now)
+            docs_out.old.items docs_out.new.items rows_out.old.items rows_out.new.items result }
     {
         self.rows_rise();
         self.push_ranks(docs, docs_out, rows_out)

@@ -109,6 +109,7 @@ impl OptionalIndex {
     pub fn rank_counted<L: Ledger>(&self, row_id: RowId, steps: &mut Steps<L>) -> RowId
         ensures rank { result ≡ rank self.now.rows row_id }
         ensures steps { 2 ^ (steps.new - steps.old) ≤ 2 * length self.now.rows + 2 }
+        ensures least { length self.now.rows + 2 ≤ 2 * 2 ^ (steps.new - steps.old) }
     {
         self.rows_rise();
         let rows = CountedRows::new(&self.rows);

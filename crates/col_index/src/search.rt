@@ -52,6 +52,7 @@ pub fn narrow_counted<L: Ledger>(
     requires narrowed { IsNarrowed rows.now target low high }
     ensures rank { result ≡ rank rows.now target }
     ensures steps { 2 ^ (steps.new - steps.old) ≤ 2 * (high - low) + 1 }
+    ensures least { (high - low) + 2 ≤ 2 * 2 ^ (steps.new - steps.old) }
 {
     let mut low = low;
     let mut high = high;

@@ -9,10 +9,11 @@ use Rattle.col_index.specs.Indexes.{shape_of}
 use Rattle.col_index.specs.declared.column_index.ColumnIndex.{ColumnIndex}
 use Rattle.col_indexer.specs.Counted.{rows_behind, ends_behind, counts_in}
 use Rattle.col_indexer.specs.Stacks.{Segments, AreSegments, index_segments, segment_counts, stacked_counts, counts_from, values_before}
+use Rattle.col_index.proofs.RankLaws.{slice_get-none}
 use Rattle.col_index.proofs.RowsLaws.{rows_with_value-from}
 use Rattle.col_indexer.proofs.CountedLemmas.{rows_behind-from, rows_behind-append, starts_after-ends, starts_of-ends, ends_behind-none, ends_behind-some}
 use Rattle.col_indexer.proofs.SegmentLemmas.{counts_from-first, counts_from-end, length-segment, start_of-more, values_before-more}
-use Rattle.col_indexer.proofs.StackedStartLemmas.{slice_get-none, starts_after-moved}
+use Rattle.col_indexer.proofs.StackedStartLemmas.{starts_after-moved}
 use Rattle.col_indexer.proofs.StackedWalkLemmas.{segment_read}
 
 -- one more item, so far behind

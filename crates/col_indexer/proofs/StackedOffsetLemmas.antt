@@ -1,38 +1,50 @@
 -- Steps of walks over the start offsets of indexes one behind another.
-use Rattle.std.proofs.Common.{◌≡◌, ℕ, ◌+◌, ◌-◌, ◌<◌, ◌≤◌, ◌^◌, List, [], ◌∷◌, ◌++◌, length, map, drop, get_or, slice_get, Option, Some, None, refl, sym, ap, subst, ◌∙◌, arith}
+use Rattle.std.proofs.Common.{◌≡◌, ℕ, ◌+◌, ◌-◌, ◌<◌, ◌≤◌, ◌^◌, List, [], ◌∷◌, ◌++◌, length, map, drop, get_or, slice_get, Option, Some, None, inl, refl, sym, ap, subst, ◌∙◌, arith}
 use Rattle.std.specs.List.{sum}
 use Rattle.std.proofs.lemmas.List.{length-map, drop_all}
 use Rattle.std.proofs.lemmas.Option.{slice_get_within}
 use Rattle.col_common.specs.declared.iterable.Walk.{Walk}
-use Rattle.col_model.specs.Positions.{rank, rows_with_value, starts_of, starts_after}
+use Rattle.col_model.specs.Positions.{rows_with_value, starts_of, starts_after}
 use Rattle.col_indexer.specs.Counted.{counts_in}
 use Rattle.col_index.specs.Indexes.{shape_of}
 use Rattle.col_indexer.specs.Merged.{FitSegments}
 use Rattle.col_indexer.specs.Stacks.{Segments, AreSegments, index_segments, segment_counts, counts_from, values_before, IsWalkOfStarts, StandsAtOffset, stacked_offsets_to_give}
 use Rattle.col_index.specs.declared.column_index.ColumnIndex.{ColumnIndex}
-use Rattle.col_index.proofs.RankLaws.{rank-le-length}
-use Rattle.col_indexer.proofs.CountedLemmas.{length-rows_with_value, row-below}
-use Rattle.col_indexer.proofs.NextRowLemmas.{rank-first, rank-after}
+use Rattle.col_index.specs.Walked.{IsHint32}
+use Rattle.col_indexer.proofs.CountedLemmas.{length-rows_with_value}
 use Rattle.col_indexer.proofs.SegmentLemmas.{counts_from-first, counts_from-end, length-segment, values_before-more, rows_within, values_within}
 use Rattle.col_indexer.proofs.StackedStartLemmas.{starts_after-append, starts_after-moved, starts_after-first, starts-le, length-starts}
 use Rattle.col_indexer.proofs.StackedWalkLemmas.{segment_read, item_of, none_of}
 
--- what was read of a row and the end of its values
-pub run_read :
-    (indexes : List ColumnIndex) (counts : List ℕ) (at : Walk) (n : ℕ) (index : ColumnIndex) (row end : Option ℕ)
+-- what was read of the end of a row's values
+pub end_read : (indexes : List ColumnIndex) (counts : List ℕ) (at : Walk) (n : ℕ) (index : ColumnIndex) (end : Option ℕ)
     → FitSegments counts (map shape_of indexes) → at.segment < length counts → n ≡ get_or counts at.segment 0
     → index ≡ get_or indexes at.segment index → 0 < at.place
-    → row ≡ slice_get (rows_with_value (counts_in n (shape_of index))) (at.place - 1)
     → end ≡ slice_get (starts_of (counts_in n (shape_of index))) (at.place - 1 + 1)
-    → (slice_get (rows_with_value (segment_counts (index_segments indexes counts) at.segment)) (at.place - 1) ≡ row)
-    × (slice_get (starts_of (segment_counts (index_segments indexes counts) at.segment)) at.place ≡ end)
-run_read indexes counts at n index row end fit within e f begun g h =
+    → slice_get (starts_of (segment_counts (index_segments indexes counts) at.segment)) at.place ≡ end
+end_read indexes counts at n index end fit within e f begun h =
     let same = sym (segment_read indexes counts at.segment n index fit within e f) in
-    let here : at.place ≡ at.place - 1 + 1 = omega arith in (
-      ap (λ cs. slice_get (rows_with_value cs) (at.place - 1)) same ∙ sym g,
-      ap (slice_get (starts_of (segment_counts (index_segments indexes counts) at.segment))) here
-          ∙ ap (λ cs. slice_get (starts_of cs) (at.place - 1 + 1)) same ∙ sym h,
-    )
+    let here : at.place ≡ at.place - 1 + 1 = omega arith in
+    ap (slice_get (starts_of (segment_counts (index_segments indexes counts) at.segment))) here
+    ∙ ap (λ cs. slice_get (starts_of cs) (at.place - 1 + 1)) same ∙ sym h
+
+-- what is told of a row of the segment is told of one of the index that was read
+pub hint_of_index : (indexes : List ColumnIndex) (counts : List ℕ) (k n from place : ℕ) (index : ColumnIndex)
+    → FitSegments counts (map shape_of indexes) → k < length counts → n ≡ get_or counts k 0
+    → index ≡ get_or indexes k index
+    → IsHint32 (rows_with_value (segment_counts (index_segments indexes counts) k)) from place
+    → IsHint32 (rows_with_value (counts_in n (shape_of index))) from place
+hint_of_index indexes counts k n from place index fit within e f =
+    subst (λ cs. IsHint32 (rows_with_value cs) from place) (sym (segment_read indexes counts k n index fit within e f))
+
+-- and what is told there is told of the segment
+pub hint_of_segment : (indexes : List ColumnIndex) (counts : List ℕ) (k n from place : ℕ) (index : ColumnIndex)
+    → FitSegments counts (map shape_of indexes) → k < length counts → n ≡ get_or counts k 0
+    → index ≡ get_or indexes k index
+    → IsHint32 (rows_with_value (counts_in n (shape_of index))) from place
+    → IsHint32 (rows_with_value (segment_counts (index_segments indexes counts) k)) from place
+hint_of_segment indexes counts k n from place index fit within e f =
+    subst (λ cs. IsHint32 (rows_with_value cs) from place) (segment_read indexes counts k n index fit within e f)
 
 -- how many values a segment has whose index was read
 pub sum_read : (indexes : List ColumnIndex) (counts : List ℕ) (k n : ℕ) (index : ColumnIndex)
@@ -56,31 +68,35 @@ values-fit indexes counts k n b index are within e f g =
 
 -- ---- the starts of rows with these counts
 
+-- the same number tells the same at the same place
+moved_hint : (rows : List ℕ) (r q p k : ℕ) → IsHint32 rows r p → q ≡ r → k ≡ p → IsHint32 rows q k
+moved_hint rows r q p k hint e f = subst (λ n. IsHint32 rows n k) (sym e) (subst (IsHint32 rows r) (sym f) hint)
+
+-- where nothing is told, a walk stands at each place that is there
+no_hint : (cs : List ℕ) (w : Walk) → w.inner ≡ 0 → w.place ≤ 1 → IsWalkOfStarts cs w
+no_hint cs w i f = record {
+  hint = record { told = inl i; small = omega arith };
+  within = omega (arith, length-starts cs);
+}
+
 -- behind the first start a walk stands at the next place
 pub first_start : (cs : List ℕ) (a b : Walk) → IsWalkOfStarts cs a → a.place ≡ 0 → b.place ≡ 1 → b.inner ≡ a.inner → IsWalkOfStarts cs b
 first_start cs a b stands z f i = record {
-  ranked = ap (rank (rows_with_value cs)) i ∙ stands.ranked ∙ omega arith;
-  small = omega (arith, stands.small);
+  hint = moved_hint (rows_with_value cs) a.inner b.inner (a.place - 1) (b.place - 1) stands.hint i (omega arith);
+  within = omega (arith, length-starts cs);
 }
 
 -- so does one at the front
 pub start-front : (cs : List ℕ) (w : Walk) → w.place ≡ 0 → w.inner ≡ 0 → IsWalkOfStarts cs w
-start-front cs w f i = record {
-  ranked = ap (rank (rows_with_value cs)) i ∙ rank-first cs ∙ omega arith;
-  small = omega arith;
-}
+start-front cs w f i = no_hint cs w i (omega arith)
 
 -- behind the end of a row's values the walk stands at the next place too
-pub next_start : (cs : List ℕ) (a b : Walk) (row : ℕ) → slice_get (rows_with_value cs) (a.place - 1) ≡ Some row → 0 < a.place
-    → row + 1 < 2 ^ 32 → b.place ≡ a.place + 1 → b.inner ≡ row + 1 → IsWalkOfStarts cs b
-next_start cs a b row read begun small f i = record {
-  ranked = ap (rank (rows_with_value cs)) i ∙ rank-after cs (a.place - 1) row read ∙ omega arith;
-  small = omega arith;
+pub next_start : (cs : List ℕ) (a b : Walk) (row start : ℕ) → IsHint32 (rows_with_value cs) row (a.place - 1 + 1)
+    → slice_get (starts_of cs) a.place ≡ Some start → 0 < a.place → b.place ≡ a.place + 1 → b.inner ≡ row → IsWalkOfStarts cs b
+next_start cs a b row start hint read begun f i = record {
+  hint = moved_hint (rows_with_value cs) row b.inner (a.place - 1 + 1) (b.place - 1) hint i (omega arith);
+  within = omega (arith, slice_get_within (starts_of cs) a.place start read);
 }
-
--- no place is behind the last start
-pub place-within : (cs : List ℕ) (a : Walk) → IsWalkOfStarts cs a → a.place ≤ length (starts_of cs)
-place-within cs a stands = omega (arith, stands.ranked, rank-le-length (rows_with_value cs) a.inner, length-starts cs)
 
 -- ---- the starts of segments
 
@@ -134,11 +150,9 @@ module _ (s : Segments) (a b : Walk) (are : AreSegments s) (stands : StandsAtOff
   unfolding starts_of
   front_moved = starts_after-moved a.sum 0 a.sum (segment_counts s a.segment) (omega arith)
 
-  module _
-      (start row : ℕ) (read : slice_get (starts_of (segment_counts s a.segment)) a.place ≡ Some start)
-      (found : slice_get (rows_with_value (segment_counts s a.segment)) (a.place - 1) ≡ Some row) where
-    -- the start, the next place and the row behind fit
-    pub start_fits : (a.sum + start < 2 ^ 32) × (a.place + 1 < 2 ^ 64) × (row + 1 < 2 ^ 32)
+  module _ (start : ℕ) (read : slice_get (starts_of (segment_counts s a.segment)) a.place ≡ Some start) where
+    -- the start and the next place fit
+    pub start_fits : (a.sum + start < 2 ^ 32) × (a.place + 1 < 2 ^ 64)
     start_fits =
         let cs = segment_counts s a.segment in
         let long = length-segment s a.segment are.fit within in
@@ -151,18 +165,18 @@ module _ (s : Segments) (a b : Walk) (are : AreSegments s) (stands : StandsAtOff
         let before = stands.before in
         let total = are.few_rows in
         let values = are.few_values in
-        let below = row-below cs (a.place - 1) row found in
-        (omega arith, omega arith, omega arith)
+        (omega arith, omega arith)
 
     -- behind a start the walk stands at the next place
-    pub start_stands : 0 < a.place → b.segment ≡ a.segment → b.place ≡ a.place + 1 → b.inner ≡ row + 1 → b.sum ≡ a.sum
+    pub start_stands : (row : ℕ) → IsHint32 (rows_with_value (segment_counts s a.segment)) row (a.place - 1 + 1)
+        → 0 < a.place → b.segment ≡ a.segment → b.place ≡ a.place + 1 → b.inner ≡ row → b.sum ≡ a.sum
         → StandsAtOffset s b
-    start_stands begun e f i g =
+    start_stands row hint begun e f i g =
         record {
           segment = omega (arith, stands.segment);
           start =
               subst (λ k. IsWalkOfStarts (segment_counts s k) b) (sym e)
-              (next_start (segment_counts s a.segment) a b row found begun start_fits.2 f i);
+              (next_start (segment_counts s a.segment) a b row start hint read begun f i);
           before = g ∙ stands.before ∙ ap (values_before s) (sym e);
         }
 
@@ -182,12 +196,7 @@ module _ (s : Segments) (a b : Walk) (are : AreSegments s) (stands : StandsAtOff
     starts_stand e f i g =
         record {
           segment = omega arith;
-          start = record {
-            ranked =
-                ap (rank (rows_with_value (segment_counts s b.segment))) i
-                ∙ rank-first (segment_counts s b.segment) ∙ omega arith;
-            small = omega arith;
-          };
+          start = no_hint (segment_counts s b.segment) b i (omega arith);
           before =
               g ∙ ap (λ n. n + sum (segment_counts s a.segment)) stands.before
               ∙ sym (values_before-more s a.segment are.fit within) ∙ ap (values_before s) (sym e);
@@ -202,4 +211,4 @@ module _ (s : Segments) (a b : Walk) (are : AreSegments s) (stands : StandsAtOff
         ∙ ap (λ k. drop 1 (starts_after (a.sum + sum (segment_counts s a.segment)) (counts_from s k))) e
         ∙ sym (none_of a.place _ _ _ _
         (ap length front_moved ∙ length-map (starts_of (segment_counts s a.segment)) (λ start. a.sum + start))
-        starts_split (place-within (segment_counts s a.segment) a stands.start) none)
+        starts_split stands.start.within none)

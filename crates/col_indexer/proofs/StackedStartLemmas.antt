@@ -70,12 +70,6 @@ starts_after-append b m (suc x ∷ xs) ys e =
 
 -- ---- the next of a list
 
--- nothing stands past the end
-pub slice_get-none : (xs : List ℕ) (k : ℕ) → slice_get xs k ≡ None → length xs ≤ k
-slice_get-none [] k e = omega arith
-slice_get-none (x ∷ xs) zero e = absurd (cc)
-slice_get-none (x ∷ xs) (suc k) e = omega (arith, slice_get-none xs k e)
-
 -- the first of what is left is the item at that place
 slice_get-drop : {X : Type 0} (xs : List X) (k : ℕ) → slice_get (drop k xs) 0 ≡ slice_get xs k
 slice_get-drop xs zero = refl

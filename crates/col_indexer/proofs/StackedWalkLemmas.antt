@@ -7,14 +7,13 @@ use Rattle.col_model.specs.Positions.{rank, start_of, rows_with_value}
 use Rattle.col_model.specs.Index.{empty_shape}
 use Rattle.col_indexer.specs.Counted.{rows_behind, counts_in}
 use Rattle.col_index.specs.Indexes.{shape_of}
-use Rattle.col_index.proofs.RankLaws.{rank-le-length}
+use Rattle.col_index.proofs.RankLaws.{rank-le-length, slice_get-none}
 use Rattle.col_indexer.specs.Merged.{FitSegments}
 use Rattle.col_index.specs.declared.column_index.ColumnIndex.{ColumnIndex}
 use Rattle.col_indexer.specs.Stacks.{Segments, AreSegments, index_segments, segment_counts, counts_from, StandsAtRow, stacked_rows_to_give}
 use Rattle.col_indexer.proofs.CountedLemmas.{rows_behind-append, length-rows_with_value, row-below}
 use Rattle.col_indexer.proofs.SegmentLemmas.{length-fit, counts_from-first, counts_from-end, length-segment, start_of-more, rows_within}
 use Rattle.col_indexer.proofs.NextRowLemmas.{rank-first, rank-after}
-use Rattle.col_indexer.proofs.StackedStartLemmas.{slice_get-none}
 
 -- an item of the front of a list, each so far behind
 pub item_of : (b place x : ℕ) (xs front more all : List ℕ) → front ≡ map (λ y. b + y) xs → all ≡ front ++ more

@@ -1,13 +1,14 @@
 -- Rows that have all no value, or one.
-use Rattle.std.proofs.Common.{◌≡◌, ℕ, zero, suc, ◌+◌, ◌<◌, ◌≤◌, ◌^◌, List, [], ◌∷◌, length, map, drop, replicate, slice_get, Option, Some, None, refl, sym, ap, ◌∙◌, arith}
+use Rattle.std.proofs.Common.{◌≡◌, ℕ, zero, suc, ◌+◌, ◌<◌, ◌≤◌, List, [], ◌∷◌, length, map, drop, replicate, slice_get, Option, Some, None, inl, refl, sym, ap, ◌∙◌, arith}
 use Rattle.std.specs.List.{sum, range_with_len}
 use Rattle.std.proofs.lemmas.List.Folds.{sum_by-replicate}
 use Rattle.std.proofs.lemmas.List.FromFn.{length-range_with_len, get_or-range_with_len}
-use Rattle.std.proofs.lemmas.Option.{slice_get-get_or, slice_get_past, slice_get_within}
-use Rattle.std.specs.Option.{option_map, IfSome}
+use Rattle.std.proofs.lemmas.Option.{slice_get-get_or, slice_get_past}
+use Rattle.std.specs.Option.{IfSome}
 use Rattle.col_model.specs.Index.{RowSet, set_counts}
 use Rattle.col_model.specs.Positions.{rows_with_value, starts_after, starts_of}
 use Rattle.col_index.specs.Sets.{AreRows}
+use Rattle.col_index.specs.Walked.{IsHint32}
 use Rattle.col_index.proofs.RowsLaws.{rows_from, rows_with_value-from}
 use Rattle.col_index.proofs.SpreadLaws.{spread_starts}
 use Rattle.col_index.proofs.CountLaws.{set_spread}
@@ -15,7 +16,6 @@ use Rattle.col_index.specs.Indexes.{shape_of}
 use Rattle.col_index.specs.declared.column_index.ColumnIndex.{ColumnIndex}
 use Rattle.col_indexer.specs.Counted.{counts_in, ends_behind}
 use Rattle.col_indexer.proofs.CountedLemmas.{starts_after-ends}
-use Rattle.col_indexer.proofs.StackedStartLemmas.{slice_get-none}
 
 -- so many rows with the same number of values
 pub same_counts : (c a n : ℕ) → map (λ row. c) (range_with_len a n) ≡ replicate n c
@@ -107,21 +107,12 @@ number_within n k h =
 pub number_past : (n k : ℕ) → n ≤ k → slice_get (range_with_len 0 n) k ≡ None
 number_past n k h = let long = length-range_with_len 0 n in slice_get_past (range_with_len 0 n) k (omega arith)
 
--- where each row has at most one value, the value of the row at a place ends one further
-pub single-end : (rows starts : List ℕ) (place : ℕ) (row : Option ℕ) → starts ≡ range_with_len 0 (suc (length rows))
-    → row ≡ slice_get rows place → option_map (λ r. place + 1) row ≡ slice_get starts (place + 1)
-single-end rows starts place None e f =
-    let past = slice_get-none rows place (sym f) in
-    sym (ap (λ ss. slice_get ss (place + 1)) e ∙ number_past (suc (length rows)) (place + 1) (omega arith))
-single-end rows starts place (Some r) e f =
-    let within = slice_get_within rows place r (sym f) in
-    sym (ap (λ ss. slice_get ss (place + 1)) e ∙ number_within (suc (length rows)) (place + 1) (omega arith))
+-- ---- hints
 
--- and its place fits
-pub single-fits : (rows : List ℕ) (place : ℕ) (row : Option ℕ) → row ≡ slice_get rows place → length rows < 2 ^ 32
-    → IfSome row (λ r. place + 1 < 2 ^ 32)
-single-fits rows place None e h = tt
-single-fits rows place (Some r) e h = omega (arith, slice_get_within rows place r (sym e))
+-- where each row has at most one value, nothing has to be told of the next row
+pub zero-hint : (rows : List ℕ) (place : ℕ) (r : Option (ℕ × ℕ)) → IfSome r (λ r. r.0 ≡ 0) → IfSome r (λ r. IsHint32 rows r.0 place)
+zero-hint rows place None h = tt
+zero-hint rows place (Some r) h = record { told = inl h; small = omega (arith, h) }
 
 -- ---- a segment by what its index is
 

@@ -4,10 +4,10 @@ use Rattle.std.specs.Prelude.{◌≡◌, ℕ, ◌-◌, ◌≤◌, ◌<◌, ◌^�
 use Rattle.col_common.specs.declared.iterable.Walk.{Walk}
 use Rattle.col_model.specs.Index.{Shape, empty_shape}
 use Rattle.col_model.specs.Order.{all_rows}
-use Rattle.col_model.specs.Positions.{start_of, picked_counts, rows_with_value, starts_after}
+use Rattle.col_model.specs.Positions.{start_of, picked_counts, rows_with_value, starts_of, starts_after}
 use Rattle.col_index.specs.declared.column_index.ColumnIndex.{ColumnIndex}
 use Rattle.col_index.specs.Indexes.{shape_of}
-use Rattle.col_index.specs.Walked.{IsRanked32, IsWalkOfRows}
+use Rattle.col_index.specs.Walked.{IsHint32, IsWalkOfRows}
 use Rattle.col_indexer.specs.Counted.{counts_in, rows_behind}
 use Rattle.col_indexer.specs.Merged.{FitSegments}
 
@@ -53,10 +53,12 @@ pub record StandsAtRow (s : Segments) (w : Walk) : Type 0 where
 abbrev pub stacked_rows_to_give : Segments → Walk → List ℕ
 stacked_rows_to_give s w = drop w.place (rows_behind w.sum (counts_from s w.segment))
 
--- A walk of the start offsets of rows with these counts. The first offset is 0, and behind it each
--- row with a value has the one where its values end: the next of these rows is looked for.
-abbrev pub IsWalkOfStarts : List ℕ → Walk → Type 0
-IsWalkOfStarts counts w = IsRanked32 (rows_with_value counts) w.inner (w.place - 1)
+-- A walk of the start offsets of rows with these counts, at one of them or behind the last. The
+-- first offset is 0, and behind it each row with a value has the one where its values end. `inner`
+-- is a number from which on the next of these rows can be looked for, or 0, which tells nothing.
+pub record IsWalkOfStarts (counts : List ℕ) (w : Walk) : Type 0 where
+  pub hint : IsHint32 (rows_with_value counts) w.inner (w.place - 1)
+  pub within : w.place ≤ length (starts_of counts)
 
 -- A walk of offsets: its place is among the start offsets of the segment. The first of a segment is
 -- given once, at the front, so that behind the last segment the place is 0 or 1.

@@ -1,10 +1,11 @@
 //! Indexes one behind another.
-ghost use Rattle.std.specs.Prelude.{◌≡◌, ◌≤◌, ◌<◌, ◌+◌, ◌^◌, length, sum, slice_get, option_map, IfOk, IfSome};
+ghost use Rattle.std.specs.Prelude.{◌≡◌, ◌≤◌, ◌+◌, ◌^◌, sum, slice_get, option_map, IfOk, IfSome};
 ghost use Rattle.std.specs.List.{range_with_len};
 ghost use Rattle.col_model.specs.Positions.{rank, rows_with_value, starts_of};
 ghost use Rattle.col_indexer.specs.Counted.{counts_in};
 ghost use Rattle.col_index.specs.Indexes.{shape_of};
 ghost use Rattle.col_index.specs.MultiValues.{value_counts_of};
+ghost use Rattle.col_index.specs.Walked.{IsHint32};
 ghost use Rattle.col_common.specs.Walks.{IsNext};
 ghost use Rattle.col_indexer.specs.Stacks.{AreSegments, index_segments, stacked_counts};
 ghost use Rattle.col_indexer.specs.Stacks.{StandsAtRow, stacked_rows_to_give, StandsAtOffset, stacked_offsets_to_give};
@@ -186,40 +187,44 @@ fn number_below(limit: u64, number: u64) -> Option<RowId>
     }
 }
 
-// The same row, and where its values end.
-fn run_at(
+// Where the values of the row at a place end; none past the last row. Beside it stands a number
+// from which on the next row can be looked for.
+#[inline(always)]
+fn end_at(
     column_index: &ColumnIndex,
     num_rows: RowId,
     place: u64,
     from: DocId,
-) -> Option<(RowId, RowId)>
-    requires place { let counts = counts_in num_rows (shape_of column_index.now) in
-        rank (rows_with_value counts) from ≡ place }
-    requires few { length (counts_in num_rows (shape_of column_index.now)) < 2 ^ 32 }
-    ensures row { let counts = counts_in num_rows (shape_of column_index.now) in
-        option_map (λ r. r.0) result ≡ slice_get (rows_with_value counts) place }
+) -> Option<(DocId, RowId)>
+    requires { let counts = counts_in num_rows (shape_of column_index.now) in
+        IsHint32 (rows_with_value counts) from place }
     ensures end { let counts = counts_in num_rows (shape_of column_index.now) in
         option_map (λ r. r.1) result ≡ slice_get (starts_of counts) (place + 1) }
+    ensures hint { let counts = counts_in num_rows (shape_of column_index.now) in
+        IfSome result (λ r. IsHint32 (rows_with_value counts) r.0 (place + 1)) }
 {
     match column_index {
         ColumnIndex::Empty { .. } => None,
-        ColumnIndex::Full => with_end(number_below(u64::from(num_rows), place), place),
+        ColumnIndex::Full => single_end(num_rows, place),
         ColumnIndex::Optional(index) => {
             index.rows_rise();
-            with_end(row_of(&index.iter_non_null_docs(), place, from), place)
+            single_end(index.num_non_nulls(), place)
         }
-        ColumnIndex::Multivalued(index) => index.next_run(place, from),
+        ColumnIndex::Multivalued(index) => index.next_end(place, from),
     }
 }
 
-// A row and where its value ends, where each row with a value has one.
-fn with_end(row: Option<RowId>, place: u64) -> Option<(RowId, RowId)>
-    requires { IfSome row (λ r. place + 1 < 2 ^ 32) }
-    ensures row { option_map (λ r. r.0) result ≡ row }
-    ensures end { option_map (λ r. r.1) result ≡ option_map (λ r. place + 1) row }
+// The same where so many rows have one value each: no row has to be looked for.
+#[inline(always)]
+fn single_end(num_rows: RowId, place: u64) -> Option<(DocId, RowId)>
+    ensures end { option_map (λ r. r.1) result
+        ≡ slice_get (range_with_len 0 (num_rows + 1)) (place + 1) }
+    ensures hint { IfSome result (λ r. r.0 ≡ 0) }
 {
-    let row = row?;
-    Some((row, place as RowId + 1))
+    if place >= u64::from(num_rows) {
+        return None;
+    }
+    Some((0, place as RowId + 1))
 }
 
 /// How many values an index has: its last start offset.
@@ -310,10 +315,10 @@ fn next_start(
         let segment = at.segment as usize;
         let num_rows = order.segment_num_rows(segment);
         let column_index = &column_indexes[segment];
-        match run_at(column_index, num_rows, at.place - 1, at.inner as DocId) {
-            Some((row, end)) => {
+        match end_at(column_index, num_rows, at.place - 1, at.inner as DocId) {
+            Some((behind, end)) => {
                 at.place += 1;
-                at.inner = u64::from(row) + 1;
+                at.inner = u64::from(behind);
                 return Some((at.sum + u64::from(end)) as RowId);
             }
             None => {

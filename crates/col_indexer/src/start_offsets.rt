@@ -48,6 +48,7 @@ impl Iterable<RowId> for StartOffsets<'_> {
 }
 
 // The next start offset of an index, from a walk.
+#[inline(always)]
 fn next_start(index: &MultiValueIndex, at: &mut Walk) -> Option<RowId>
     requires { IsWalkOfStarts (value_counts_of index.now) at.old }
     ensures stands { IsWalkOfStarts (value_counts_of index.now) at.new }
@@ -58,12 +59,12 @@ fn next_start(index: &MultiValueIndex, at: &mut Walk) -> Option<RowId>
         at.place = 1;
         return Some(0);
     }
-    // A row is below their number, so that the one behind it is a number of 32 bits.
+    // That there are no more offsets than rows and one is known of the rows' number.
     let _num_docs = index.num_docs();
-    match index.next_run(at.place - 1, at.inner as DocId) {
-        Some((row, end)) => {
+    match index.next_end(at.place - 1, at.inner as DocId) {
+        Some((behind, end)) => {
             at.place += 1;
-            at.inner = u64::from(row) + 1;
+            at.inner = u64::from(behind);
             Some(end)
         }
         None => None,

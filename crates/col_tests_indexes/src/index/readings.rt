@@ -42,6 +42,14 @@ fn rows_with_many_values_have_runs_of_positions(rt: HostRuntime) -> Result<(), F
         (index.next_non_null_doc(1), index.next_non_null_doc(7)),
         (Some(6), None)
     );
+    assert_eq!(rt;
+        (
+            index.next_end(0, 0),
+            index.next_end(1, 0),
+            index.next_end(2, 0)
+        ),
+        (Some((0, 2)), Some((0, 4)), None)
+    );
     let answers = Answers {
         docs: &[0, 5, 6],
         with_values: &[0, 0, 6, 6],
@@ -74,6 +82,14 @@ fn an_index_of_version_1_passes_over_rows_without_values(rt: HostRuntime) -> Res
     let bytes = Bytes::from_static(b"\x00\x80\x81\x83\x84\xe8");
     let index = open_multivalued_index(rt.alloc(), bytes, Version::V1)?;
     assert_copied(&rt, rt.alloc(), &index)?;
+    assert_eq!(rt;
+        (
+            index.next_end(0, 0),
+            index.next_end(1, 0),
+            index.next_end(2, 0)
+        ),
+        (Some((1, 2)), Some((3, 3)), None)
+    );
     let answers = Answers {
         docs: &[2, 1, 0, 3],
         with_values: &[2, 0, 0],

@@ -36,7 +36,7 @@ returns-in_err-open_multivalued_index-in-Multivalued c =
     (multivalued_at (version_number c.args.format_version) c.args.bytes)
     (shape (cardinality_code (cardinality_of c.args.cardinality) ∷ c.args.bytes) (version_number c.args.format_version))
     (λ e. shape-multivalued c.args.cardinality c.args.format_version c.args.bytes c.in-Multivalued.is ∙ e)
-    c.in_err-open_multivalued_index-in-Multivalued.ensures)
+    c.in_err-open_multivalued_index-in-Multivalued.ensures.answer)
 
 pub returns-in_ok-open_optional_index-in-Optional : goal.returns-in_ok-open_optional_index-in-Optional
 returns-in_ok-open_optional_index-in-Optional c =
@@ -47,4 +47,4 @@ returns-in_ok-open_optional_index-in-Optional c =
 pub returns-in_ok-open_multivalued_index-in-Multivalued : goal.returns-in_ok-open_multivalued_index-in-Multivalued
 returns-in_ok-open_multivalued_index-in-Multivalued c =
     shape-multivalued c.args.cardinality c.args.format_version c.args.bytes c.in-Multivalued.is
-    ∙ c.in_ok-open_multivalued_index-in-Multivalued.ensures
+    ∙ c.in_ok-open_multivalued_index-in-Multivalued.ensures.answer

@@ -1,5 +1,5 @@
 use Rattle.std.proofs.Common.{◌-◌, arith}
-use Rattle.col_index.proofs.HalvingLemmas.{halved-more}
+use Rattle.col_index.proofs.HalvingLemmas.{halved-more, halved-least}
 use Rattle.col_index.proofs.SearchLemmas.{middle, narrowed_done, narrowed_less, narrowed_not_less}
 use Rattle.col_index.proofs.search.narrow_counted.Goals as goal
 
@@ -13,7 +13,7 @@ loop-low-preserved-then-look-target g c =
           c.requires.rising so_far.narrowed (omega arith) (omega arith) c.look.ensures.value
           c.if-look-target.true;
       counted = omega arith;
-      halved = halved-more _ _ _ (high - low) _ (omega arith) (omega arith) (omega arith) so_far.halved;
+      halved = halved-more _ _ _ (high - low) _ (omega arith) (omega arith) (omega arith) (omega arith) so_far.halved;
     }
 
 pub loop-low-preserved : goal.loop-low-preserved
@@ -26,10 +26,14 @@ loop-low-preserved g c =
           c.requires.rising so_far.narrowed (omega arith) (omega arith) c.look.ensures.value
           c.if-look-target.false;
       counted = omega arith;
-      halved = halved-more _ _ _ (high - low) _ (omega arith) (omega arith) (omega arith) so_far.halved;
+      halved = halved-more _ _ _ (high - low) _ (omega arith) (omega arith) (omega arith) (omega arith) so_far.halved;
     }
 
 pub returns-clause-rank : goal.returns-clause-rank
 returns-clause-rank g c =
     narrowed_done c.args.rows.now c.args.target c.loop-low.low c.loop-low.high c.loop-low-test.false
     c.loop-low.invariant.narrowed
+
+pub returns-clause-least : goal.returns-clause-least
+returns-clause-least g c =
+    halved-least _ _ (c.loop-low.high - c.loop-low.low) (omega arith) c.loop-low.invariant.halved

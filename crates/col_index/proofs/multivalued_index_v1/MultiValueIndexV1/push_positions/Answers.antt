@@ -3,9 +3,8 @@ use Rattle.col_common.specs.Ascending.{differences}
 use Rattle.col_model.specs.Index.{multivalued_shape}
 use Rattle.col_model.specs.Positions.{values_in}
 use Rattle.col_index.specs.Offsets.{found_rows, positions_of, run}
-use Rattle.col_index.proofs.PushLemmas.{pushes-stopped, visited, visited-none}
+use Rattle.col_index.proofs.PushLemmas.{pushes-stopped_later, visited, visited-none}
 use Rattle.col_index.proofs.RangeLaws.{range-values}
-use Rattle.col_index.proofs.SetLemmas.{begins_later}
 use Rattle.col_index.proofs.multivalued_index_v1.MultiValueIndexV1.push_positions.Goals as goal
 
 pub loop-doc-init : goal.loop-doc-init
@@ -16,9 +15,7 @@ loop-doc-init c = record {
 
 pub returns-in_err-push_run : goal.returns-in_err-push_run
 returns-in_err-push_run c =
-    pushes-stopped _ c.from_residual.result c.from_residual.ensures.1
-    (begins_later _ _ _ _ c.loop-doc.invariant.docs c.in_err-push_run.ensures.err.0)
-    (begins_later _ _ _ _ c.loop-doc.invariant.rows c.in_err-push_run.ensures.err.1)
+    pushes-stopped_later _ _ _ c.from_residual.ensures.1 c.loop-doc.invariant.docs c.loop-doc.invariant.rows c.in_err-push_run.ensures.err
 
 pub loop-doc-preserved : goal.loop-doc-preserved
 loop-doc-preserved c =

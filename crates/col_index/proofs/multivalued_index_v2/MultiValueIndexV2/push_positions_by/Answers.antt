@@ -6,8 +6,7 @@ use Rattle.col_model.proofs.ItemLaws.{only_if-some, only_if-none}
 use Rattle.col_index.specs.Offsets.{AreOffsets, found_rows, positions_of, run}
 use Rattle.col_index.specs.Places.{IsPlaceOfTarget}
 use Rattle.col_index.specs.Sets.{holds}
-use Rattle.col_index.proofs.PushLemmas.{pushes-stopped, visited, visited-free, visited-none}
-use Rattle.col_index.proofs.SetLemmas.{begins_later}
+use Rattle.col_index.proofs.PushLemmas.{pushes-stopped_later, visited, visited-free, visited-none}
 use Rattle.col_index.proofs.ValueLemmas.{values-free, values-held, held-inside}
 use Rattle.col_index.proofs.multivalued_index_v2.MultiValueIndexV2.push_positions_by.Goals as goal
 
@@ -47,9 +46,7 @@ range_at-positions-requires c =
 
 pub returns-in_err-push_run : goal.returns-in_err-push_run
 returns-in_err-push_run c =
-    pushes-stopped _ c.from_residual.result c.from_residual.ensures.1
-    (begins_later _ _ _ _ c.loop-doc.invariant.docs c.in_err-push_run.ensures.err.0)
-    (begins_later _ _ _ _ c.loop-doc.invariant.rows c.in_err-push_run.ensures.err.1)
+    pushes-stopped_later _ _ _ c.from_residual.ensures.1 c.loop-doc.invariant.docs c.loop-doc.invariant.rows c.in_err-push_run.ensures.err
 
 pub loop-doc-preserved : goal.loop-doc-preserved
 loop-doc-preserved c =

@@ -1,21 +1,13 @@
-use Rattle.std.proofs.Common.{take, get_or}
+use Rattle.std.proofs.Common.{get_or}
 use Rattle.col_model.specs.Positions.{rank}
 use Rattle.col_model.proofs.ItemLaws.{only_if-some}
-use Rattle.col_index.specs.Sets.{holds, held, held_ranks}
-use Rattle.col_index.proofs.PushLemmas.{pushes-stopped, held-pushed, rank-pushed}
-use Rattle.col_index.proofs.SetLemmas.{begins_later}
+use Rattle.col_index.specs.Sets.{holds}
+use Rattle.col_index.proofs.PushLemmas.{pushes-stopped_later, held-pushed, rank-pushed}
 use Rattle.col_index.proofs.optional_index.OptionalIndex.push_ranks_by.Goals as goal
 
 pub returns-in_err-push_pair : goal.returns-in_err-push_pair
 returns-in_err-push_pair c =
-    let rows = c.args.self.now.rows in
-    let front = take c.loop-doc.doc-index c.args.docs.now in
-    let told = c.in_err-push_pair.ensures.err in
-    pushes-stopped _ c.from_residual.result c.from_residual.ensures.1
-    (begins_later c.loop-doc.docs_out.items c.push_pair.new.docs_out.items c.args.docs_out.now.items
-    (held rows front) c.loop-doc.invariant.docs told.0)
-    (begins_later c.loop-doc.rows_out.items c.push_pair.new.rows_out.items c.args.rows_out.now.items
-    (held_ranks rows front) c.loop-doc.invariant.rows told.1)
+    pushes-stopped_later _ _ _ c.from_residual.ensures.1 c.loop-doc.invariant.docs c.loop-doc.invariant.rows c.in_err-push_pair.ensures.err
 
 pub loop-doc-preserved : goal.loop-doc-preserved
 loop-doc-preserved c =
