@@ -51,7 +51,7 @@ fn opens<F: FileHandle>(
         Ok(_) => Ok(true),
         Err(ColumnarError::InvalidData) => Ok(false),
         Err(ColumnarError::ReadFault) => Err(ColumnarError::ReadFault),
-        // Nothing else is left than want of memory.
-        Err(_) => Err(ColumnarError::OutOfMemory),
+        Err(ColumnarError::OutOfMemory) => Err(ColumnarError::OutOfMemory),
+        Err(_) => unreachable!(),
     }
 }

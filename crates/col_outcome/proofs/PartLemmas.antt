@@ -14,7 +14,7 @@ use Rattle.col_outcome.specs.Parts.{given, handed_in, is_given, is_above_zero, g
 keeps-itself : (f : SeenFile) → KeepsFile f f
 keeps-itself f = record { told = refl; size = refl; later = omega arith; mark = refl }
 
-keeps-then : (f g h : SeenFile) → KeepsFile f g → KeepsFile g h → KeepsFile f h
+pub keeps-then : (f g h : SeenFile) → KeepsFile f g → KeepsFile g h → KeepsFile f h
 keeps-then f g h a b =
     record {
       told = b.told ∙ a.told;

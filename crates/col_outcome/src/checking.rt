@@ -1,5 +1,8 @@
 //! A check of an input.
-ghost use Rattle.std.specs.Prelude.{◌≡◌, map, vec_len};
+ghost use Rattle.std.specs.Prelude.{◌≡◌, length, map, vec_len};
+ghost use Rattle.col_file.specs.Files.{AnswersForHandle, ReadsFile};
+ghost use Rattle.col_model.specs.Check.{check_report};
+ghost use Rattle.col_model.specs.File.{parts_of};
 ghost use Rattle.col_outcome.specs.Checking.{ChecksFile, ChecksInput};
 
 use col_common::{ColumnarError, FileHandle};
@@ -38,7 +41,9 @@ fn check_opened<H: FileHandle>(
     alloc: Global,
     reader: ColumnarReader<H>,
 ) -> (H, Result<Vec<u8>, ColumnarError>)
-    ensures { ChecksFile reader.file (H.seen result.0) result.1 }
+    ensures answer { AnswersForHandle (λ p report. report.items ≡ check_report p)
+        reader.file (H.seen result.0) result.1 parts_of }
+    ensures reads { ReadsFile (length reader.keys.entries) reader.file (H.seen result.0) }
 {
     let mut reader = reader;
     let report = report_on_check(alloc, &mut reader);

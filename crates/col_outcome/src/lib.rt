@@ -1,5 +1,5 @@
-//! What a script and inputs come to: one merged file, and a report on it; and a report on a check of
-//! one input. Contracts see what the definitions make of them.
+//! What a script and inputs come to: one merged file, and a report on it; and a report on a check
+//! of one input. Contracts see what the definitions make of them.
 #![tactic(auto)]
 
 mod checking;

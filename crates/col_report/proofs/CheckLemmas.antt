@@ -1,10 +1,11 @@
 -- The lines of entries of which it is told whether they are columns.
 use Rattle.std.proofs.Common.{◌≡◌, ◌∙◌, ℕ, zero, suc, ◌+◌, ◌<◌, Bool, List, [], ◌∷◌, ◌++◌, map, length, take, get_or, Option, Some, None, IfSome, refl, sym, ap, subst, arith}
 use Rattle.serde_json.specs.Data.{Data}
-use Rattle.col_report.specs.Check.{entry_line, check_report}
+use Rattle.col_model.specs.Check.{entry_line, check_report}
 use Rattle.col_model.specs.File.{part_column, parts_of}
 use Rattle.col_model.specs.Keys.{Entry, FileKeys, keys}
 use Rattle.col_model.specs.Report.{rows_line, lines_text, Prints}
+use Rattle.col_model.proofs.FileLaws.{parts_of-keys}
 use Rattle.col_model.proofs.ReportLaws.{Prints-then}
 use Rattle.col_file.specs.Checks.{is_column}
 use Rattle.col_file.specs.Files.{IsExpected}
@@ -51,12 +52,6 @@ lines-of_entries : (bytes : List ℕ) (k : FileKeys) (es : List Entry)
 lines-of_entries bytes k [] = refl
 lines-of_entries bytes k (e ∷ es) = ap (λ ds. told_line (listed e) (is_column bytes k e) ∷ ds) (lines-of_entries bytes k es)
 
--- a file that ends so has the part of these entries
-part-is : (bytes : List ℕ) (k : FileKeys) → keys bytes ≡ Some k
-    → parts_of bytes ≡ Some (record { row_count = k.row_count; columns = map (part_column bytes k) k.entries })
-unfolding parts_of
-part-is bytes k e = rw e refl
-
 -- lines of a row count, and of entries behind it, are those of a report
 pub entries-printed : (a b c : List ℕ) (n : ℕ) (line : Data) (ps qs : List (List ℕ × Handle)) (told : List Bool)
     → a ≡ [] → line ≡ rows_line n → qs ≡ ps → Prints a b (line ∷ []) → Prints b c (told_lines qs told)
@@ -89,5 +84,5 @@ pub report-checked : {A : Type 0} (items : A → List ℕ) (made : A) (told : Op
     → IfSome told (λ bytes. IsExpected (λ p v. items v ≡ check_report p) made (parts_of bytes))
 report-checked items made None k whole read are printed = tt
 report-checked items made (Some bytes) k whole read are printed =
-    subst (IsExpected (λ p v. items v ≡ check_report p) made) (sym (part-is bytes k read))
+    subst (IsExpected (λ p v. items v ≡ check_report p) made) (sym (parts_of-keys bytes k read))
     (report-is bytes k whole (items made) are printed)

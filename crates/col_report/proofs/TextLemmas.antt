@@ -26,14 +26,14 @@ pub integer_spelled : (a b : List ℕ) (z : ℤ) → b ≡ a ++ signed_decimal z
 unfolding Spells
 integer_spelled a b z e = e ∙ ap (λ s. a ++ s) (sym (integer-text z))
 
--- a flag
-pub true_spelled : (a b : List ℕ) (v : Bool) → v ≡ true → b ≡ a ++ codes "true" → Spells a b (cell_data types.bool (bool_cell v))
+-- a flag that is set, and one that isn't
+pub true_is : (a b : List ℕ) (v : Bool) → v ≡ true → b ≡ a ++ codes "true" → Spells a b (cell_data types.bool (bool_cell v))
 unfolding Spells
-true_spelled a b v is e = rw is e
+true_is a b v is e = rw is e
 
-pub false_spelled : (a b : List ℕ) (v : Bool) → v ≡ false → b ≡ a ++ codes "false" → Spells a b (cell_data types.bool (bool_cell v))
+pub false_is : (a b : List ℕ) (v : Bool) → v ≡ false → b ≡ a ++ codes "false" → Spells a b (cell_data types.bool (bool_cell v))
 unfolding Spells
-false_spelled a b v is e = rw is e
+false_is a b v is e = rw is e
 
 -- an address, by its octets
 pub octets-spelled : {E : Type 0} (r : Result (Unit {0}) E) (a b octets : List ℕ) (m n : ℕ) → m ≡ n

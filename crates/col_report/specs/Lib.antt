@@ -2,4 +2,3 @@ pub mod Printed
 pub mod Reported
 pub mod Opened
 pub mod Checked
-pub mod Check

@@ -68,7 +68,7 @@ impl PrintCells<bool> for PlainCells {
     ghost cell = { λ _. bool_cell };
 
     #[inline]
-    #[tactic(auto, using(crate::proofs::TextLemmas::true_spelled, crate::proofs::TextLemmas::false_spelled))]
+    #[tactic(auto, using(crate::proofs::TextLemmas::true_is, crate::proofs::TextLemmas::false_is))]
     fn push(&self, _alloc: Global, value: bool, out: &mut Vec<u8>) -> Result<(), AllocError> {
         if value {
             out.extend_from_slice(b"true")?;

@@ -1,9 +1,9 @@
 //! Reports on checks of files.
-ghost use Rattle.std.specs.Prelude.{◌≡◌, ◌⊎◌, ◌∷◌, [], length, map, string_bytes, IfOk, IfErr, OnOk};
+ghost use Rattle.std.specs.Prelude.{◌≡◌, ◌⊎◌, ◌∷◌, [], length, map, IfOk, IfErr, OnOk};
 ghost use Rattle.serde_json.specs.View.{view};
 ghost use Rattle.col_file.specs.Files.{AnswersForHandle};
 ghost use Rattle.col_file.specs.Readers.{Reads};
-ghost use Rattle.col_report.specs.Check.{check_report};
+ghost use Rattle.col_model.specs.Check.{check_report};
 ghost use Rattle.col_model.specs.File.{parts_of};
 ghost use Rattle.col_model.specs.Report.{Prints};
 ghost use Rattle.col_report.specs.Checked.{listed_name, lines_told, told_line, told_lines};

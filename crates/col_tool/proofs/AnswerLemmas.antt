@@ -3,7 +3,7 @@ use Rattle.std.proofs.Common.{◌≡◌, ◌==◌, ◌∙◌, ℕ, Option, Some,
 use Rattle.std.specs.Prelude.{◌||◌}
 use Rattle.col_common.specs.Outside.{Told, SeenFile, SeenSink}
 use Rattle.col_model.specs.GenScript.{gen_script}
-use Rattle.col_tool.specs.Outcome.{Outcome, script_outcome}
+use Rattle.col_model.specs.Outcome.{Outcome, script_outcome}
 use Rattle.col_model.specs.Script as scripts
 use Rattle.col_model.specs.Script.{script_of}
 use Rattle.col_script.specs.Scripts.{IsScript, IsScriptOf}

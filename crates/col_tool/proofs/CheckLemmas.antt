@@ -1,6 +1,7 @@
 -- What the answer to a check leaves.
-use Rattle.std.proofs.Common.{◌≡◌, ◌==◌, ◌⊎◌, ℕ, List, [], ◌∷◌, ◌++◌, Option, Some, None, option_map, Ok, Err, IfSome, Contains, inl, inr, refl, sym, ap, subst, append-nil, arith}
-use Rattle.col_common.specs.Outside.{SeenFile, SeenSink, Appends, AppendsNothing}
+use Rattle.std.proofs.Common.{◌≡◌, ◌⊎◌, ℕ, List, [], ◌∷◌, ◌++◌, Option, Some, None, option_map, Ok, Err, IfSome, Contains, inl, inr, refl, sym, ap, subst, append-nil, arith}
+use Rattle.std.specs.List.{AllZip}
+use Rattle.col_common.specs.Outside.{SeenFile, SeenSink, Appends}
 use Rattle.col_common.specs.Refused.{code_of}
 use Rattle.col_common.specs.declared.error.ColumnarError.{ColumnarError}
 use Rattle.col_common.specs.declared.error.ColumnarError.TheVariants.{OutOfMemory, ReadFault, InvalidData}
@@ -8,10 +9,10 @@ use Rattle.std.specs.declared.alloc.Global.{Global}
 use Rattle.std.specs.declared.vec.Vec.{Vec}
 use Rattle.col_common.specs.Reading.{◌>>=◌}
 use Rattle.col_file.specs.Files.{RefusesFile, IsExpected}
-use Rattle.col_report.specs.Check.{check_report}
+use Rattle.col_model.specs.Check.{check_report}
 use Rattle.col_model.specs.File.{Part, parts_of}
-use Rattle.col_tool.specs.Outcome.{Outcome, refused, checked, outcome_of_check}
-use Rattle.col_outcome.specs.Checking.{Report, ChecksInput}
+use Rattle.col_model.specs.Outcome.{checked, outcome_of_check}
+use Rattle.col_outcome.specs.Checking.{Report, IsReadForCheck, ChecksInput}
 use Rattle.col_outcome.specs.Parts.{all_told, AllKeep, SomeFileRose}
 use Rattle.col_tool.specs.Answer.{refusals, IsAnswer, Leaves, KeepsOutputs, Delivers}
 use Rattle.col_tool.specs.Statuses.{check_statuses}
@@ -30,12 +31,14 @@ appends-none sink = by sink.written
     by (Some held) = ap Some (sym (append-nil held))
 
 -- nothing was written
-pub keeps-none : (output report report' : SeenSink) (status : ℕ) → AppendsNothing report report' → KeepsOutputs output output report report' status
-keeps-none output report report' status none = record {
+pub keeps-none : (output report : SeenSink) (status : ℕ) → KeepsOutputs output output report report status
+keeps-none output report status = record {
   output_grew = ([], appends-none output);
-  report_grew = ([], subst (λ o. o ≡ option_map (λ held. held ++ []) report.written) (sym none) (appends-none report));
-  no_report = λ e. none;
-  nothing = λ not_done memory fault. (refl, none);
+  report_grew = ([], appends-none report);
+  no_report = λ e. refl;
+  nothing = λ not_done memory fault. (refl, refl);
+  output_later = omega arith;
+  report_later = omega arith;
 }
 
 -- ---- the one input
@@ -143,3 +146,9 @@ check-rose olds news e c four =
 pub check-kept : (olds news : List SeenFile) (result : Report) → ChecksInput olds news result → AllKeep olds news
 check-kept olds news result c =
     subst (λ fs. AllKeep fs news) (sym c.before) (subst (λ fs. AllKeep (c.old ∷ []) fs) (sym c.behind) (c.checks.kept, tt))
+
+-- it is read no more often than a check takes
+pub check-reads : (olds news : List SeenFile) (result : Report) → ChecksInput olds news result → AllZip IsReadForCheck olds news
+check-reads olds news result c =
+    subst (λ fs. AllZip IsReadForCheck fs news) (sym c.before)
+    (subst (λ fs. AllZip IsReadForCheck (c.old ∷ []) fs) (sym c.behind) (c.checks.reads, tt))

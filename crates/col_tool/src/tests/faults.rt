@@ -34,9 +34,23 @@ const CASES: [([u64; 4], u8, usize, usize); 13] = [
     ([NEVER, NEVER, 0, 0], 5, 32, 0),
 ];
 
-fn left(alloc: Global, failing: [u64; 4]) -> Result<Left, AllocError> {
-    let input = Bytes::from_static(VERSION_1);
-    left_by(alloc, &["merge", "out", "in"], input, SCRIPT, failing)
+// The report of a check of the input.
+const CHECKED: &str = "[\"rows\",3]\n[\"entry\",\"a\",\"u64\",true]\n";
+
+// The same of a check, which reads no script and writes no file: the status, and how much of the
+// report.
+const CHECKS: [([u64; 4], u8, usize); 7] = [
+    ([0, NEVER, NEVER, NEVER], 4, 0),
+    ([1, NEVER, NEVER, NEVER], 4, 0),
+    ([2, NEVER, NEVER, NEVER], 4, 0),
+    ([4, NEVER, NEVER, NEVER], 0, 36),
+    ([NEVER, 0, 0, NEVER], 0, 36),
+    ([NEVER, NEVER, NEVER, 0], 5, 18),
+    ([NEVER, NEVER, NEVER, 1], 0, 36),
+];
+
+fn left(alloc: Global, words: &[&str], failing: [u64; 4]) -> Result<Left, AllocError> {
+    left_by(alloc, words, Bytes::from_static(VERSION_1), SCRIPT, failing)
 }
 
 // Whether bytes are so many of the first ones of others.
@@ -57,12 +71,26 @@ fn a_fault_leaves_what_was_written_before_and_hands_the_input_back(
     rt: HostRuntime,
 ) -> Result<(), Fail> {
     for (failing, status, file, report) in CASES {
-        let left = left(rt.alloc(), failing)?;
+        let left = left(rt.alloc(), &["merge", "out", "in"], failing)?;
         assert_eq!(rt; left.status, status, "{failing:?}");
         assert!(rt; is_handed_back(&left), "{failing:?}");
         let has_file = is_front(&left.output, FILE, file);
         let has_report = is_front(&left.report, REPORT.as_bytes(), report);
         assert!(rt; has_file && has_report, "{failing:?}");
+    }
+    Ok(())
+}
+
+#[test]
+fn a_fault_of_a_check_leaves_a_front_of_the_report_and_hands_the_input_back(
+    rt: HostRuntime,
+) -> Result<(), Fail> {
+    for (failing, status, report) in CHECKS {
+        let left = left(rt.alloc(), &["check", "in"], failing)?;
+        assert_eq!(rt; left.status, status, "{failing:?}");
+        assert!(rt; is_handed_back(&left), "{failing:?}");
+        let has_report = is_front(&left.report, CHECKED.as_bytes(), report);
+        assert!(rt; left.output.is_empty() && has_report, "{failing:?}");
     }
     Ok(())
 }
