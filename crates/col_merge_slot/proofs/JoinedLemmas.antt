@@ -174,6 +174,17 @@ some-shared : (ds : List Column) (u : types.ColumnType) → shared_type ds ≡ S
 some-shared [] u e = absurd (some≢none u (sym e))
 some-shared (d ∷ ds) u e = ne_eqb (suc (length ds)) 0 (λ f. omega (arith, f))
 
+own-at : (os : List (Option DynamicColumn)) (k : ℕ) (c : DynamicColumn) → AllByRecursion IsOwnIn os → get_or os k None ≡ Some c → IsOwn c
+own-at [] zero c all e = absurd (none-some c e)
+own-at [] (suc k) c all e = absurd (none-some c e)
+own-at (o ∷ os) zero c all e = subst IsOwnIn e all.0
+own-at (o ∷ os) (suc k) c all e = own-at os k c all.1 e
+
+-- each cell of a column that is kept is of the column's own type
+pub own-kept : (cols : List (Option DynamicColumn)) (flags : List Bool) → AllByRecursion IsOwnIn cols
+    → AllByRecursion IsOwn (kept_of cols flags)
+own-kept cols flags own = kept-each IsOwn cols flags (λ j c e. own-at cols j c own e)
+
 -- the type that is written, by what was wanted and by the columns
 abbrev pub IsTypedBy : Option types.ColumnType → List Column → types.ColumnType → Type 0
 IsTypedBy wanted ds u = (wanted ≡ Some u) ⊎ ((wanted ≡ None) × (shared_type ds ≡ Some u))
@@ -205,15 +216,6 @@ module _ (order : Order) (cols : List (Option DynamicColumn)) (flags : List Bool
   kept-within : AllByRecursion (IsOfCategory slot.category) (kept_of cols flags)
   kept-within = kept-category (counts_of order) cols (picks_of order) slot parts have counted named same opened flags
 
-  own-at : (os : List (Option DynamicColumn)) (k : ℕ) (c : DynamicColumn) → AllByRecursion IsOwnIn os → get_or os k None ≡ Some c → IsOwn c
-  own-at [] zero c all e = absurd (none-some c e)
-  own-at [] (suc k) c all e = absurd (none-some c e)
-  own-at (o ∷ os) zero c all e = subst IsOwnIn e all.0
-  own-at (o ∷ os) (suc k) c all e = own-at os k c all.1 e
-
-  owned : AllByRecursion IsOwn cs
-  owned = kept-each IsOwn cols flags (λ j c e. own-at cols j c own e)
-
   are : AreKept slot (picks_of order) parts (where_set cols flags)
   are =
       subst (λ fs. AreKept slot (picks_of order) parts (where_set cols fs)) (sym flags_are)
@@ -237,7 +239,8 @@ module _ (order : Order) (cols : List (Option DynamicColumn)) (flags : List Bool
   type-refused : (u : types.ColumnType) → IsTypedBy wanted ds u → list_all (is_read_as u) cs ≡ false
       → joined_type wanted ds ≡ Err cannot_coerce
   type-refused u (inl e) reads = ap (λ w. joined_type w ds) e ∙ wanted-type u ds false (sym (wanted-read u e) ∙ reads)
-  type-refused u (inr h) reads = absurd (true≢false (sym (shared-read slot.name slot.category cs u kept-within owned h.1).1 ∙ reads))
+  type-refused u (inr h) reads =
+      absurd (true≢false (sym (shared-read slot.name slot.category cs u kept-within (own-kept cols flags own) h.1).1 ∙ reads))
 
   abbrev expected : Result (Option Column) Refusal
   expected = joined_column order (picks_of order) parts required slot

@@ -8,6 +8,7 @@ mod KeptLemmas
 mod OwnLemmas
 mod PartLemmas
 mod SharedLemmas
+mod FitLemmas
 mod JoinedLemmas
 mod TextLemmas
 mod TextPartLemmas

@@ -171,6 +171,12 @@ pub taken : {A : Type 0} (left whole : List (Option A)) (flags : List Bool) (i :
 taken left whole flags i d h same =
     ap (λ o. if get_or flags i false then o else None) (next-left left whole i d h same) ∙ sym (set-at whole flags i)
 
+-- what a test says of it, it says of the column that is kept there
+pub tested-at : {A : Type 0} (test : Option A → Bool) (left whole : List (Option A)) (flags : List Bool) (i : ℕ)
+    (d : Option A) (b : Bool) → i < length whole → drop i left ≡ drop i whole
+    → b ≡ test (if get_or flags i false then get_or left i d else None) → test (get_or (where_set whole flags) i None) ≡ b
+tested-at test left whole flags i d b h same is = ap test (sym (taken left whole flags i d h same)) ∙ sym is
+
 -- taking it leaves those behind it
 pub left-behind : {A : Type 0} (left whole : List (Option A)) (i : ℕ) (o : Option A) → drop i left ≡ drop i whole
     → drop (i + 1) (set left i o) ≡ drop (i + 1) whole

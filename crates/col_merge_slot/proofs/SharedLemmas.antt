@@ -34,7 +34,7 @@ AreOfType t ds = AllByRecursion (λ d. list_all (is_of_type t) (all_cells d) ≡
 own-as : (d : Column) (t : ColumnType) → d.column_type ≡ t → HasOwnCells d → list_all (is_of_type t) (all_cells d) ≡ true
 own-as d t e own = ap (λ t. list_all (is_of_type t) (all_cells d)) (sym e) ∙ own
 
-are-i64 : (ds : List Column) → AreNumbers ds → AllByRecursion HasOwnCells ds → list_any high ds ≡ false → AreOfType types.i64 ds
+pub are-i64 : (ds : List Column) → AreNumbers ds → AllByRecursion HasOwnCells ds → list_any high ds ≡ false → AreOfType types.i64 ds
 are-i64 [] numbers own h = tt
 are-i64 (d ∷ ds) (an_i64 e, numbers) own h =
     (own-as d types.i64 e own.0, are-i64 ds numbers own.1 (or_parts (high d) (list_any high ds) h).1)
@@ -45,7 +45,7 @@ are-i64 (d ∷ ds) (a_u64 e, numbers) own h =
       are-i64 ds numbers own.1 parts.1,
     )
 
-are-u64 : (ds : List Column) → AreNumbers ds → AllByRecursion HasOwnCells ds → list_any low ds ≡ false → AreOfType types.u64 ds
+pub are-u64 : (ds : List Column) → AreNumbers ds → AllByRecursion HasOwnCells ds → list_any low ds ≡ false → AreOfType types.u64 ds
 are-u64 [] numbers own h = tt
 are-u64 (d ∷ ds) (a_u64 e, numbers) own h =
     (own-as d types.u64 e own.0, are-u64 ds numbers own.1 (or_parts (low d) (list_any low ds) h).1)
@@ -56,7 +56,7 @@ are-u64 (d ∷ ds) (an_i64 e, numbers) own h =
       are-u64 ds numbers own.1 parts.1,
     )
 
-only-u64 : (ds : List Column) → AreNumbers ds → AllByRecursion HasOwnCells ds → list_any is_i64 ds ≡ false → AreOfType types.u64 ds
+pub only-u64 : (ds : List Column) → AreNumbers ds → AllByRecursion HasOwnCells ds → list_any is_i64 ds ≡ false → AreOfType types.u64 ds
 only-u64 [] numbers own h = tt
 only-u64 (d ∷ ds) (a_u64 e, numbers) own h =
     (own-as d types.u64 e own.0, only-u64 ds numbers own.1 (or_parts (is_i64 d) (list_any is_i64 ds) h).1)

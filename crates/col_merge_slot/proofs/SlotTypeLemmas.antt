@@ -36,7 +36,7 @@ all-seen : (category : Category) (name : List ℕ) (cs : List DynamicColumn) →
 all-seen category name [] all = tt
 all-seen category name (c ∷ cs) all = (all.0, all-seen category name cs all.1)
 
-many : (t : ColumnType) → is_numerical t ≡ true → only_type (category_of t) ≡ None
+pub many : (t : ColumnType) → is_numerical t ≡ true → only_type (category_of t) ≡ None
 many types.i64 e = refl
 many types.u64 e = refl
 many types.bytes e = absurd (true≢false (sym e))

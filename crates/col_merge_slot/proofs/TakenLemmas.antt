@@ -43,35 +43,35 @@ taken-all whole flags left n were high =
     ∙ append-nil (not_kept whole flags)
 
 -- a refusal that is handed on leaves what it left
-pub takes-still : {A X : Type 0} (old : List (Option A)) (flags : List Bool) (new : List (Option A))
-    (result : Result X ColumnarError) (e : ColumnarError) → IsErrAnd result (λ f. f ≡ e) → LeavesFor old flags new e
-    → TakesKept old flags new result
-takes-still old flags new (Ok x) e is leaves = absurd is
-takes-still old flags new (Err f) e is leaves = subst (LeavesFor old flags new) (sym is) leaves
+pub takes-still : {A X : Type 0} (fits : A → Bool) (old : List (Option A)) (flags : List Bool) (new : List (Option A))
+    (result : Result X ColumnarError) (e : ColumnarError) → IsErrAnd result (λ f. f ≡ e) → LeavesFor fits old flags new e
+    → TakesKept fits old flags new result
+takes-still fits old flags new (Ok x) e is leaves = absurd is
+takes-still fits old flags new (Err f) e is leaves = subst (LeavesFor fits old flags new) (sym is) leaves
 
 -- where all were taken, what is left is left by each refusal that a column may meet
-leaves-all : {A : Type 0} (old : List (Option A)) (flags : List Bool) (new : List (Option A)) (e : ColumnarError)
-    → new ≡ not_kept old flags → (e ≡ OutOfMemory) ⊎ (e ≡ WriteFault) ⊎ (e ≡ TooLarge) → LeavesFor old flags new e
-leaves-all old flags new e all (inl is) = subst (LeavesFor old flags new) (sym is) (record {
+leaves-all : {A : Type 0} (fits : A → Bool) (old : List (Option A)) (flags : List Bool) (new : List (Option A)) (e : ColumnarError)
+    → new ≡ not_kept old flags → (e ≡ OutOfMemory) ⊎ (e ≡ WriteFault) ⊎ (e ≡ TooLarge) → LeavesFor fits old flags new e
+leaves-all fits old flags new e all (inl is) = subst (LeavesFor fits old flags new) (sym is) (record {
   count = length old;
   left = all ∙ sym (taken-all old flags (left_after (length old) old flags) (length old) refl (omega arith));
 })
-leaves-all old flags new e all (inr (inl is)) = subst (LeavesFor old flags new) (sym is) all
-leaves-all old flags new e all (inr (inr is)) = subst (LeavesFor old flags new) (sym is) all
+leaves-all fits old flags new e all (inr (inl is)) = subst (LeavesFor fits old flags new) (sym is) all
+leaves-all fits old flags new e all (inr (inr is)) = subst (LeavesFor fits old flags new) (sym is) all
 
 -- where all were taken, they are so whether the column is written or not
-pub takes-joined : {A : Type 0} (old : List (Option A)) (flags : List Bool) (new : List (Option A))
+pub takes-joined : {A : Type 0} (fits : A → Bool) (old : List (Option A)) (flags : List Bool) (new : List (Option A))
     (before after : SeenSink) (result : Result (Unit {0}) ColumnarError) (t : ColumnType) (n : ℕ) (content : Content)
-    → new ≡ not_kept old flags → JoinsColumn before after result t n content → TakesKept old flags new result
-takes-joined old flags new before after (Ok x) t n content all joins = all
-takes-joined old flags new before after (Err e) t n content all joins = by (is_too_large t content) refl
+    → new ≡ not_kept old flags → JoinsColumn before after result t n content → TakesKept fits old flags new result
+takes-joined fits old flags new before after (Ok x) t n content all joins = all
+takes-joined fits old flags new before after (Err e) t n content all joins = by (is_too_large t content) refl
   where
-    by : (b : Bool) → is_too_large t content ≡ b → LeavesFor old flags new e
-    by true large = leaves-all old flags new e all (elim (joins.too_large large).refused [
+    by : (b : Bool) → is_too_large t content ≡ b → LeavesFor fits old flags new e
+    by true large = leaves-all fits old flags new e all (elim (joins.too_large large).refused [
       | inl f ↦ inr (inr (same-error e TooLarge f))
       | inr f ↦ elim f [ inl g ↦ inl (same-error e OutOfMemory g) | inr g ↦ inr (inl (same-error e WriteFault g)) ]
     ])
-    by false small = leaves-all old flags new e all (elim (joins.written small).causes [
+    by false small = leaves-all fits old flags new e all (elim (joins.written small).causes [
       | inl f ↦ inl f
       | inr f ↦ inr (inl f)
     ])

@@ -1,6 +1,6 @@
 //! Writes the column that a merge makes of a slot.
-ghost use Rattle.std.specs.Prelude.{◌≡◌, length, option_map, true, false, if◌then◌else◌, Ok, Err, None, IfErr};
-ghost use Rattle.std.specs.List.{list_any};
+ghost use Rattle.std.specs.Prelude.{◌≡◌, length, option_map, true, false, if◌then◌else◌, Ok, Err, None, IfOk, IfErr, IfSome};
+ghost use Rattle.std.specs.List.{list_any, AllByRecursion};
 ghost use Rattle.col_common.specs.declared.error.ColumnarError.TheVariants as refusals;
 ghost use Rattle.col_model.specs.ColumnType as types;
 ghost use Rattle.col_order.specs.Orders.{counts_of, picks_of};
@@ -9,9 +9,9 @@ ghost use Rattle.col_types.specs.Kinds.{kind_of};
 ghost use Rattle.col_merge_column.specs.Limits.{HasNoCodes};
 ghost use Rattle.col_merge_column.specs.Slots.{AreNoTexts};
 ghost use Rattle.col_merge_slot.specs.JoinedSlots.{AreFlags, IsKeptType, WritesSlot, HasSlotCause, IsSlotJoined};
-ghost use Rattle.col_merge_slot.specs.Kept.{kept_flags};
-ghost use Rattle.col_merge_slot.specs.Segments.{where_set, kept_of, HaveRows};
-ghost use Rattle.col_merge_slot.specs.Taken.{TakesKept, TakesSlot};
+ghost use Rattle.col_merge_slot.specs.Kept.{kept_flags, IsOwn};
+ghost use Rattle.col_merge_slot.specs.Segments.{where_set, kept_of, is_read_as, HaveRows};
+ghost use Rattle.col_merge_slot.specs.Taken.{FitAs, TakesKept, TakesSlot};
 
 use crate::kept::kept_segments;
 use crate::texts::write_texts;
@@ -37,7 +37,7 @@ pub fn join_slot<K: Sink>(
     ensures causes { HasSlotCause (K.seen sink.old) (K.seen sink.new) result }
     ensures joined { IsSlotJoined (order_of merge_row_order.now) columns.old
         (option_map kind_of wanted) (K.seen sink.old) (K.seen sink.new) result }
-    ensures taken { TakesSlot columns.old
+    ensures taken { TakesSlot (option_map kind_of wanted) columns.old
         (kept_flags columns.old (picks_of (order_of merge_row_order.now))) columns.new result }
 {
     let kept = kept_segments(alloc, columns, merge_row_order)?;
@@ -59,7 +59,7 @@ fn join_kept<K: Sink>(
     ensures causes { HasSlotCause (K.seen sink.old) (K.seen sink.new) result }
     ensures joined { IsSlotJoined (order_of merge_row_order.now) columns.old
         (option_map kind_of wanted) (K.seen sink.old) (K.seen sink.new) result }
-    ensures taken { TakesSlot columns.old kept.now columns.new result }
+    ensures taken { TakesSlot (option_map kind_of wanted) columns.old kept.now columns.new result }
 {
     columns_are_counted(columns);
     cells_are_told(columns);
@@ -80,6 +80,9 @@ fn joined_type(
 ) -> Result<Option<ColumnType>, ColumnarError>
     requires { AreFlags kept.now columns.now }
     ensures joined { IsKeptType (option_map kind_of wanted) (kept_of columns.now kept.now) result }
+    ensures fits { AllByRecursion IsOwn (kept_of columns.now kept.now) →
+        IfOk result (λ found. IfSome found (λ t.
+        FitAs (kind_of t) (option_map kind_of wanted) (kept_of columns.now kept.now))) }
     ensures err { IfErr result (λ e. e ≡ refusals.NumericalConflict) }
 {
     match wanted {
@@ -95,6 +98,9 @@ fn kept_type(
 ) -> Result<Option<ColumnType>, ColumnarError>
     requires { AreFlags kept.now columns.now }
     ensures joined { IsKeptType None (kept_of columns.now kept.now) result }
+    ensures fits { AllByRecursion IsOwn (kept_of columns.now kept.now) →
+        IfOk result (λ found. IfSome found (λ t.
+        FitAs (kind_of t) None (kept_of columns.now kept.now))) }
     ensures err { IfErr result (λ e. e ≡ refusals.NumericalConflict) }
 {
     match slot_type(columns, kept) {
@@ -140,7 +146,8 @@ fn write_slot<K: Sink>(
     ensures written { WritesSlot (order_of merge_row_order.now)
         (where_set columns.old kept.now) (kind_of column_type) (K.seen sink.old) (K.seen sink.new)
         result }
-    ensures taken { TakesKept columns.old kept.now columns.new result }
+    ensures taken { TakesKept (is_read_as (kind_of column_type)) columns.old kept.now columns.new
+        result }
 {
     match column_type {
         ColumnType::I64 => write_numbers::<i64, K>(alloc, columns, kept, merge_row_order, sink),
@@ -172,7 +179,7 @@ where
     requires numbers { AreNoTexts T.cell }
     ensures written { WritesSlot (order_of merge_row_order.now)
         (where_set columns.old kept.now) T.kind (K.seen sink.old) (K.seen sink.new) result }
-    ensures taken { TakesKept columns.old kept.now columns.new result }
+    ensures taken { TakesKept (is_read_as T.kind) columns.old kept.now columns.new result }
 {
     orders_are_picks(merge_row_order);
     picked_content_is_joined::<T>();
@@ -192,7 +199,7 @@ fn write_addresses<K: Sink>(
     requires flags { length kept.now ≡ length columns.old }
     ensures written { WritesSlot (order_of merge_row_order.now)
         (where_set columns.old kept.now) types.ip (K.seen sink.old) (K.seen sink.new) result }
-    ensures taken { TakesKept columns.old kept.now columns.new result }
+    ensures taken { TakesKept (is_read_as types.ip) columns.old kept.now columns.new result }
 {
     orders_are_picks(merge_row_order);
     picked_content_is_joined::<u64>();

@@ -55,7 +55,7 @@ pub fn segment_parts<V: SegmentValues>(
         (counts_of (order_of merge_row_order.now)) (where_set columns.old kept.now)
         (map shape_of r.0.items) r.1.items) }
     ensures err { IfErr result (IsRefusedFor V.kind (kept_of columns.old kept.now)) }
-    ensures taken { TakesKept columns.old kept.now columns.new result }
+    ensures taken { TakesKept (is_read_as V.kind) columns.old kept.now columns.new result }
 {
     let mut indexes = Vec::with_capacity(alloc, columns.len())?;
     let mut values = Vec::with_capacity(alloc, columns.len())?;

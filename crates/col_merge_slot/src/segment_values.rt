@@ -123,7 +123,7 @@ pub fn segment_numbers<T: FromDynamic>(
         (counts_of (order_of merge_row_order.now)) (where_set columns.old kept.now)
         (columns_by (map shape_of r.0.items) (map num_values_of r.1.items))) }
     ensures err { IfErr result (IsRefusedFor T.kind (kept_of columns.old kept.now)) }
-    ensures taken { TakesKept columns.old kept.now columns.new result }
+    ensures taken { TakesKept (is_read_as T.kind) columns.old kept.now columns.new result }
 {
     segment_parts::<NumValues<T>>(alloc, columns, kept, merge_row_order)
 }
@@ -141,7 +141,7 @@ pub fn segment_addresses(
         (counts_of (order_of merge_row_order.now)) (where_set columns.old kept.now)
         (columns_by (map shape_of r.0.items) (map ip_values_of r.1.items))) }
     ensures err { IfErr result (IsRefusedFor types.ip (kept_of columns.old kept.now)) }
-    ensures taken { TakesKept columns.old kept.now columns.new result }
+    ensures taken { TakesKept (is_read_as types.ip) columns.old kept.now columns.new result }
 {
     segment_parts::<IpValues>(alloc, columns, kept, merge_row_order)
 }

@@ -1,5 +1,5 @@
 //! The type of the column that a merge makes of one name and category.
-ghost use Rattle.std.specs.Prelude.{◌≡◌, List, ℕ, ◌<◌, ◌||◌, map, length, slice_get, slice_index, slice_index_or, option_map, None};
+ghost use Rattle.std.specs.Prelude.{◌≡◌, List, ℕ, ◌<◌, ◌||◌, map, length, slice_get, slice_index, slice_index_or, option_map, None, IfSome};
 ghost use Rattle.std.specs.List.{AllByRecursion};
 ghost use Rattle.col_model.specs.Category.{Category};
 ghost use Rattle.col_model.specs.ColumnType.{is_numerical};
@@ -8,8 +8,10 @@ ghost use Rattle.col_types.specs.Kinds.{kind_of};
 ghost use Rattle.col_values.specs.Values.{passes};
 ghost use Rattle.col_dynamic.specs.Dynamic.{type_of};
 ghost use Rattle.col_dynamic.specs.declared.dynamic_column.DynamicColumn.TheVariants as columns;
+ghost use Rattle.col_merge_slot.specs.Kept.{IsOwn};
 ghost use Rattle.col_merge_slot.specs.Segments.{where_set, kept_of, column_seen, IsOfCategory};
 ghost use Rattle.col_merge_slot.specs.SlotTypes.{HaveSeen, is_signed, is_low, is_high, type_seen};
+ghost use Rattle.col_merge_slot.specs.Taken.{FitAs};
 
 use col_dynamic::{ColumnType, DynamicColumn, NumColumn};
 
@@ -17,10 +19,12 @@ use col_dynamic::{ColumnType, DynamicColumn, NumColumn};
 /// numbers; none where there is no such column or no such type.
 pub fn slot_type(columns: &[Option<DynamicColumn>], kept: &[bool]) -> Option<ColumnType>
     requires { length kept.now ≡ length columns.now }
-    ensures { (category : Category) (name : List ℕ) →
+    ensures shared { (category : Category) (name : List ℕ) →
         AllByRecursion (IsOfCategory category) (kept_of columns.now kept.now) →
         option_map kind_of result
         ≡ shared_type (map (column_seen name) (kept_of columns.now kept.now)) }
+    ensures fits { AllByRecursion IsOwn (kept_of columns.now kept.now) →
+        IfSome result (λ t. FitAs (kind_of t) None (kept_of columns.now kept.now)) }
 {
     let first = first_type(columns, kept)?;
     if !is_numerical(first) {

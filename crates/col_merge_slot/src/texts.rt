@@ -32,7 +32,8 @@ pub(crate) fn write_texts<K: Sink>(
     ensures written { WritesSlot (order_of merge_row_order.now)
         (where_set columns.old kept.now) (text_type is_text) (K.seen sink.old) (K.seen sink.new)
         result }
-    ensures taken { TakesKept columns.old kept.now columns.new result }
+    ensures taken { TakesKept (is_read_as (text_type is_text)) columns.old kept.now columns.new
+        result }
 {
     orders_are_picks(merge_row_order);
     let texts = segment_texts(alloc, columns, kept, is_text, merge_row_order)?;
@@ -56,7 +57,8 @@ fn segment_texts(
         (counts_of (order_of merge_row_order.now)) (where_set columns.old kept.now) texts.items) }
     ensures err { IfErr result
         (IsRefusedFor (text_type is_text) (kept_of columns.old kept.now)) }
-    ensures taken { TakesKept columns.old kept.now columns.new result }
+    ensures taken { TakesKept (is_read_as (text_type is_text)) columns.old kept.now columns.new
+        result }
 {
     let mut texts = Vec::with_capacity(alloc, columns.len())?;
     for segment in 0..columns.len() {

@@ -6,6 +6,8 @@ mod file;
 #[cfg(test)]
 mod merge;
 #[cfg(test)]
+mod refused;
+#[cfg(test)]
 mod report;
 #[cfg(test)]
 mod script;

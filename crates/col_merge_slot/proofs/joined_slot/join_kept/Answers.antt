@@ -1,12 +1,14 @@
-use Rattle.std.proofs.Common.{option_map, Ok, refl, subst}
+use Rattle.std.proofs.Common.{option_map, IfSome, Ok, refl, subst}
 use Rattle.std.proofs.lemmas.Result.{err_from_is_err_and}
 use Rattle.col_order.specs.Orders.{picks_of}
 use Rattle.col_order.specs.RowOrders.{order_of}
 use Rattle.col_types.specs.Kinds.{kind_of}
 use Rattle.col_merge_slot.specs.JoinedSlots.{IsKeptType}
-use Rattle.col_merge_slot.specs.Segments.{where_set, kept_of}
+use Rattle.col_merge_slot.specs.Segments.{where_set, kept_of, is_read_as}
+use Rattle.col_merge_slot.specs.Taken.{FitAs, fits_slot}
 use Rattle.col_merge_slot.proofs.CauseLemmas.{slot-cause}
-use Rattle.col_merge_slot.proofs.JoinedLemmas.{are-flags, slot-none, slot-conflict, slot-refused, slot-made}
+use Rattle.col_merge_slot.proofs.FitLemmas.{leaves-like}
+use Rattle.col_merge_slot.proofs.JoinedLemmas.{own-kept, are-flags, slot-none, slot-conflict, slot-refused, slot-made}
 use Rattle.col_merge_slot.proofs.joined_slot.join_kept.Goals as goal
 
 pub joined_type-requires : goal.joined_type-requires
@@ -64,8 +66,15 @@ returns-in_err-column_type-clause-taken g c =
 
 pub returns-in_err-write_slot-clause-taken : goal.returns-in_err-write_slot-clause-taken
 returns-in_err-write_slot-clause-taken g c =
+    let columns = c.args.columns.now in
+    let flags = c.args.kept.now in
     let p = err_from_is_err_and c.from_residual-in_err-write_slot.result c.from_residual-in_err-write_slot.ensures.1 in
-    rw (p.1, p.2) c.in_err-write_slot.ensures.taken
+    let fit = c.in_ok-column_type.ensures.fits (own-kept columns flags c.cells_are_told.ensures) in
+    rw (p.1, p.2) (leaves-like (is_read_as (kind_of c.in-Some.column_type))
+    (fits_slot (option_map kind_of c.args.wanted) (kept_of columns flags)) columns flags c.write_slot.new.columns
+    c.in_err-write_slot.field-0.0
+    (subst (λ found. IfSome found (λ t. FitAs (kind_of t) (option_map kind_of c.args.wanted) (kept_of columns flags)))
+    c.in-Some.is fit) c.in_err-write_slot.ensures.taken)
 
 -- ---- why it isn't joined
 

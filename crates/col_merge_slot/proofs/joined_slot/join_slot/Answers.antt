@@ -1,5 +1,6 @@
-use Rattle.std.proofs.Common.{refl, subst, ◌∙◌}
+use Rattle.std.proofs.Common.{refl, subst, ◌∙◌, option_map}
 use Rattle.std.proofs.lemmas.Result.{err_from_is_err_and}
+use Rattle.col_types.specs.Kinds.{kind_of}
 use Rattle.col_merge_slot.specs.Taken.{TakesSlot}
 use Rattle.col_merge_slot.proofs.joined_slot.join_slot.Goals as goal
 
@@ -10,5 +11,5 @@ returns-in_err-kept-clause-taken g c =
 
 pub returns-clause-taken : goal.returns-clause-taken
 returns-clause-taken g c =
-    subst (λ flags. TakesSlot c.args.columns.now flags c.join_kept.new.columns c.join_kept.result)
+    subst (λ flags. TakesSlot (option_map kind_of c.args.wanted) c.args.columns.now flags c.join_kept.new.columns c.join_kept.result)
     (c.deref.ensures.value ∙ c.in_ok-kept.ensures) c.join_kept.ensures.taken

@@ -22,8 +22,8 @@ returns-clause-written g c =
 
 pub returns-in_err-indexes-clause-taken : goal.returns-in_err-indexes-clause-taken
 returns-in_err-indexes-clause-taken g c =
-    takes-still c.args.columns.now c.args.kept.now _ _ _ c.from_residual.ensures.1 c.in_err-indexes.ensures.taken
+    takes-still _ c.args.columns.now c.args.kept.now _ _ _ c.from_residual.ensures.1 c.in_err-indexes.ensures.taken
 
 pub returns-clause-taken : goal.returns-clause-taken
 returns-clause-taken g c =
-    takes-joined c.args.columns.now c.args.kept.now _ _ _ _ _ _ _ c.in_ok-indexes.ensures.taken c.join_addresses.ensures
+    takes-joined _ c.args.columns.now c.args.kept.now _ _ _ _ _ _ _ c.in_ok-indexes.ensures.taken c.join_addresses.ensures

@@ -1,4 +1,4 @@
-use Rattle.std.proofs.Common.{◌+◌, ◌∙◌, inr, map, [], ◌∷◌, refl, sym, ap, arith}
+use Rattle.std.proofs.Common.{◌+◌, ◌∙◌, false, inr, map, [], ◌∷◌, refl, sym, ap, arith}
 use Rattle.std.proofs.lemmas.List.{map-append}
 use Rattle.std.proofs.lemmas.Result.{err_from_is_err_and}
 use Rattle.col_index.specs.Indexes.{shape_of}
@@ -6,7 +6,7 @@ use Rattle.col_order.specs.Orders.{counts_of}
 use Rattle.col_order.specs.RowOrders.{order_of}
 use Rattle.col_merge_slot.specs.Segments.{where_set, is_none_or, is_read_as}
 use Rattle.col_merge_slot.proofs.TakenLemmas.{taken-more, taken-all}
-use Rattle.col_merge_slot.proofs.SegmentLemmas.{length-set, taken, rows-of, left-behind, one-more, not-read, all-parts}
+use Rattle.col_merge_slot.proofs.SegmentLemmas.{length-set, taken, tested-at, rows-of, left-behind, one-more, not-read, all-parts}
 use Rattle.col_merge_slot.proofs.segment_parts.segment_parts.Goals as goal
 
 pub part_at-requires : goal.part_at-requires
@@ -20,15 +20,14 @@ returns-in_default-clause-err g c =
     let columns = c.args.columns.now in
     let flags = c.args.kept.now in
     let i = c.loop-segment.segment in
-    let here = taken c.loop-segment.columns columns flags i c.index-columns-segment.result
-    (omega (arith, c.loop-segment-test.true)) c.loop-segment.invariant.left in
-    let test = is_none_or (is_read_as g.V.SegmentValues.kind) in
     inr (
       refl,
       not-read g.V.SegmentValues.kind g.V.SegmentValues.count g.V.SegmentValues.content
           (counts_of (order_of c.args.merge_row_order.now)) (where_set columns flags) i
           (omega (arith, length-set columns flags, c.loop-segment-test.true))
-          (ap test (sym here) ∙ sym c.in_default.ensures.read),
+          (tested-at (is_none_or (is_read_as g.V.SegmentValues.kind)) c.loop-segment.columns columns flags i
+          c.index-columns-segment.result false (omega (arith, c.loop-segment-test.true)) c.loop-segment.invariant.left
+          c.in_default.ensures.read),
     )
 
 pub loop-segment-preserved : goal.loop-segment-preserved
@@ -70,11 +69,18 @@ returns-clause-ok g c =
 
 pub returns-in_default-clause-taken : goal.returns-in_default-clause-taken
 returns-in_default-clause-taken g c =
+    let columns = c.args.columns.now in
+    let flags = c.args.kept.now in
     let i = c.loop-segment.segment in
     record {
-      count = i + 1;
+      place = i;
+      before = c.loop-segment.invariant.parts.read;
+      unfit =
+          tested-at (is_none_or (is_read_as g.V.SegmentValues.kind)) c.loop-segment.columns columns flags i
+          c.index-columns-segment.result false (omega (arith, c.loop-segment-test.true))
+          c.loop-segment.invariant.left c.in_default.ensures.read;
       left =
-          taken-more c.loop-segment.columns c.args.columns.now c.args.kept.now i c.index-columns-segment.result c.part_at.new.column
+          taken-more c.loop-segment.columns columns flags i c.index-columns-segment.result c.part_at.new.column
           (omega (arith, c.loop-segment-test.true)) c.requires.flags c.loop-segment.invariant.left
           c.loop-segment.invariant.taken c.in_default.ensures.taken;
     }

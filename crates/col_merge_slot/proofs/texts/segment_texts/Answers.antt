@@ -1,11 +1,11 @@
-use Rattle.std.proofs.Common.{◌+◌, ◌∙◌, inr, refl, sym, ap, arith}
+use Rattle.std.proofs.Common.{◌+◌, ◌∙◌, false, inr, refl, sym, ap, arith}
 use Rattle.std.proofs.lemmas.Result.{err_from_is_err_and}
 use Rattle.col_order.specs.Orders.{counts_of}
 use Rattle.col_order.specs.RowOrders.{order_of}
 use Rattle.col_merge_slot.specs.Segments.{where_set, is_none_or, is_read_as}
 use Rattle.col_merge_slot.specs.Texts.{text_type}
 use Rattle.col_merge_slot.proofs.TakenLemmas.{taken-more, taken-all}
-use Rattle.col_merge_slot.proofs.SegmentLemmas.{length-set, taken, rows-of, left-behind}
+use Rattle.col_merge_slot.proofs.SegmentLemmas.{length-set, taken, tested-at, rows-of, left-behind}
 use Rattle.col_merge_slot.proofs.TextPartLemmas.{one-text, all-texts, text-not-read, text-as}
 use Rattle.col_merge_slot.proofs.texts.segment_texts.Goals as goal
 
@@ -20,13 +20,13 @@ returns-in_default-clause-err c =
     let columns = c.args.columns.now in
     let flags = c.args.kept.now in
     let i = c.loop-segment.segment in
-    let here = taken c.loop-segment.columns columns flags i c.index-columns-segment.result
-    (omega (arith, c.loop-segment-test.true)) c.loop-segment.invariant.left in
     inr (
       refl,
       text-not-read (text_type c.args.is_text) (where_set columns flags) i
           (omega (arith, length-set columns flags, c.loop-segment-test.true))
-          (ap (is_none_or (is_read_as (text_type c.args.is_text))) (sym here) ∙ sym c.in_default.ensures.read),
+          (tested-at (is_none_or (is_read_as (text_type c.args.is_text))) c.loop-segment.columns columns flags i
+          c.index-columns-segment.result false (omega (arith, c.loop-segment-test.true)) c.loop-segment.invariant.left
+          c.in_default.ensures.read),
     )
 
 pub loop-segment-preserved : goal.loop-segment-preserved
@@ -63,11 +63,18 @@ returns-clause-ok c =
 
 pub returns-in_default-clause-taken : goal.returns-in_default-clause-taken
 returns-in_default-clause-taken c =
+    let columns = c.args.columns.now in
+    let flags = c.args.kept.now in
     let i = c.loop-segment.segment in
     record {
-      count = i + 1;
+      place = i;
+      before = c.loop-segment.invariant.texts.read;
+      unfit =
+          tested-at (is_none_or (is_read_as (text_type c.args.is_text))) c.loop-segment.columns columns flags i
+          c.index-columns-segment.result false (omega (arith, c.loop-segment-test.true))
+          c.loop-segment.invariant.left c.in_default.ensures.read;
       left =
-          taken-more c.loop-segment.columns c.args.columns.now c.args.kept.now i c.index-columns-segment.result c.text_at.new.column
+          taken-more c.loop-segment.columns columns flags i c.index-columns-segment.result c.text_at.new.column
           (omega (arith, c.loop-segment-test.true)) c.requires.flags c.loop-segment.invariant.left
           c.loop-segment.invariant.taken c.in_default.ensures.taken;
     }

@@ -23,9 +23,9 @@ returns-clause-written g c =
 
 pub returns-in_err-texts-clause-taken : goal.returns-in_err-texts-clause-taken
 returns-in_err-texts-clause-taken g c =
-    takes-still c.args.columns.now c.args.kept.now _ _ _ c.from_residual.ensures.1 c.in_err-texts.ensures.taken
+    takes-still _ c.args.columns.now c.args.kept.now _ _ _ c.from_residual.ensures.1 c.in_err-texts.ensures.taken
 
 pub returns-clause-taken : goal.returns-clause-taken
 returns-clause-taken g c =
-    takes-joined c.args.columns.now c.args.kept.now _ _ _ _ _ _ _ c.in_ok-texts.ensures.taken
+    takes-joined _ c.args.columns.now c.args.kept.now _ _ _ _ _ _ _ c.in_ok-texts.ensures.taken
     (c.join_texts.ensures (text_type c.args.is_text) (text-terms c.args.is_text))
