@@ -1,6 +1,8 @@
 pub use Rattle.col_common.specs.Ascending
+pub use Rattle.col_common.specs.Causes
 pub use Rattle.col_common.specs.Decoding
 pub use Rattle.col_common.specs.Memory
+pub use Rattle.col_common.specs.Octets
 pub use Rattle.col_common.specs.Outside
 pub use Rattle.col_common.specs.Reading
 pub use Rattle.col_common.specs.Refused
@@ -24,6 +26,7 @@ pub use Rattle.col_model.specs.Order
 pub use Rattle.col_model.specs.Positions
 pub use Rattle.col_model.specs.Recording
 pub use Rattle.col_model.specs.Refusal
+pub use Rattle.col_model.specs.Report
 pub use Rattle.col_model.specs.SortOrder
 pub use Rattle.col_model.specs.Sorted
 pub use Rattle.col_model.specs.Sound
@@ -36,6 +39,8 @@ pub use Rattle.col_terms.specs.Lookups as TermLookups
 pub use Rattle.col_terms.specs.Streams
 pub use Rattle.col_terms.specs.TermTable
 pub use Rattle.col_model.specs.Codes
+pub use Rattle.col_values.specs.Bounds
+pub use Rattle.col_values.specs.Laws
 pub use Rattle.col_values.specs.Monotonic
 pub use Rattle.col_values.specs.Values
 pub use Rattle.col_model.specs.Cells
@@ -48,8 +53,10 @@ pub use Rattle.col_order.specs.Orders
 pub use Rattle.col_order.specs.RowOrders
 pub use Rattle.col_index.specs.Appending
 pub use Rattle.col_index.specs.Indexes
+pub use Rattle.col_index.specs.MultiValues
 pub use Rattle.col_index.specs.Offsets
 pub use Rattle.col_index.specs.Versions
+pub use Rattle.col_index.specs.Walked
 pub use Rattle.col_column.specs.Columns
 pub use Rattle.col_column.specs.IpValues
 pub use Rattle.col_column.specs.Lookups
@@ -64,6 +71,7 @@ pub use Rattle.col_writer_columns.specs.Answers
 pub use Rattle.col_writer_file.specs.Tables
 pub use Rattle.col_writer.specs.Usage as WriterUsage
 pub use Rattle.col_merge_terms.specs.Numbering
+pub use Rattle.col_merge_texts.specs.Items
 pub use Rattle.col_merge_plan.specs.Slots
 pub use Rattle.col_merge.specs.Merges
 pub use Rattle.col_merge.specs.Parts
