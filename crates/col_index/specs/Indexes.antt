@@ -1,6 +1,7 @@
 -- What indexes mean.
+use Rattle.std.specs.Prelude.{◌≡◌, ℕ}
 use Rattle.col_model.specs.Index.{Shape, empty_shape, full_shape, optional_shape, multivalued_shape, set_counts}
-use Rattle.col_index.specs.MultiValues.{value_counts_of}
+use Rattle.col_index.specs.MultiValues.{value_counts_of, version_kept}
 use Rattle.col_index.specs.declared.column_index.ColumnIndex.{ColumnIndex}
 use Rattle.col_index.specs.declared.column_index.ColumnIndex.TheVariants.{Empty, Full, Optional, Multivalued}
 
@@ -10,3 +11,8 @@ shape_of (Empty n) = empty_shape n
 shape_of Full = full_shape
 shape_of (Optional i) = optional_shape (set_counts i)
 shape_of (Multivalued i) = multivalued_shape (value_counts_of i)
+
+-- The index has the form of a version, as far as the forms differ: one of several values a row.
+abbrev pub IsOfVersion : ℕ → ColumnIndex → Type 0
+IsOfVersion version (Multivalued i) = version_kept i ≡ version
+IsOfVersion version i = Unit {0}

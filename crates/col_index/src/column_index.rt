@@ -3,12 +3,11 @@ ghost use Rattle.std.specs.Prelude.{◌≡◌, ◌<◌, ◌-◌, ◌^◌, ◌==�
 ghost use Rattle.std.specs.List.{list_all};
 ghost use Rattle.col_common.specs.Ascending.{is_rising};
 ghost use Rattle.col_common.specs.declared.error.ColumnarError.TheVariants as refusals;
-ghost use Rattle.col_model.specs.Index.{set_counts, optional_shape, multivalued_shape, full_shape};
+ghost use Rattle.col_model.specs.Index.{full_shape};
 ghost use Rattle.col_model.specs.Positions.{count_in, start_in, positions_in, rows_in};
 ghost use Rattle.col_index.specs.Versions.{cardinality_of};
 ghost use Rattle.col_index.specs.Appending.{AppendsValues, PushesValues};
 ghost use Rattle.col_index.specs.Offsets.{positions_if_any, cardinality_in, positions_of_rows, AreInside};
-ghost use Rattle.col_index.specs.MultiValues.{value_counts_of};
 
 use crate::cardinality::Cardinality;
 use crate::multivalued_index::MultiValueIndex;
@@ -29,20 +28,20 @@ pub enum ColumnIndex {
 }
 
 impl From<OptionalIndex> for ColumnIndex {
-    ghost use Rattle.col_index.specs.Indexes.{shape_of};
+    ghost use Rattle.col_index.specs.declared.column_index.ColumnIndex.TheVariants as variants;
 
     fn from(optional_index: OptionalIndex) -> ColumnIndex
-        ensures { shape_of result ≡ optional_shape (set_counts optional_index) }
+        ensures { result ≡ variants.Optional optional_index }
     {
         ColumnIndex::Optional(optional_index)
     }
 }
 
 impl From<MultiValueIndex> for ColumnIndex {
-    ghost use Rattle.col_index.specs.Indexes.{shape_of};
+    ghost use Rattle.col_index.specs.declared.column_index.ColumnIndex.TheVariants as variants;
 
     fn from(multi_value_index: MultiValueIndex) -> ColumnIndex
-        ensures { shape_of result ≡ multivalued_shape (value_counts_of multi_value_index) }
+        ensures { result ≡ variants.Multivalued multi_value_index }
     {
         ColumnIndex::Multivalued(multi_value_index)
     }
@@ -53,7 +52,7 @@ impl ColumnIndex {
 
     /// The same index once more, which shares its bytes and has ranks of its own.
     pub fn try_clone(&self, alloc: Global) -> Result<ColumnIndex, ColumnarError>
-        ensures ok { IfOk result (λ index. shape_of index ≡ shape_of self.now) }
+        ensures ok { IfOk result (λ index. index ≡ self.now) }
         ensures err { IfErr result (λ e. e ≡ refusals.OutOfMemory) }
     {
         match self {

@@ -46,8 +46,7 @@ impl MultiValueIndex {
 
     /// The same index once more, which shares its bytes and has ranks of its own.
     pub fn try_clone(&self, alloc: Global) -> Result<MultiValueIndex, AllocError>
-        ensures counts { IfOk result (λ index. value_counts_of index ≡ value_counts_of self.now) }
-        ensures version { IfOk result (λ index. version_kept index ≡ version_kept self.now) }
+        ensures { IfOk result (λ index. index ≡ self.now) }
     {
         match self {
             MultiValueIndex::MultiValueIndexV1(index) => {

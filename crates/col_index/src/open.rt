@@ -7,7 +7,7 @@ ghost use Rattle.col_index.specs.Versions.{version_number, cardinality_of};
 ghost use Rattle.col_common.specs.Ascending.{differences};
 ghost use Rattle.col_index.specs.Opening.{row_count_at, first_byte_cardinality, multivalued_at};
 ghost use Rattle.col_index.specs.MultiValues.{value_counts_of, version_kept};
-ghost use Rattle.col_index.specs.Indexes.{shape_of};
+ghost use Rattle.col_index.specs.Indexes.{shape_of, IsOfVersion};
 
 use crate::cardinality::Cardinality;
 use crate::column_index::ColumnIndex;
@@ -75,7 +75,8 @@ pub fn open_column_index(
     bytes: Bytes,
     format_version: Version,
 ) -> Result<ColumnIndex, ColumnarError>
-    ensures { Decodes shape_of result (shape bytes (version_number format_version)) }
+    ensures answer { Decodes shape_of result (shape bytes (version_number format_version)) }
+    ensures version { IfOk result (IsOfVersion (version_number format_version)) }
 {
     let Some(cardinality) = first_cardinality(bytes.as_slice()) else {
         return Err(ColumnarError::InvalidData);
@@ -92,8 +93,9 @@ fn open_as(
     bytes: Bytes,
     format_version: Version,
 ) -> Result<ColumnIndex, ColumnarError>
-    ensures { let code = cardinality_code (cardinality_of cardinality) in
+    ensures answer { let code = cardinality_code (cardinality_of cardinality) in
         Decodes shape_of result (shape (code ∷ bytes) (version_number format_version)) }
+    ensures version { IfOk result (IsOfVersion (version_number format_version)) }
 {
     match cardinality {
         Cardinality::Full => {

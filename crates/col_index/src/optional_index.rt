@@ -105,7 +105,8 @@ impl OptionalIndex {
     }
 
     /// How many rows with a value stand before a row, where each look at one of them is a step: the
-    /// rows are searched by halves, as `rank` searches a part of them.
+    /// rows are searched by halves, as `rank` searches a part of them. Clause `least` keeps a search
+    /// from passing that counts none of its looks.
     pub fn rank_counted<L: Ledger>(&self, row_id: RowId, steps: &mut Steps<L>) -> RowId
         ensures rank { result ≡ rank self.now.rows row_id }
         ensures steps { 2 ^ (steps.new - steps.old) ≤ 2 * length self.now.rows + 2 }
