@@ -1,5 +1,5 @@
 -- What a call that serializes into a sink leaves there.
-use Rattle.std.specs.Prelude.{◌≡◌, ◌≤◌, ◌⊎◌, ℕ, List, Result, Err, OnOk, IfErr}
+use Rattle.std.specs.Prelude.{◌≡◌, ◌≤◌, ◌⊎◌, ℕ, List, Result, Ok, Err, OnOk, IfErr}
 use Rattle.col_common.specs.Outside.{SeenSink, Appends, Faulted, Grows}
 use Rattle.col_common.specs.declared.error.ColumnarError.{ColumnarError}
 use Rattle.col_common.specs.declared.error.ColumnarError.TheVariants.{OutOfMemory, WriteFault}
@@ -13,6 +13,11 @@ pub record Serializes (old new : SeenSink) (result : Result (Unit {0}) ColumnarE
   pub later : old.faults ≤ new.faults
   pub write_fault : result ≡ Err WriteFault → Faulted old new
   pub causes : IfErr result (λ e. (e ≡ OutOfMemory) ⊎ (e ≡ WriteFault))
+
+-- a result without its value
+abbrev pub done : {T : Type 0} → Result T ColumnarError → Result (Unit {0}) ColumnarError
+done (Ok value) = Ok tt
+done (Err e) = Err e
 
 -- A call was stopped before the first byte: the sink is as it was, and the answer is this refusal,
 -- or want of memory.

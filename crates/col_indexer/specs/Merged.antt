@@ -1,4 +1,4 @@
--- Merged indexes. States docs/RULES.md, Merge.
+-- Merged indexes. States docs/RULES.md, Merged tables.
 use Rattle.std.specs.Prelude.{◌≡◌, ℕ, ◌<◌, ◌^◌, ◌==◌, Bool, true, List, map, length, fold, sum, Some}
 use Rattle.std.specs.Cmp.Lexicographic.{pointwise}
 use Rattle.col_model.specs.Index.{Counts, Shape, empty_shape, full_shape, optional_shape, multivalued_shape, counts_over}

@@ -1,11 +1,10 @@
 -- What indexes that can be written mean.
 use Rattle.std.specs.Prelude.{◌≡◌, ℕ, List, Result}
 use Rattle.col_common.specs.Outside.{SeenSink}
-use Rattle.col_common.specs.Serializing.{Serializes}
+use Rattle.col_common.specs.Serializing.{Serializes, done}
 use Rattle.col_common.specs.declared.error.ColumnarError.{ColumnarError}
 use Rattle.col_model.specs.Index.{RowSet, RowOffsets}
 use Rattle.col_model.specs.Table as tables
-use Rattle.col_numbers.specs.Written.{done}
 use Rattle.col_index.specs.declared.cardinality.Cardinality.{Cardinality}
 use Rattle.col_index.specs.declared.cardinality.Cardinality.TheVariants as cardinalities
 use Rattle.col_indexer.specs.RowViews.{rows_of}

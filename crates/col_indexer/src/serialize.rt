@@ -1,9 +1,8 @@
 //! Writes indexes.
 ghost use Rattle.std.specs.Prelude.{◌≡◌, ◌^◌, ◌<◌, nat_le, length, Some, IfOk};
-ghost use Rattle.col_common.specs.Serializing.{Serializes};
+ghost use Rattle.col_common.specs.Serializing.{Serializes, done};
 ghost use Rattle.col_model.specs.Index.{row_set};
 ghost use Rattle.col_model.specs.Positions.{rows_with_value, starts_of};
-ghost use Rattle.col_numbers.specs.Written.{done};
 ghost use Rattle.col_index.specs.MultiValues.{value_counts_of};
 ghost use Rattle.col_index.specs.Versions.{cardinality_of};
 ghost use Rattle.col_indexer.specs.RowViews.{rows_of};

@@ -1,9 +1,8 @@
 //! Writes indexes of any cardinality.
 ghost use Rattle.std.specs.Prelude.{◌≡◌, ◌-◌, ◌^◌, nat_le, false, length, Some, IfOk};
-ghost use Rattle.col_common.specs.Serializing.{Serializes};
+ghost use Rattle.col_common.specs.Serializing.{Serializes, done};
 ghost use Rattle.col_model.specs.Index.{row_offsets, shape};
 ghost use Rattle.col_model.specs.Version.{current_version};
-ghost use Rattle.col_numbers.specs.Written.{done};
 ghost use Rattle.col_indexer.specs.Spelling.{offsets_by_rows, row_offsets_bytes, body_bytes};
 ghost use Rattle.col_indexer.specs.Spelling as spelled;
 ghost use Rattle.col_indexer.specs.Spelling.{index_bytes, index_shape};

@@ -31,8 +31,9 @@ impl Model for NotedTerms {
 impl NotedTerms {
     ghost use Rattle.std.specs.Prelude.{[], bytes_eq, false};
     ghost use Rattle.std.specs.List.{IsDistinct};
+    ghost use Rattle.col_common.specs.Serializing.{done};
     ghost use Rattle.col_common.specs.declared.error.ColumnarError.TheVariants as refusals;
-    ghost use Rattle.col_terms.specs.Building.{ordered, is_too_long, done, ordinals, SerializesWithin};
+    ghost use Rattle.col_terms.specs.Building.{ordered, is_too_long, ordinals, SerializesWithin};
     ghost use Rattle.col_terms.specs.TermTable.{dictionary_bytes};
     ghost use Rattle.col_model.specs.Limits.{dictionary_length};
     ghost use Rattle.col_merge_texts.specs.Noting.{HasIdIf, nothing_noted};

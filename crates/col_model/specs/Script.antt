@@ -1,5 +1,5 @@
 -- Scripts: segments to be made, required columns, an order and lookups. States docs/RULES.md,
--- Scripts and Other lines of scripts.
+-- Scripts.
 use Rattle.std.specs.Prelude.{ℕ, pos, ◌^◌, ◌==◌, ◌&&◌, nat_lt, nat_le, true, false, List, [], ◌∷◌, map, filter, filter_map, find, length, slice_get, codes, bytes_eq, if◌then◌else◌, Option, Some, None}
 use Rattle.std.specs.List.{slice_split}
 use Rattle.std.specs.Str.{is_utf8}

@@ -1,5 +1,5 @@
 -- What is written of a list, and why none is.
-use Rattle.std.specs.Prelude.{◌≡◌, ◌^◌, ℕ, List, [], ◌∷◌, length, map, nat_le, Option, Some, None, Result, Ok, Err, MatchOption, if◌then◌else◌}
+use Rattle.std.specs.Prelude.{◌≡◌, ◌^◌, ℕ, List, [], ◌∷◌, length, map, nat_le, Option, Some, None, MatchOption, if◌then◌else◌}
 use Rattle.col_common.specs.Outside.{SeenSink, Appends}
 use Rattle.col_common.specs.declared.error.ColumnarError.{ColumnarError}
 use Rattle.col_common.specs.declared.error.ColumnarError.TheVariants.{NoCodec, TooLarge}
@@ -13,11 +13,6 @@ use Rattle.col_numbers.specs.Estimators.{estimator_code, HasFinalized}
 -- bytes were added that stand for the list
 abbrev pub AppendsList : SeenSink → SeenSink → List ℕ → Type 0
 AppendsList old new xs = (bytes : List ℕ) × (values64 bytes ≡ Some xs) × Appends old new bytes
-
--- a result without its value
-abbrev pub done : {T : Type 0} → Result T ColumnarError → Result (Unit {0}) ColumnarError
-done (Ok value) = Ok tt
-done (Err e) = Err e
 
 -- where none of the offered codecs applies
 abbrev pub no_codec_of : Option ℕ → Option ColumnarError

@@ -5,13 +5,13 @@ ghost use Rattle.col_common.specs.Ascending.{AreBelow};
 ghost use Rattle.col_common.specs.Decoding.{Decodes};
 ghost use Rattle.col_numbers.specs.NumValues.{num_values_of, images_of};
 ghost use Rattle.col_numbers.specs.Readers.{list_of};
-ghost use Rattle.col_common.specs.Serializing.{Serializes, Stopped};
+ghost use Rattle.col_common.specs.Serializing.{Serializes, Stopped, done};
 ghost use Rattle.col_model.specs.Stats.{stats_of};
 ghost use Rattle.col_model.specs.U64List.{values64};
 ghost use Rattle.col_model.specs.Codecs.{codec_bytes, estimate};
 ghost use Rattle.col_codecs.specs.ColumnStats.{stats_seen};
 ghost use Rattle.col_numbers.specs.CodecTypes.{code_of};
-ghost use Rattle.col_numbers.specs.Written.{done, chosen_of, list_refusal, AppendsList, HasBest};
+ghost use Rattle.col_numbers.specs.Written.{chosen_of, list_refusal, AppendsList, HasBest};
 ghost use Rattle.col_numbers.specs.Estimators.{estimator_code, HasFinalized};
 ghost use Rattle.col_common.specs.declared.error.ColumnarError.TheVariants as refusals;
 

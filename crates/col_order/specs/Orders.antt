@@ -1,4 +1,4 @@
--- What row orders mean. States docs/RULES.md, Merge.
+-- What row orders mean. States docs/RULES.md, Merged tables.
 use Rattle.std.specs.Prelude.{◌≡◌, ℕ, ◌+◌, ◌^◌, ◌<◌, ◌==◌, ◌&&◌, nat_le, Bool, true, List, length, map, slice_get, slice_index, Option, Some, None, Result, Ok, Err, if◌then◌else◌}
 use Rattle.std.specs.List.{list_all, list_any, range_with_len}
 use Rattle.col_common.specs.declared.row.RowAddr.{RowAddr}

@@ -1,5 +1,5 @@
 -- Terms that are numbered as they come, and put in order in the end.
-use Rattle.std.specs.Prelude.{◌≡◌, ◌<◌, ℕ, ◌-◌, ◌^◌, ◌&&◌, not, nat_le, min, Bool, true, false, List, [], ◌∷◌, ◌++◌, map, length, slice_get, sum_by, take, bytes_eq, Option, Some, None, Result, Ok, Err, ◌⊎◌, if◌then◌else◌}
+use Rattle.std.specs.Prelude.{◌≡◌, ◌<◌, ℕ, ◌-◌, ◌^◌, ◌&&◌, not, nat_le, min, Bool, true, false, List, [], ◌∷◌, ◌++◌, map, length, slice_get, sum_by, take, bytes_eq, Option, Some, None, Result, Err, ◌⊎◌, if◌then◌else◌}
 use Rattle.std.specs.List.{list_any, position_or_len, concat, All, IsDistinct}
 use Rattle.std.specs.Ordering.{nat_cmp}
 use Rattle.std.specs.Cmp.Lexicographic.{slice_cmp}
@@ -61,11 +61,6 @@ ordinals ts = map (id_of (ordered ts)) ts
 -- 32 bits don't count the bytes of the dictionary
 abbrev pub is_too_long : List (List ℕ) → Bool
 is_too_long ts = nat_le (2 ^ 32) (dictionary_length (ordered ts))
-
--- a result without its value
-abbrev pub done : {T : Type 0} → Result T ColumnarError → Result (Unit {0}) ColumnarError
-done (Ok x) = Ok tt
-done (Err e) = Err e
 
 -- Too long bytes are refused before the first one, and others are serialized.
 abbrev pub SerializesWithin : Bool → SeenSink → SeenSink → Result (Unit {0}) ColumnarError

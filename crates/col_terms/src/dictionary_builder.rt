@@ -75,8 +75,9 @@ impl Model for DictionaryBuilder {
 }
 
 impl DictionaryBuilder {
+    ghost use Rattle.col_common.specs.Serializing.{done};
     ghost use Rattle.col_terms.specs.Building.{is_known, Allocates, is_past_ids, IsRefusal, counted_bytes};
-    ghost use Rattle.col_terms.specs.Building.{ordered, is_too_long, done, SerializesWithin, AreOrdered};
+    ghost use Rattle.col_terms.specs.Building.{ordered, is_too_long, SerializesWithin, AreOrdered};
 
     /// A builder without terms.
     pub fn new(alloc: Global) -> DictionaryBuilder
