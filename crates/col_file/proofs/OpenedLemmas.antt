@@ -1,5 +1,5 @@
 -- How many rows a column has that was opened.
-use Rattle.std.proofs.Common.{◌≡◌, ℕ, ◌∙◌, Bool, true, false, List, [], map, length, Option, Some, None, Result, Ok, Err, IfOk, IfSome, sym, ap, subst}
+use Rattle.std.proofs.Common.{◌≡◌, ℕ, ◌∙◌, Bool, true, false, List, [], map, length, Option, Some, None, Result, Ok, Err, IfOk, IfSome, refl, sym, ap, subst}
 use Rattle.std.specs.Prelude.{if◌then◌else◌}
 use Rattle.std.specs.Int.{w32}
 use Rattle.std.specs.List.{list_all}
@@ -25,7 +25,7 @@ use Rattle.col_dynamic_open.specs.Contents.{DecodesTo}
 use Rattle.col_dynamic_open.specs.Lenient.{codes_spelled}
 use Rattle.col_dynamic_open.specs.LenientValues.{codes_of}
 use Rattle.col_dynamic_open.specs.declared.lenient.LenientValues.{LenientValues}
-use Rattle.col_file.specs.Columns.{IsTyped, HasCodesSpelled, bytes_at, content_at}
+use Rattle.col_file.specs.Columns.{IsTyped, HasContent, HasCodesSpelled, bytes_at, content_at}
 use Rattle.col_common.specs.Outside.{SeenFile}
 use Rattle.col_file.specs.Files.{IsExpected, AnswersForHandle}
 use Rattle.col_file.specs.Handles.{Handle}
@@ -80,6 +80,13 @@ pub opened-typed : (bytes : List ℕ) (t : ColumnType) (version n : ℕ) (u : Co
 opened-typed bytes t version n u m (Ok c) types rows decoded kind =
     record { kind = kind ∙ types; rows = opened-rows bytes t version n c decoded ∙ rows }
 opened-typed bytes t version n u m (Err e) types rows decoded kind = tt
+
+-- a decoded column of a type has the content that is expected
+pub has-content : (t : ColumnType) (r : Result DynamicColumn ColumnarError) (expected : Option Content) → Decodes content_of r expected
+    → IfOk r (λ c. type_of c ≡ t) → DecodesTo (HasContent t) r expected
+has-content t (Ok c) expected e kind =
+    subst (DecodesTo (HasContent t) (Ok c)) (sym e) (record { kind = kind; cells = refl })
+has-content t (Err e) expected h kind = h
 
 -- what is made of the bytes that a file gives is an answer of the file
 answers-then : {T V : Type 0} (IsOf : V → T → Type 0) (old new : SeenFile) (given : List ℕ → Option (List ℕ))

@@ -40,3 +40,15 @@ mod WindowLemmas
 mod WrittenLemmas
 mod WalkLemmas
 mod OldWalkLemmas
+mod RunRowLemmas
+mod RunRankLemmas
+mod RunSumLemmas
+mod RunSelectLemmas
+mod RunHeldLemmas
+mod RunPlaceLemmas
+mod RunTakenLemmas
+mod RunOpeningLemmas
+mod RankedRunLemmas
+mod RunEndLemmas
+mod RunGapLemmas
+mod LentRunLemmas

@@ -6,7 +6,7 @@ use Rattle.col_model.specs.Table.{cardinality_code}
 use Rattle.col_index.specs.declared.cardinality.Cardinality.{Cardinality}
 use Rattle.col_index.specs.declared.cardinality.Cardinality.TheVariants.{Full, Optional, Multivalued}
 use Rattle.col_index.specs.declared.format_version.Version.{Version}
-use Rattle.col_index.specs.declared.format_version.Version.TheVariants.{V1, V2}
+use Rattle.col_index.specs.declared.format_version.Version.TheVariants.{V1, V2, V3}
 use Rattle.col_index.specs.Opening.{first_byte_cardinality, multivalued_at}
 use Rattle.col_index.specs.Versions.{version_number, cardinality_of}
 
@@ -16,14 +16,16 @@ pub shape-full : (x : Cardinality) (v : Version) (rest : List ℕ) → x ≡ Ful
 unfolding shape
 shape-full x V1 rest e = rw e refl
 shape-full x V2 rest e = rw e refl
+shape-full x V3 rest e = rw e refl
 
 -- Optional has a set of rows
 pub shape-optional : (x : Cardinality) (v : Version) (rest : List ℕ) → x ≡ Optional
     → shape (cardinality_code (cardinality_of x) ∷ rest) (version_number v)
-    ≡ option_map (λ s. optional_shape (set_counts s)) (row_set rest)
+    ≡ option_map (λ s. optional_shape (set_counts s)) (row_set (version_number v) rest)
 unfolding shape
 shape-optional x V1 rest e = rw e refl
 shape-optional x V2 rest e = rw e refl
+shape-optional x V3 rest e = rw e refl
 
 -- Multivalued is read as the version has it
 pub shape-multivalued : (x : Cardinality) (v : Version) (rest : List ℕ) → x ≡ Multivalued
@@ -31,6 +33,7 @@ pub shape-multivalued : (x : Cardinality) (v : Version) (rest : List ℕ) → x 
 unfolding shape
 shape-multivalued x V1 rest e = rw e refl
 shape-multivalued x V2 rest e = rw e refl
+shape-multivalued x V3 rest e = rw e refl
 
 -- no shape without a cardinality
 pub shape-uncoded : (bytes : List ℕ) (v : Version) → first_byte_cardinality bytes ≡ None → shape bytes (version_number v) ≡ None
@@ -38,3 +41,4 @@ unfolding shape
 shape-uncoded [] v e = refl
 shape-uncoded (code ∷ bytes) V1 e = rw e refl
 shape-uncoded (code ∷ bytes) V2 e = rw e refl
+shape-uncoded (code ∷ bytes) V3 e = rw e refl

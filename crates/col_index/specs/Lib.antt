@@ -13,3 +13,7 @@ pub mod Indexes
 pub mod Opening
 pub mod Laws
 pub mod Windows
+pub mod Runs
+pub mod RunPlaces
+pub mod RowsNear
+pub mod Held

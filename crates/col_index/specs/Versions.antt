@@ -5,7 +5,7 @@ use Rattle.col_model.specs.Table as tables
 use Rattle.col_index.specs.declared.cardinality.Cardinality.{Cardinality}
 use Rattle.col_index.specs.declared.cardinality.Cardinality.TheVariants.{Full, Optional, Multivalued}
 use Rattle.col_index.specs.declared.format_version.Version.{Version}
-use Rattle.col_index.specs.declared.format_version.Version.TheVariants.{V1, V2}
+use Rattle.col_index.specs.declared.format_version.Version.TheVariants.{V1, V2, V3}
 
 -- the cardinality by its definition
 abbrev pub cardinality_of : Cardinality → tables.Cardinality
@@ -26,8 +26,10 @@ cardinality_code_of c = tables.cardinality_code (cardinality_of c)
 abbrev pub version_name : Version → List ℕ
 version_name V1 = codes "v1"
 version_name V2 = codes "v2"
+version_name V3 = codes "v3"
 
 -- the number of a version
 abbrev pub version_number : Version → ℕ
 version_number V1 = 1
 version_number V2 = 2
+version_number V3 = 3

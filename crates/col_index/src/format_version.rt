@@ -4,21 +4,27 @@ ghost use Rattle.std.specs.Int.{w32, to_le_bytes, from_le_bytes};
 ghost use Rattle.col_model.specs.Version.{is_version};
 
 use col_common::InvalidData;
-use col_model::CURRENT_VERSION as CURRENT_NUMBER;
 use std::fmt;
 
 // The number of version 1.
 const FIRST_NUMBER: u32 = 1;
+
+// The number of version 2.
+const SECOND_NUMBER: u32 = 2;
+
+// The number of version 3.
+const THIRD_NUMBER: u32 = 3;
 
 /// The version of a file.
 #[derive(Clone, Copy, Debug, PartialEq, Eq)]
 pub enum Version {
     V1,
     V2,
+    V3,
 }
 
 /// The version that is written.
-pub const CURRENT_VERSION: Version = Version::V2;
+pub const CURRENT_VERSION: Version = Version::V3;
 
 impl Version {
     ghost use Rattle.col_index.specs.Versions.{version_number};
@@ -29,7 +35,8 @@ impl Version {
     {
         match self {
             Version::V1 => FIRST_NUMBER.to_le_bytes(),
-            Version::V2 => CURRENT_NUMBER.to_le_bytes(),
+            Version::V2 => SECOND_NUMBER.to_le_bytes(),
+            Version::V3 => THIRD_NUMBER.to_le_bytes(),
         }
     }
 
@@ -40,7 +47,8 @@ impl Version {
     {
         match u32::from_le_bytes(bytes) {
             FIRST_NUMBER => Ok(Version::V1),
-            CURRENT_NUMBER => Ok(Version::V2),
+            SECOND_NUMBER => Ok(Version::V2),
+            THIRD_NUMBER => Ok(Version::V3),
             _ => Err(InvalidData),
         }
     }
@@ -55,6 +63,7 @@ impl fmt::Display for Version {
         f.write_str(match self {
             Version::V1 => "v1",
             Version::V2 => "v2",
+            Version::V3 => "v3",
         })
     }
 }

@@ -1,5 +1,5 @@
 //! Rows that have any number of values.
-ghost use Rattle.std.specs.Prelude.{◌≡◌, ◌+◌, ◌^◌, ◌==◌, not, true, nat_le, length, sum, slice_index};
+ghost use Rattle.std.specs.Prelude.{◌≡◌, ◌+◌, ◌^◌, ◌==◌, not, true, false, nat_le, length, sum, slice_index};
 ghost use Rattle.std.specs.Prelude.{option_map, slice_get};
 ghost use Rattle.std.specs.Prelude.{IfOk, IfErr, IfSome};
 ghost use Rattle.std.specs.List.{list_all};
@@ -29,7 +29,7 @@ pub enum MultiValueIndex {
 }
 
 impl MultiValueIndex {
-    ghost use Rattle.col_index.specs.MultiValues.{value_counts_of, offsets_kept, version_kept};
+    ghost use Rattle.col_index.specs.MultiValues.{value_counts_of, offsets_kept, has_old_offsets};
 
     /// The index with one more start offset than rows, from 0 on, which never fall.
     pub fn for_test(
@@ -39,7 +39,7 @@ impl MultiValueIndex {
         requires { AreOldOffsets start_offsets.now }
         ensures ok { IfOk result (λ index. value_counts_of index ≡ differences start_offsets.now) }
         ensures err { IfErr result (λ e. e ≡ refusals.OutOfMemory) }
-        ensures version { IfOk result (λ index. version_kept index ≡ 2) }
+        ensures version { IfOk result (λ index. has_old_offsets index ≡ false) }
     {
         Ok(MultiValueIndex::MultiValueIndexV2(MultiValueIndexV2::for_test(alloc, start_offsets)?))
     }

@@ -12,7 +12,10 @@ ghost use Rattle.col_index.specs.Appending.{PushesValues};
 use crate::appending::push_run;
 use crate::non_null_docs::NonNullDocs;
 use crate::optional_index::{OptionalIndex, load_numbers};
+use crate::rank_near::{InRuns, RankNear, Ranked, Walked};
+use crate::rows_near::RowsNear;
 use crate::search::Place;
+use crate::selected_runs::NumberedRun;
 use crate::set::Set;
 use crate::windows::{TABLE_LEN, Window, window_at};
 use col_common::{ColumnarError, DocId, RowId};
@@ -77,6 +80,7 @@ impl MultiValueIndexV2 {
     ) -> Option<MultiValueIndexV2>
         ensures { result ≡ offsets_by optional_index (list_of start_index_column) }
     {
+        optional_index.rows_rise();
         if !are_starts(optional_index.num_non_nulls(), &start_index_column) {
             return None;
         }
@@ -218,29 +222,38 @@ impl MultiValueIndexV2 {
         ensures { PushesValues (row_positions (offset_counts self.now) docs.now)
             docs_out.old.items docs_out.new.items rows_out.old.items rows_out.new.items result }
     {
-        if self.optional_index.is_walked() {
-            self.push_positions_by(true, docs, docs_out, rows_out)
-        } else {
-            self.push_positions_by(false, docs, docs_out, rows_out)
+        match self.optional_index.rows_near() {
+            RowsNear::Walked(rows) => {
+                self.push_positions_by(&Walked { rows }, docs, docs_out, rows_out)
+            }
+            RowsNear::Ranked(rows) => {
+                self.push_positions_by(&Ranked { rows }, docs, docs_out, rows_out)
+            }
+            RowsNear::InRuns(runs) => {
+                self.push_positions_by(&InRuns { runs }, docs, docs_out, rows_out)
+            }
         }
     }
 
-    // The same, by a walk or by ranks.
+    // The same by the ranks of its rows.
     #[inline(always)]
-    fn push_positions_by(
+    fn push_positions_by<R: RankNear>(
         &self,
-        is_walked: bool,
+        rows: &R,
         docs: &[DocId],
         docs_out: &mut Vec<DocId>,
         rows_out: &mut Vec<RowId>,
     ) -> Result<(), AllocError>
+        requires { R.rows rows.now ≡ self.now.set.rows }
         ensures { PushesValues (row_positions (offset_counts self.now) docs.now)
             docs_out.old.items docs_out.new.items rows_out.old.items rows_out.new.items result }
     {
-        let mut place = self.optional_index.first_place();
+        // That the offsets are those of the rows is known where a field is read.
+        let _ = &self.optional_index;
+        let mut place = rows.first_place();
         for doc in docs {
             let doc = *doc;
-            let Some(rank) = self.optional_index.rank_near(is_walked, &mut place, doc) else {
+            let Some(rank) = rows.rank_near(&mut place, doc) else {
                 continue;
             };
             let positions = self.range_at(rank);
@@ -283,13 +296,14 @@ impl MultiValueIndexV2 {
             position: 0,
             len: 0,
         };
+        let mut near = NumberedRun::none();
         let mut before = 0;
         let mut kept = 0;
         for at in 0..ranks.len() {
             let position = ranks[at];
             window = window_at(&self.start_index_column, position, window, &mut table);
             let started = table[(position - window.position) as usize];
-            ranks[kept] = self.optional_index.select(started - 1);
+            ranks[kept] = self.optional_index.select_near(&mut near, started - 1);
             kept += is_other(started, before) as usize;
             before = started;
         }
@@ -303,6 +317,7 @@ impl MultiValueIndexV2 {
         ensures { take result ranks.new ≡ rows_at (offset_counts self.now) ranks.old }
     {
         let mut place = Place::first(&self.start_index_column);
+        let mut near = NumberedRun::none();
         let mut kept = 0;
         for at in 0..ranks.len() {
             let before = place.at;
@@ -310,7 +325,7 @@ impl MultiValueIndexV2 {
             if place.at == before {
                 continue;
             }
-            ranks[kept] = self.optional_index.select(place.at - 1);
+            ranks[kept] = self.optional_index.select_near(&mut near, place.at - 1);
             kept += 1;
         }
         kept

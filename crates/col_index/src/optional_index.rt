@@ -1,26 +1,27 @@
 //! Rows that have at most one value.
 ghost use Rattle.std.specs.Prelude.{◌≡◌, [], ◌∷◌, ◌^◌, ◌<◌, ◌≤◌, ◌+◌, ◌-◌, ◌*◌, length, map, slice_get, Some};
-ghost use Rattle.std.specs.Prelude.{IfOk, IfErr};
+ghost use Rattle.std.specs.Prelude.{IfOk, IfErr, IfSome};
 ghost use Rattle.col_common.specs.Ascending.{AreBelow};
 ghost use Rattle.col_common.specs.declared.error.ColumnarError.TheVariants as refusals;
 ghost use Rattle.col_common.specs.Decoding.{Decodes};
-ghost use Rattle.col_common.specs.Reading.{only_if};
-ghost use Rattle.col_model.specs.Index.{RowSet, set_counts};
+ghost use Rattle.col_model.specs.Index.{RowSet, runs_of, set_counts};
 ghost use Rattle.col_model.specs.Positions.{rank, next_row, index_range};
 ghost use Rattle.col_index.specs.Offsets.{range_if_any};
-ghost use Rattle.col_index.specs.RankedRows.{AreRankedRows};
+ghost use Rattle.col_index.specs.Runs.{runs_by};
 ghost use Rattle.col_index.specs.Sets.{AreRows, holds, set_by};
 ghost use Rattle.col_numbers.specs.Readers.{list_of};
 
-use crate::counted_rows::CountedRows;
+use crate::held_rows::HeldRows;
+use crate::index_runs::IndexRuns;
+use crate::listed_rows::ListedRows;
 use crate::non_null_docs::NonNullDocs;
-use crate::ranks::Ranks;
-use crate::search::{Place, narrow_counted};
+use crate::row_runs::RowRuns;
+use crate::rows_near::RowsNear;
 use crate::select_cursor::OptionalIndexSelectCursor;
+use crate::selected_runs::NumberedRun;
 use crate::set::Set;
 use col_common::{ColumnarError, DocId, RowId, Steps};
 use col_numbers::{CodecType, U64Values, serialize_and_load_u64_values};
-use col_values::ColumnValues;
 use std::alloc::{AllocError, Global};
 use std::fmt;
 use std::marker::Model;
@@ -30,22 +31,16 @@ use std::sync::ledger::Ledger;
 /// Which rows have a value. Contracts see the row count and these rows.
 #[derive(Drop)]
 pub struct OptionalIndex {
-    num_rows: RowId,
-    rows: U64Values,
-    ranks: Ranks,
+    held: HeldRows,
 }
 
 impl Model for OptionalIndex {
     ghost use Rattle.col_model.specs.Index.{RowSet};
-    ghost use Rattle.col_numbers.specs.Readers.{list_of};
-    ghost use Rattle.col_index.specs.RankedRows.{AreRankedRows};
+    ghost use Rattle.col_index.specs.Held.{set_held};
 
     ghost Value = { RowSet };
 
-    ghost view = { λ i. record { num_rows = i.num_rows; rows = list_of i.rows } };
-
-    ghost invariant = { λ i.
-        AreRankedRows (record { num_rows = i.num_rows; rows = list_of i.rows }) i.ranks };
+    ghost view = { λ i. set_held i.held };
 }
 
 impl OptionalIndex {
@@ -71,11 +66,25 @@ impl OptionalIndex {
     ) -> Result<OptionalIndex, ColumnarError>
         ensures { Decodes (λ index. index) result (set_by num_rows (list_of rows)) }
     {
-        let ranks = Ranks::from_rows(alloc, num_rows, &rows)?;
+        let rows = ListedRows::from_rows(alloc, num_rows, rows)?;
         Ok(OptionalIndex {
-            num_rows,
-            rows,
-            ranks,
+            held: HeldRows::Listed(rows),
+        })
+    }
+
+    /// The index of runs with these starts and lengths, if they are runs of so many rows.
+    pub(crate) fn from_runs(
+        alloc: Global,
+        num_rows: RowId,
+        starts: U64Values,
+        lengths: U64Values,
+    ) -> Result<OptionalIndex, ColumnarError>
+        ensures { Decodes (λ index. index) result
+            (runs_by num_rows (list_of starts) (list_of lengths)) }
+    {
+        let runs = RowRuns::from_lists(alloc, num_rows, starts, lengths)?;
+        Ok(OptionalIndex {
+            held: HeldRows::InRuns(runs),
         })
     }
 
@@ -83,46 +92,58 @@ impl OptionalIndex {
     pub fn try_clone(&self, alloc: Global) -> Result<OptionalIndex, AllocError>
         ensures { IfOk result (λ index. index ≡ self.now) }
     {
-        Ok(OptionalIndex {
-            num_rows: self.num_rows,
-            rows: self.rows.try_clone(alloc)?,
-            ranks: self.ranks.try_clone(alloc)?,
-        })
+        let held = match &self.held {
+            HeldRows::Listed(rows) => HeldRows::Listed(rows.try_clone(alloc)?),
+            HeldRows::InRuns(runs) => HeldRows::InRuns(runs.try_clone(alloc)?),
+        };
+        Ok(OptionalIndex { held })
     }
 
     /// How many rows there are.
+    #[inline(always)]
     pub fn num_docs(&self) -> RowId
         ensures { result ≡ self.now.num_rows }
     {
-        self.num_rows
+        match &self.held {
+            HeldRows::Listed(rows) => rows.num_docs(),
+            HeldRows::InRuns(runs) => runs.num_docs(),
+        }
     }
 
     /// How many rows have a value.
+    #[inline(always)]
     pub fn num_non_nulls(&self) -> RowId
         ensures { result ≡ length self.now.rows }
     {
-        self.rows.num_vals()
+        match &self.held {
+            HeldRows::Listed(rows) => rows.num_non_nulls(),
+            HeldRows::InRuns(runs) => runs.num_non_nulls(),
+        }
     }
 
-    /// How many rows with a value stand before a row, where each look at one of them is a step: the
-    /// rows are searched by halves, as `rank` searches a part of them. Clause `least` keeps a search
-    /// from passing that counts none of its looks.
+    /// How many rows with a value stand before a row, where each look at one of them, or at the
+    /// start of a run, is a step: the rows or the starts are searched by halves, as `rank` searches
+    /// a part of them. Clause `least` keeps a search from passing that counts none of its looks.
     pub fn rank_counted<L: Ledger>(&self, row_id: RowId, steps: &mut Steps<L>) -> RowId
         ensures rank { result ≡ rank self.now.rows row_id }
         ensures steps { 2 ^ (steps.new - steps.old) ≤ 2 * length self.now.rows + 2 }
-        ensures least { length self.now.rows + 2 ≤ 2 * 2 ^ (steps.new - steps.old) }
+        ensures least { length (runs_of self.now.rows) + 2 ≤ 2 * 2 ^ (steps.new - steps.old) }
     {
-        self.rows_rise();
-        let rows = CountedRows::new(&self.rows);
-        narrow_counted(&rows, 0, self.rows.num_vals(), u64::from(row_id), steps)
+        match &self.held {
+            HeldRows::Listed(rows) => rows.rank_counted(row_id, steps),
+            HeldRows::InRuns(runs) => runs.rank_counted(row_id, steps),
+        }
     }
 
     /// The rows rise and stay below the count.
+    #[inline(always)]
     pub fn rows_rise(&self)
         ensures { AreRows self.now }
     {
-        // That the rows are those of an index is known where a field is read.
-        let _ = &self.rows;
+        match &self.held {
+            HeldRows::Listed(rows) => rows.rows_rise(),
+            HeldRows::InRuns(runs) => runs.rows_rise(),
+        }
     }
 
     /// The first row with a value that isn't before a target.
@@ -142,7 +163,10 @@ impl OptionalIndex {
     pub fn iter_non_null_docs(&self) -> NonNullDocs<'_>
         ensures { result ≡ self.now.rows }
     {
-        NonNullDocs::of(self)
+        match &self.held {
+            HeldRows::Listed(rows) => NonNullDocs::of_listed(rows),
+            HeldRows::InRuns(runs) => NonNullDocs::of_runs(runs),
+        }
     }
 
     /// Puts the row of each rank in its place.
@@ -150,8 +174,9 @@ impl OptionalIndex {
         requires { AreBelow (length self.now.rows) ranks.old }
         ensures { map Some ranks.new ≡ map (slice_get self.now.rows) ranks.old }
     {
+        let mut near = NumberedRun::none();
         for at in 0..ranks.len() {
-            ranks[at] = self.select(ranks[at]);
+            ranks[at] = self.select_near(&mut near, ranks[at]);
         }
     }
 
@@ -178,24 +203,34 @@ impl Set<RowId> for OptionalIndex {
 
     #[inline(always)]
     fn contains(&self, row_id: RowId) -> bool {
-        self.holds_at(self.rank(row_id), row_id)
+        match &self.held {
+            HeldRows::Listed(rows) => rows.contains(row_id),
+            HeldRows::InRuns(runs) => runs.contains(row_id),
+        }
     }
 
     #[inline(always)]
     fn rank(&self, row_id: RowId) -> RowId {
-        self.ranks.rank(self.num_rows, &self.rows, row_id)
+        match &self.held {
+            HeldRows::Listed(rows) => rows.rank(row_id),
+            HeldRows::InRuns(runs) => runs.rank(row_id),
+        }
     }
 
     #[inline(always)]
     fn rank_if_exists(&self, row_id: RowId) -> Option<RowId> {
-        self.ranks.rank_if_exists(self.num_rows, &self.rows, row_id)
+        match &self.held {
+            HeldRows::Listed(rows) => rows.rank_if_exists(row_id),
+            HeldRows::InRuns(runs) => runs.rank_if_exists(row_id),
+        }
     }
 
     #[inline(always)]
     fn select(&self, rank: RowId) -> RowId {
-        // That rows are below a count of 32 bits is known of the count.
-        let _num_rows = self.num_rows;
-        self.rows.get_val(rank) as RowId
+        match &self.held {
+            HeldRows::Listed(rows) => rows.select(rank),
+            HeldRows::InRuns(runs) => runs.select(rank),
+        }
     }
 
     fn ranks_are_undone(&self) {
@@ -213,7 +248,8 @@ impl fmt::Debug for OptionalIndex {
 }
 
 impl OptionalIndex {
-    ghost use Rattle.col_index.specs.Places.{IsPlaceOfTarget};
+    ghost use Rattle.col_index.specs.RowsNear.{rows_near};
+    ghost use Rattle.col_index.specs.RunPlaces.{IsRunOf};
 
     /// Whether the row with a rank has a value.
     #[inline(always)]
@@ -221,7 +257,34 @@ impl OptionalIndex {
         requires { at ≡ rank self.now.rows row_id }
         ensures { result ≡ holds self.now.rows row_id }
     {
-        self.ranks.holds(self.num_rows, &self.rows, at, row_id)
+        match &self.held {
+            HeldRows::Listed(rows) => rows.holds_at(at, row_id),
+            HeldRows::InRuns(runs) => runs.holds_at(at, row_id),
+        }
+    }
+
+    /// The row with a rank, by the run that the one before was found in.
+    #[inline(always)]
+    pub(crate) fn select_near(&self, near: &mut NumberedRun, rank: RowId) -> RowId
+        requires rank { rank < length self.now.rows }
+        requires near { IsRunOf self.now.rows near.old.run }
+        ensures near { IsRunOf self.now.rows near.new.run }
+        ensures row { slice_get self.now.rows rank ≡ Some result }
+    {
+        match &self.held {
+            HeldRows::Listed(rows) => rows.select(rank),
+            HeldRows::InRuns(runs) => runs.select_near(near, rank),
+        }
+    }
+
+    /// The runs of the rows with a value, where the index has them in runs.
+    pub fn runs(&self) -> Option<IndexRuns<'_>>
+        ensures { IfSome result (λ runs. runs ≡ self.now) }
+    {
+        match &self.held {
+            HeldRows::Listed(_) => None,
+            HeldRows::InRuns(runs) => Some(IndexRuns::of(runs)),
+        }
     }
 
     /// The positions of a row's values.
@@ -230,14 +293,10 @@ impl OptionalIndex {
         ensures start { result.start ≡ (index_range (set_counts self.now) doc_id).0 }
         ensures end { result.end ≡ (index_range (set_counts self.now) doc_id).1 }
     {
-        if doc_id >= self.num_rows {
-            return 0..0;
-        }
-        let rank = self.rank(doc_id);
-        if self.holds_at(rank, doc_id) {
-            rank..rank + 1
-        } else {
-            rank..rank
+        match &self.held {
+            HeldRows::Listed(rows) => rows.range(doc_id),
+            HeldRows::InRuns(runs) if doc_id < runs.num_docs() => runs.range(doc_id),
+            HeldRows::InRuns(_) => 0..0,
         }
     }
 
@@ -247,85 +306,21 @@ impl OptionalIndex {
         ensures start { result.start ≡ (range_if_any (set_counts self.now) doc_id).0 }
         ensures end { result.end ≡ (range_if_any (set_counts self.now) doc_id).1 }
     {
-        // That rows are below a count of 32 bits is known of the count.
-        let _num_rows = self.num_rows;
-        match self.rank_if_exists(doc_id) {
-            Some(rank) => rank..rank + 1,
-            None => 0..0,
+        match &self.held {
+            HeldRows::Listed(rows) => rows.range_if_any(doc_id),
+            HeldRows::InRuns(runs) => runs.range_if_any(doc_id),
         }
     }
 
-    /// The place of row 0.
-    pub(crate) fn first_place(&self) -> Place
-        ensures place { IsPlaceOfTarget self.now.rows result }
-        ensures target { result.target ≡ 0 }
-    {
-        Place::first(&self.rows)
-    }
-
-    // The place of a row; in few steps where it isn't far behind another place.
+    /// The rows, to be ranked one behind another.
     #[inline(always)]
-    fn seek(&self, place: Place, doc_id: DocId) -> Place
-        requires { IsPlaceOfTarget self.now.rows place }
-        ensures place { IsPlaceOfTarget self.now.rows result }
-        ensures target { result.target ≡ doc_id }
+    pub(crate) fn rows_near(&self) -> RowsNear<'_>
+        ensures { rows_near result ≡ self.now.rows }
     {
-        match place.near(&self.rows, u64::from(doc_id)) {
-            Some(near) => near,
-            None => Place::of(&self.rows, self.rank(doc_id), u64::from(doc_id)),
-        }
-    }
-
-    // Whether the row of a place has a value.
-    #[inline]
-    fn is_at(&self, place: Place) -> bool
-        requires place { IsPlaceOfTarget self.now.rows place }
-        requires row { place.target < 2 ^ 32 }
-        ensures { result ≡ holds self.now.rows place.target }
-    {
-        self.rows_rise();
-        place.next == place.target
-    }
-
-    // The rank of a row that has a value, by a walk.
-    #[inline(always)]
-    fn walked_rank(&self, place: &mut Place, doc_id: DocId) -> Option<RowId>
-        requires { IsPlaceOfTarget self.now.rows place.old }
-        ensures place { IsPlaceOfTarget self.now.rows place.new }
-        ensures rank { result ≡ only_if (holds self.now.rows doc_id) (rank self.now.rows doc_id) }
-    {
-        let next = self.seek(*place, doc_id);
-        *place = next;
-        if self.is_at(next) {
-            Some(next.at)
-        } else {
-            None
-        }
-    }
-
-    /// Whether documents that are asked one behind another are walked, and not ranked each by
-    /// itself.
-    pub(crate) fn is_walked(&self) -> bool {
-        !self.ranks.has_bits()
-    }
-
-    /// The rank of a row that has a value; by a walk, in few steps where the row isn't far behind
-    /// the place.
-    #[inline(always)]
-    pub(crate) fn rank_near(
-        &self,
-        is_walked: bool,
-        place: &mut Place,
-        doc_id: DocId,
-    ) -> Option<RowId>
-        requires { IsPlaceOfTarget self.now.rows place.old }
-        ensures place { IsPlaceOfTarget self.now.rows place.new }
-        ensures rank { result ≡ only_if (holds self.now.rows doc_id) (rank self.now.rows doc_id) }
-    {
-        if is_walked {
-            self.walked_rank(place, doc_id)
-        } else {
-            self.rank_if_exists(doc_id)
+        match &self.held {
+            HeldRows::Listed(rows) if rows.is_walked() => RowsNear::Walked(rows),
+            HeldRows::Listed(rows) => RowsNear::Ranked(rows),
+            HeldRows::InRuns(runs) => RowsNear::InRuns(runs),
         }
     }
 }

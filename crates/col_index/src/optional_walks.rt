@@ -1,26 +1,16 @@
 //! Optional indexes, one row or document after another.
-ghost use Rattle.std.specs.Prelude.{◌≡◌, slice_get};
+ghost use Rattle.std.specs.Prelude.{◌≡◌};
 ghost use Rattle.col_index.specs.Appending.{AppendsBoth, PushesBoth};
 ghost use Rattle.col_index.specs.Sets.{held, held_ranks};
 
 use crate::appending::push_pair;
 use crate::optional_index::OptionalIndex;
-use crate::set::Set;
+use crate::rank_near::{InRuns, RankNear, Ranked, Walked};
+use crate::rows_near::RowsNear;
 use col_common::{DocId, RowId};
 use std::alloc::AllocError;
 
 impl OptionalIndex {
-    /// The row with a rank, if there are more rows with a value than that.
-    #[inline(always)]
-    pub(crate) fn row_at(&self, rank: u64) -> Option<DocId>
-        ensures { result ≡ slice_get self.now.rows rank }
-    {
-        if rank >= u64::from(self.num_non_nulls()) {
-            return None;
-        }
-        Some(self.select(rank as u32))
-    }
-
     /// Appends those of the documents that have a value, and their ranks. Documents that ascend are
     /// walked.
     pub fn rank_if_exists_batch(
@@ -54,34 +44,34 @@ impl OptionalIndex {
             rows_out.old.items rows_out.new.items result
             (held self.now.rows docs.now) (held_ranks self.now.rows docs.now) }
     {
-        if self.is_walked() {
-            self.push_ranks_by(true, docs, docs_out, rows_out)
-        } else {
-            self.push_ranks_by(false, docs, docs_out, rows_out)
+        match self.rows_near() {
+            RowsNear::Walked(rows) => push_ranks_by(&Walked { rows }, docs, docs_out, rows_out),
+            RowsNear::Ranked(rows) => push_ranks_by(&Ranked { rows }, docs, docs_out, rows_out),
+            RowsNear::InRuns(runs) => push_ranks_by(&InRuns { runs }, docs, docs_out, rows_out),
         }
     }
+}
 
-    // The same, by a walk or by ranks.
-    #[inline(always)]
-    fn push_ranks_by(
-        &self,
-        is_walked: bool,
-        docs: &[DocId],
-        docs_out: &mut Vec<DocId>,
-        rows_out: &mut Vec<RowId>,
-    ) -> Result<(), AllocError>
-        ensures { PushesBoth docs_out.old.items docs_out.new.items
-            rows_out.old.items rows_out.new.items result
-            (held self.now.rows docs.now) (held_ranks self.now.rows docs.now) }
-    {
-        let mut place = self.first_place();
-        for doc in docs {
-            let doc = *doc;
-            let Some(rank) = self.rank_near(is_walked, &mut place, doc) else {
-                continue;
-            };
-            push_pair(docs_out, rows_out, doc, rank)?;
-        }
-        Ok(())
+// Appends those of the documents that are rows with a value, and their ranks, as far as memory
+// reaches.
+#[inline(always)]
+fn push_ranks_by<R: RankNear>(
+    rows: &R,
+    docs: &[DocId],
+    docs_out: &mut Vec<DocId>,
+    rows_out: &mut Vec<RowId>,
+) -> Result<(), AllocError>
+    ensures { PushesBoth docs_out.old.items docs_out.new.items
+        rows_out.old.items rows_out.new.items result
+        (held (R.rows rows.now) docs.now) (held_ranks (R.rows rows.now) docs.now) }
+{
+    let mut place = rows.first_place();
+    for doc in docs {
+        let doc = *doc;
+        let Some(rank) = rows.rank_near(&mut place, doc) else {
+            continue;
+        };
+        push_pair(docs_out, rows_out, doc, rank)?;
     }
+    Ok(())
 }

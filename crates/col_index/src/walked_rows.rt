@@ -1,10 +1,10 @@
 //! Indexes whose rows with a value are walked.
-use crate::multivalued_index_v1::MultiValueIndexV1;
-use crate::optional_index::OptionalIndex;
+use crate::row_by_row::RowByRow;
+use crate::row_runs::RowRuns;
 
-/// An index with its rows with a value in a list, or with the start offsets of all rows.
+/// Rows with a value that are found one by one, or in runs.
 #[derive(Clone, Copy)]
 pub(crate) enum WalkedRows<'a> {
-    OfOptional(&'a OptionalIndex),
-    OfOffsets(&'a MultiValueIndexV1),
+    OneByOne(RowByRow<'a>),
+    OfRuns(&'a RowRuns),
 }

@@ -13,8 +13,17 @@ pub mod ShuffleLemmas
 pub mod ValueCountLemmas
 mod ByteCountLemmas
 mod CheckLemmas
+mod ListSpellingLemmas
+mod SetSpellingLemmas
 mod SpellingLemmas
 mod WritingLemmas
+mod RowWritingLemmas
+mod RunLemmas
+mod RunListLemmas
+mod RunWalkLemmas
+mod RunStackLemmas
+mod FoundRunLemmas
+mod HeldRunLemmas
 pub mod TightestLemmas
 pub mod MergeLemmas
 mod RecordedLists

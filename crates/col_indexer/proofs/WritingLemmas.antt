@@ -7,15 +7,15 @@ use Rattle.std.proofs.lemmas.Option.{same_Some}
 use Rattle.col_common.specs.Outside.{SeenSink}
 use Rattle.col_common.specs.Serializing.{Serializes}
 use Rattle.col_common.specs.declared.error.ColumnarError.{ColumnarError}
-use Rattle.col_common.specs.VInt.{vint_bytes}
 use Rattle.col_common.proofs.SerializingLemmas.{serializes-then, serializes-stopped}
 use Rattle.col_model.specs.Table.{cardinality_code}
-use Rattle.col_model.specs.Index.{RowSet, RowOffsets}
+use Rattle.col_model.specs.Index.{RowOffsets}
 use Rattle.col_model.specs.Codecs.{chosen_codec, codec_bytes, estimate}
 use Rattle.col_indexer.specs.Spelling.{Index, full_index, optional_index, multivalued_index, index_codecs, index_list_bytes, row_set_bytes, row_offsets_bytes, body_bytes, index_bytes, AreRowsOf32, AreOffsetsOf32, IsIndex, is_past_limit}
 use Rattle.col_indexer.specs.Written.{cardinality_written}
 use Rattle.col_indexer.proofs.ByteCountLemmas.{index_codec, list_bytes-picked, list_bytes-most}
-use Rattle.col_indexer.proofs.SpellingLemmas.{row_set_bytes-few, starts-few}
+use Rattle.col_indexer.proofs.SetSpellingLemmas.{row_set_bytes-few}
+use Rattle.col_indexer.proofs.SpellingLemmas.{starts-few}
 
 -- what is said of the codec that is chosen for a list
 at_picked : (P : ℕ → List ℕ → Type 0) (xs : List ℕ)
@@ -50,25 +50,33 @@ pub list-fits : (xs : List ℕ) (n : ℕ) → length xs < 2 ^ 32
     → 1 + n < 2 ^ 64
 list-fits xs n few h = omega (arith, list-long xs n h, list_bytes-most xs)
 
--- ---- rows
+-- ---- two parts, and how many bytes the first one takes
 
--- rows with a value are written as their count and their list
-pub row_set-written :
-    (a b d : SeenSink) (end : Unit {0}) (result : Result (Unit {0}) ColumnarError) (count : ℕ) (s : RowSet)
-    → count ≡ s.num_rows → Serializes a b (Ok end) (vint_bytes count) → Serializes b d result (index_list_bytes s.rows)
-    → Serializes a d result (row_set_bytes s)
-unfolding row_set_bytes
-row_set-written a b d end result count s e front rest =
-    serializes-then a b d end result (vint_bytes s.num_rows) (index_list_bytes s.rows)
-    (subst (λ c. Serializes a b (Ok end) (vint_bytes c)) e front) rest
+-- the second part was not written to its end
+pub parts-stopped : (a b d : SeenSink) (end : Unit {0}) (e : ColumnarError) (xs ys : List ℕ)
+    → Serializes a b (Ok end) xs → Serializes b d (Err e) ys
+    → Serializes a d (Err e) (xs ++ (ys ++ to_le_bytes w64 (length xs)))
+parts-stopped a b d end e xs ys first second =
+    serializes-stopped a d e (xs ++ ys) (xs ++ (ys ++ to_le_bytes w64 (length xs)))
+    (serializes-then a b d end (Err e) xs ys first second)
 
--- the count and the list are as long as the bytes of the rows with a value
-pub row_set-long : (count front rest : ℕ) (s : RowSet) → count ≡ s.num_rows → front ≡ length (vint_bytes count)
-    → rest ≡ length (index_list_bytes s.rows) → front + rest ≡ length (row_set_bytes s)
-unfolding row_set_bytes
-row_set-long count front rest s e f r =
-    let same : front ≡ length (vint_bytes s.num_rows) = f ∙ ap (λ c. length (vint_bytes c)) e in
-    omega (arith, length-append (vint_bytes s.num_rows) (index_list_bytes s.rows))
+-- both parts were, and the length behind them
+pub parts-written : (a b d f : SeenSink) (end : Unit {0}) (result : Result (Unit {0}) ColumnarError) (len : ℕ)
+    (bytes xs ys : List ℕ) → len ≡ length xs → bytes ≡ to_le_bytes w64 len
+    → Serializes a b (Ok end) xs → Serializes b d (Ok end) ys → Serializes d f result bytes
+    → Serializes a f result (xs ++ (ys ++ to_le_bytes w64 (length xs)))
+parts-written a b d f end result len bytes xs ys e same first second rest =
+    let length_bytes = to_le_bytes w64 (length xs) in
+    serializes-then a b f end result xs (ys ++ length_bytes) first
+    (serializes-then b d f end result ys length_bytes second
+    (subst (Serializes d f result) (same ∙ ap (to_le_bytes w64) e) rest))
+
+-- both parts and eight bytes are as long as all of it
+pub parts-long : (front rest : ℕ) (xs ys : List ℕ) → front ≡ length xs → rest ≡ length ys
+    → front + rest + 8 ≡ length (xs ++ (ys ++ to_le_bytes w64 (length xs)))
+parts-long front rest xs ys f r =
+    let behind : length (ys ++ to_le_bytes w64 (length xs)) ≡ length ys + 8 = length-append ys (to_le_bytes w64 (length xs)) in
+    omega (arith, length-append xs (ys ++ to_le_bytes w64 (length xs)))
 
 -- ---- rows and start offsets
 
@@ -76,9 +84,8 @@ row_set-long count front rest s e f r =
 pub offsets-stopped : (a b d : SeenSink) (end : Unit {0}) (e : ColumnarError) (o : RowOffsets)
     → Serializes a b (Ok end) (row_set_bytes o.set) → Serializes b d (Err e) (index_list_bytes o.starts)
     → Serializes a d (Err e) (row_offsets_bytes o)
-offsets-stopped a b d end e o rows starts =
-    serializes-stopped a d e (row_set_bytes o.set ++ index_list_bytes o.starts) (row_offsets_bytes o)
-    (serializes-then a b d end (Err e) (row_set_bytes o.set) (index_list_bytes o.starts) rows starts)
+unfolding row_offsets_bytes
+offsets-stopped a b d end e o rows starts = parts-stopped a b d end e (row_set_bytes o.set) (index_list_bytes o.starts) rows starts
 
 -- rows with start offsets are written as the rows, the offsets and the length of the rows' bytes
 pub row_offsets-written : (a b d f : SeenSink) (end : Unit {0}) (result : Result (Unit {0}) ColumnarError) (len : ℕ)
@@ -87,20 +94,13 @@ pub row_offsets-written : (a b d f : SeenSink) (end : Unit {0}) (result : Result
     → Serializes d f result bytes → Serializes a f result (row_offsets_bytes o)
 unfolding row_offsets_bytes
 row_offsets-written a b d f end result len bytes o e same rows starts rest =
-    let length_bytes = to_le_bytes w64 (length (row_set_bytes o.set)) in
-    serializes-then a b f end result (row_set_bytes o.set) (index_list_bytes o.starts ++ length_bytes) rows
-    (serializes-then b d f end result (index_list_bytes o.starts) length_bytes starts
-    (subst (Serializes d f result) (same ∙ ap (to_le_bytes w64) e) rest))
+    parts-written a b d f end result len bytes (row_set_bytes o.set) (index_list_bytes o.starts) e same rows starts rest
 
 -- the rows, the offsets and eight bytes are as long as the bytes of both
 pub row_offsets-long : (front rest : ℕ) (o : RowOffsets) → front ≡ length (row_set_bytes o.set)
     → rest ≡ length (index_list_bytes o.starts) → front + rest + 8 ≡ length (row_offsets_bytes o)
 unfolding row_offsets_bytes
-row_offsets-long front rest o f r =
-    let behind : length (index_list_bytes o.starts ++ to_le_bytes w64 (length (row_set_bytes o.set))) ≡ length
-    (index_list_bytes o.starts) + 8 = length-append (index_list_bytes o.starts)
-    (to_le_bytes w64 (length (row_set_bytes o.set))) in
-    omega (arith, length-append (row_set_bytes o.set) (index_list_bytes o.starts ++ to_le_bytes w64 (length (row_set_bytes o.set))))
+row_offsets-long front rest o f r = parts-long front rest (row_set_bytes o.set) (index_list_bytes o.starts) f r
 
 -- 64 bits say how long they are
 pub row_offsets-fits : (front rest : ℕ) (o : RowOffsets) → AreOffsetsOf32 o

@@ -1,4 +1,5 @@
 pub mod Spelling
+pub mod Runs
 pub mod Counted
 pub mod Merged
 pub mod Stacks

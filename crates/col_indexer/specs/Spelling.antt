@@ -1,9 +1,10 @@
 -- The bytes of indexes. States docs/FORMAT.md, sections 7, 8 and 12.
-use Rattle.std.specs.Prelude.{ℕ, ◌-◌, ◌<◌, ◌^◌, nat_le, Bool, false, List, [], ◌∷◌, ◌++◌, length, unwrap_or}
+use Rattle.std.specs.Prelude.{ℕ, ◌-◌, ◌<◌, ◌^◌, nat_le, Bool, false, List, [], ◌∷◌, ◌++◌, length, unwrap_or, if◌then◌else◌}
 use Rattle.std.specs.Int.{w64, to_le_bytes}
 use Rattle.col_common.specs.VInt.{vint_bytes}
 use Rattle.col_model.specs.Codecs.{chosen_codec, codec_bytes}
 use Rattle.col_model.specs.Index.{RowSet, RowOffsets, set_counts, offset_counts}
+use Rattle.col_model.specs.Index.{runs_of, run_starts, run_lengths, are_in_runs}
 use Rattle.col_model.specs.Index.{Shape, full_shape, optional_shape, multivalued_shape}
 use Rattle.col_index.specs.Sets.{AreRows}
 use Rattle.col_index.specs.Offsets.{AreOffsets}
@@ -16,15 +17,36 @@ index_codecs = 0 ∷ 1 ∷ []
 unfoldable pub index_list_bytes : List ℕ → List ℕ
 index_list_bytes xs = codec_bytes (unwrap_or (chosen_codec xs index_codecs) 0) xs
 
--- the row count, and the rows with a value
+-- the row count, and the rows with a value one by one
+unfoldable pub listed_bytes : RowSet → List ℕ
+listed_bytes s = vint_bytes s.num_rows ++ index_list_bytes s.rows
+
+-- where runs start, how long they are, and how many bytes the starts take
+unfoldable pub run_list_bytes : List (ℕ × ℕ) → List ℕ
+run_list_bytes runs =
+    let starts = index_list_bytes (run_starts runs) in
+    starts ++ (index_list_bytes (run_lengths runs) ++ to_le_bytes w64 (length starts))
+
+-- a row count, and runs
+unfoldable pub run_bytes : ℕ → List (ℕ × ℕ) → List ℕ
+run_bytes n runs = vint_bytes n ++ run_list_bytes runs
+
+-- behind the byte of the form, the rows with a value: their runs where these hold more than 32
+-- rows each, on the average, else one by one
 unfoldable pub row_set_bytes : RowSet → List ℕ
-row_set_bytes s = vint_bytes s.num_rows ++ index_list_bytes s.rows
+row_set_bytes s =
+    if are_in_runs s.rows then 1 ∷ run_bytes s.num_rows (runs_of s.rows)
+    else 0 ∷ listed_bytes s
 
 -- the rows with a value, their start offsets, and how many bytes the rows take
 unfoldable pub row_offsets_bytes : RowOffsets → List ℕ
 row_offsets_bytes o =
     row_set_bytes o.set
     ++ (index_list_bytes o.starts ++ to_le_bytes w64 (length (row_set_bytes o.set)))
+
+-- rows of so many rows
+abbrev pub row_set_by : ℕ → List ℕ → RowSet
+row_set_by n rows = record { num_rows = n; rows = rows }
 
 -- rows of so many rows, and their start offsets
 abbrev pub offsets_by_rows : ℕ → List ℕ → List ℕ → RowOffsets

@@ -7,7 +7,7 @@ use Rattle.col_model.specs.Order.{all_rows}
 use Rattle.col_model.specs.Positions.{start_of, picked_counts, rows_with_value, starts_of, starts_after}
 use Rattle.col_index.specs.declared.column_index.ColumnIndex.{ColumnIndex}
 use Rattle.col_index.specs.Indexes.{shape_of}
-use Rattle.col_index.specs.Walked.{IsHint32, IsWalkOfRows}
+use Rattle.col_index.specs.Walked.{IsHint32, IsRanked32}
 use Rattle.col_indexer.specs.Counted.{counts_in, rows_behind}
 use Rattle.col_indexer.specs.Merged.{FitSegments}
 
@@ -46,7 +46,7 @@ pub record AreSegments (s : Segments) : Type 0 where
 -- a walk of rows: behind the last segment its place is 0
 pub record StandsAtRow (s : Segments) (w : Walk) : Type 0 where
   pub segment : w.segment ≤ length s.counts
-  pub row : IsWalkOfRows (rows_with_value (segment_counts s w.segment)) w
+  pub row : IsRanked32 (rows_with_value (segment_counts s w.segment)) w.inner w.place
   pub before : w.sum ≡ start_of s.counts w.segment
 
 -- the rows that it has still to give

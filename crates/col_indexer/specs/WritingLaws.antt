@@ -8,8 +8,10 @@ use Rattle.col_indexer.specs.Spelling.{IsIndex, is_past_limit}
 
 -- what is written of an index within the limit is read back
 pub record IndexesAreReadBack : Type 0 where
-  pub rows : (s : RowSet) → IsIndex (optional_index s) → row_set (row_set_bytes s) ≡ Some s
+  pub rows : (s : RowSet) → IsIndex (optional_index s)
+      → row_set current_version (row_set_bytes s) ≡ Some s
   pub offsets : (o : RowOffsets) → IsIndex (multivalued_index o)
-      → is_past_limit (multivalued_index o) ≡ false → row_offsets (row_offsets_bytes o) ≡ Some o
+      → is_past_limit (multivalued_index o) ≡ false
+      → row_offsets current_version (row_offsets_bytes o) ≡ Some o
   pub index : (i : Index) → IsIndex i → is_past_limit i ≡ false
       → shape (index_bytes i) current_version ≡ Some (index_shape i)

@@ -2,19 +2,21 @@
 ghost use Rattle.std.specs.Prelude.{◌≡◌, ◌^◌, ◌<◌, nat_le, length, Some, IfOk};
 ghost use Rattle.col_common.specs.Serializing.{Serializes, done};
 ghost use Rattle.col_model.specs.Index.{row_set};
-ghost use Rattle.col_model.specs.Positions.{rows_with_value, starts_of};
+ghost use Rattle.col_model.specs.Positions.{starts_of};
+ghost use Rattle.col_model.specs.Version.{current_version};
 ghost use Rattle.col_index.specs.MultiValues.{value_counts_of};
 ghost use Rattle.col_index.specs.Versions.{cardinality_of};
 ghost use Rattle.col_indexer.specs.RowViews.{rows_of};
 ghost use Rattle.col_indexer.specs.OffsetViews.{start_offsets_of};
 ghost use Rattle.col_indexer.specs.Stacks.{stacked_counts};
-ghost use Rattle.col_indexer.specs.Spelling.{index_list_bytes, row_set_bytes, AreRowsOf32};
+ghost use Rattle.col_indexer.specs.Spelling.{index_list_bytes, row_set_bytes};
 ghost use Rattle.col_indexer.specs.Spelling.{optional_index, IsIndex};
 ghost use Rattle.col_indexer.specs.Written.{SerializesIndexList};
 
+use crate::serialize_rows::serialize_row_set;
 use crate::stacked_lists::starts_of_index;
-use crate::{RowIds, StackedRowIds, StackedStartOffsets, StartOffsets, indexes_are_read_back};
-use col_common::{ColumnarError, Iterable, RowId, Sink, VInt};
+use crate::{RowIds, StackedStartOffsets, StartOffsets, indexes_are_read_back};
+use col_common::{ColumnarError, Iterable, RowId, Sink};
 use col_index::{Cardinality, MultiValueIndex, OptionalIndex};
 use col_numbers::{CodecType, serialize_estimated_values};
 use std::alloc::{AllocError, Global};
@@ -128,53 +130,13 @@ pub fn serialize_optional_index<K: Sink>(
     ensures ok { Serializes (K.seen sink.old) (K.seen sink.new) result
         (row_set_bytes (record { num_rows = num_rows; rows = rows_of non_null_row_ids.now })) }
     // What was written stands for the rows.
-    ensures again { row_set
+    ensures again { row_set current_version
         (row_set_bytes (record { num_rows = num_rows; rows = rows_of non_null_row_ids.now }))
         ≡ Some (record { num_rows = num_rows; rows = rows_of non_null_row_ids.now }) }
 {
     indexes_are_read_back();
     serialize_row_set(alloc, non_null_row_ids, num_rows, sink)?;
     Ok(())
-}
-
-/// Writes rows that rise, of so many rows, and tells how many bytes they take.
-pub(crate) fn serialize_row_set<K: Sink>(
-    alloc: Global,
-    rows: &RowIds<'_>,
-    num_rows: RowId,
-    sink: &mut K,
-) -> Result<u64, ColumnarError>
-    requires { AreRowsOf32 (record { num_rows = num_rows; rows = rows_of rows.now }) }
-    ensures ok { Serializes (K.seen sink.old) (K.seen sink.new) (done result)
-        (row_set_bytes (record { num_rows = num_rows; rows = rows_of rows.now })) }
-    ensures length { IfOk result (λ n.
-        n ≡ length (row_set_bytes (record { num_rows = num_rows; rows = rows_of rows.now }))) }
-{
-    let count = VInt(u64::from(num_rows));
-    count.serialize(sink)?;
-    let len = serialize_rows(alloc, rows, sink)?;
-    Ok(count.num_bytes() + len)
-}
-
-// Writes a list of rows, and tells how many bytes it takes. One that is in memory is written from
-// there.
-fn serialize_rows<K: Sink>(
-    alloc: Global,
-    rows: &RowIds<'_>,
-    sink: &mut K,
-) -> Result<u64, ColumnarError>
-    requires { length (rows_of rows.now) < 2 ^ 32 }
-    ensures ok { SerializesIndexList (K.seen sink.old) (K.seen sink.new) result (rows_of rows.now) }
-    ensures length { IfOk result (λ n. n ≡ length (index_list_bytes (rows_of rows.now))) }
-{
-    match rows {
-        RowIds::Slice(rows) => serialize_list(alloc, rows, sink),
-        RowIds::Index(index) => {
-            serialize_collected(alloc, rows, index.num_non_nulls() as usize, sink)
-        }
-        RowIds::Stacked(rows) => serialize_stacked_rows(alloc, rows, sink),
-        RowIds::Shuffled(rows) => serialize_collected(alloc, rows, rows.max_len(), sink),
-    }
 }
 
 /// Writes a list of start offsets, and tells how many bytes it takes. One that is in memory is
@@ -216,22 +178,6 @@ fn serialize_index_starts<K: Sink>(
     serialize_list(alloc, &items.as_slice(), sink)
 }
 
-// Writes the rows of indexes one behind another, and tells how many bytes they take.
-fn serialize_stacked_rows<K: Sink>(
-    alloc: Global,
-    rows: &StackedRowIds<'_>,
-    sink: &mut K,
-) -> Result<u64, ColumnarError>
-    requires { length (rows_with_value (stacked_counts rows.now)) < 2 ^ 32 }
-    ensures ok { SerializesIndexList (K.seen sink.old) (K.seen sink.new) result
-        (rows_with_value (stacked_counts rows.now)) }
-    ensures length { IfOk result (λ n.
-        n ≡ length (index_list_bytes (rows_with_value (stacked_counts rows.now)))) }
-{
-    let items = rows.collected(alloc)?;
-    serialize_list(alloc, &items.as_slice(), sink)
-}
-
 // Writes the start offsets of indexes one behind another, and tells how many bytes they take.
 fn serialize_stacked_starts<K: Sink>(
     alloc: Global,
@@ -248,8 +194,8 @@ fn serialize_stacked_starts<K: Sink>(
     serialize_list(alloc, &items.as_slice(), sink)
 }
 
-// The items of a list, in memory, with room for so many from the start.
-fn collected_with_capacity<T, I>(
+/// The items of a list, in memory, with room for so many from the start.
+pub(crate) fn collected_with_capacity<T, I>(
     alloc: Global,
     list: &I,
     capacity: usize,
@@ -283,9 +229,9 @@ fn serialize_collected<I: Iterable<RowId>, K: Sink>(
     serialize_list(alloc, &items.as_slice(), sink)
 }
 
-// Writes a list under the codec that takes the fewest bytes, and tells how many. The list is walked
-// several times.
-fn serialize_list<I: Iterable<RowId>, K: Sink>(
+/// Writes a list under the codec that takes the fewest bytes, and tells how many. The list is walked
+/// several times.
+pub(crate) fn serialize_list<I: Iterable<RowId>, K: Sink>(
     alloc: Global,
     list: &I,
     sink: &mut K,

@@ -10,9 +10,8 @@ ghost use Rattle.col_indexer.specs.Spelling.{IsIndex, is_past_limit};
 ghost use Rattle.col_indexer.specs.Written.{row_offsets_of, index_of};
 
 use crate::indexes_are_read_back;
-use crate::serialize::{
-    SerializableColumnIndex, SerializableMultivalueIndex, serialize_row_set, serialize_starts,
-};
+use crate::serialize::{SerializableColumnIndex, SerializableMultivalueIndex, serialize_starts};
+use crate::serialize_rows::serialize_row_set;
 use col_common::{ColumnarError, Iterable, Sink, serialize_bytes};
 use std::alloc::Global;
 
@@ -28,7 +27,8 @@ pub fn serialize_multivalued_index<K: Sink>(
     ensures ok { Serializes (K.seen sink.old) (K.seen sink.new) result
         (row_offsets_bytes (row_offsets_of multivalued_index.now)) }
     // What was written stands for the rows and offsets.
-    ensures again { row_offsets (row_offsets_bytes (row_offsets_of multivalued_index.now))
+    ensures again { row_offsets current_version
+        (row_offsets_bytes (row_offsets_of multivalued_index.now))
         ≡ Some (row_offsets_of multivalued_index.now) }
 {
     indexes_are_read_back();

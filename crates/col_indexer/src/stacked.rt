@@ -1,6 +1,7 @@
 //! Indexes one behind another.
 ghost use Rattle.std.specs.Prelude.{◌≡◌, ◌≤◌, ◌+◌, ◌^◌, sum, slice_get, option_map, IfOk, IfSome};
 ghost use Rattle.std.specs.List.{range_with_len};
+ghost use Rattle.col_model.specs.Index.{runs_of};
 ghost use Rattle.col_model.specs.Positions.{rank, rows_with_value, starts_of};
 ghost use Rattle.col_indexer.specs.Counted.{counts_in};
 ghost use Rattle.col_index.specs.Indexes.{shape_of};
@@ -10,7 +11,9 @@ ghost use Rattle.col_common.specs.Walks.{IsNext};
 ghost use Rattle.col_indexer.specs.Stacks.{AreSegments, index_segments, stacked_counts};
 ghost use Rattle.col_indexer.specs.Stacks.{StandsAtRow, stacked_rows_to_give, StandsAtOffset, stacked_offsets_to_give};
 
+use crate::runs::Runs;
 use crate::stacked_lists::{collected_rows, collected_starts};
+use crate::stacked_runs::collected_runs;
 use col_common::{DocId, Iterable, RowId, Walk};
 use col_index::{ColumnIndex, MultiValueIndex, NonNullDocs};
 use col_order::StackMergeOrder;
@@ -70,6 +73,14 @@ impl<'a> StackedRowIds<'a> {
         ensures { IfOk result (λ v. v.items ≡ rows_with_value (stacked_counts self.now)) }
     {
         collected_rows(alloc, self.column_indexes, self.order)
+    }
+
+    /// Their runs, in memory, where each index has its runs at hand.
+    pub(crate) fn collected_runs(&self, alloc: Global) -> Result<Option<Runs>, AllocError>
+        ensures { IfOk result (λ o. IfSome o (λ runs.
+            runs ≡ runs_of (rows_with_value (stacked_counts self.now)))) }
+    {
+        collected_runs(alloc, self.column_indexes, self.order)
     }
 }
 

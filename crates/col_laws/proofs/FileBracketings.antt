@@ -14,17 +14,17 @@ use Rattle.col_laws.specs.ScriptFiles.{segment_with, cut_segments}
 abbrev ten_and_twenty : List ℕ
 ten_and_twenty =
     0 ∷ 0 ∷ 138 ∷ 138 ∷ 129 ∷ 130 ∷ 2 ∷ 1 ∷ 0 ∷ 0 ∷ 0 ∷ 0 ∷ 0 ∷ 0 ∷ 0 ∷ 129 ∷ 131 ∷ 97 ∷ 0 ∷ 1 ∷ 143 ∷ 6 ∷ 0 ∷ 0 ∷ 0
-    ∷ 0 ∷ 0 ∷ 0 ∷ 0 ∷ 2 ∷ 0 ∷ 0 ∷ 0 ∷ 2 ∷ 0 ∷ 0 ∷ 0 ∷ 2 ∷ 113 ∷ 119 ∷ 66 ∷ []
+    ∷ 0 ∷ 0 ∷ 0 ∷ 0 ∷ 2 ∷ 0 ∷ 0 ∷ 0 ∷ 3 ∷ 0 ∷ 0 ∷ 0 ∷ 2 ∷ 113 ∷ 119 ∷ 66 ∷ []
 
 -- no rows, no columns
 abbrev no_rows : List ℕ
-no_rows = 128 ∷ 1 ∷ 0 ∷ 0 ∷ 0 ∷ 0 ∷ 0 ∷ 0 ∷ 0 ∷ 0 ∷ 0 ∷ 0 ∷ 0 ∷ 2 ∷ 0 ∷ 0 ∷ 0 ∷ 2 ∷ 113 ∷ 119 ∷ 66 ∷ []
+no_rows = 128 ∷ 1 ∷ 0 ∷ 0 ∷ 0 ∷ 0 ∷ 0 ∷ 0 ∷ 0 ∷ 0 ∷ 0 ∷ 0 ∷ 0 ∷ 3 ∷ 0 ∷ 0 ∷ 0 ∷ 2 ∷ 113 ∷ 119 ∷ 66 ∷ []
 
 -- the same rows twice
 abbrev twice : List ℕ
 twice =
     0 ∷ 0 ∷ 138 ∷ 138 ∷ 129 ∷ 132 ∷ 10 ∷ 1 ∷ 0 ∷ 0 ∷ 0 ∷ 0 ∷ 0 ∷ 0 ∷ 0 ∷ 129 ∷ 131 ∷ 97 ∷ 0 ∷ 1 ∷ 143 ∷ 6 ∷ 0 ∷ 0
-    ∷ 0 ∷ 0 ∷ 0 ∷ 0 ∷ 0 ∷ 4 ∷ 0 ∷ 0 ∷ 0 ∷ 2 ∷ 0 ∷ 0 ∷ 0 ∷ 2 ∷ 113 ∷ 119 ∷ 66 ∷ []
+    ∷ 0 ∷ 0 ∷ 0 ∷ 0 ∷ 0 ∷ 4 ∷ 0 ∷ 0 ∷ 0 ∷ 3 ∷ 0 ∷ 0 ∷ 0 ∷ 2 ∷ 113 ∷ 119 ∷ 66 ∷ []
 
 -- one number a row
 abbrev table_with : ℕ → List ℕ → Table

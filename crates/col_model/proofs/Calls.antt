@@ -1,15 +1,17 @@
 -- Worked rows of single calls, computed.
-use Rattle.std.specs.Prelude.{◌≡◌, ℕ, List, [], ◌∷◌, Some, None, Result, Ok, refl, map, codes, pos, true, false, Bool, ◌++◌, ◌^◌, ◌-◌, length, replicate, flat_map}
+use Rattle.std.specs.Prelude.{◌≡◌, ℕ, List, [], ◌∷◌, Some, None, Result, Ok, refl, map, codes, pos, true, false, Bool, ◌++◌, ◌^◌, ◌-◌, length, replicate, flat_map, option_map, Option}
+use Rattle.std.specs.Int.{w64, to_le_bytes}
+use Rattle.std.specs.List.{range_with_len}
 use Rattle.col_model.proofs.OnLiterals.{col_model_on_literals}
 use Rattle.col_model.specs.ColumnType as types
-use Rattle.col_model.specs.Table.{number, full}
+use Rattle.col_model.specs.Table.{number, full, optional}
 use Rattle.col_model.specs.Recording.{recorded, content_after_all}
 use Rattle.col_model.specs.Refusal.{Refusal, ◌>>=◌}
 use Rattle.col_model.specs.SortOrder.{sort_order}
 use Rattle.col_model.specs.CodeHits.{exact, next, after_last, code_hit, ranges_before}
 use Rattle.col_model.specs.AddressList.{AddressFooter, code_count, address_footer_at, address_footer, ranges_at, header_at}
 use Rattle.col_common.specs.VInt.{vint_bytes}
-use Rattle.col_model.specs.Index.{counts, offset_counts_v1}
+use Rattle.col_model.specs.Index.{RowSet, row_set, runs_of, are_in_runs, counts, offset_counts_v1}
 use Rattle.col_model.specs.Version.{version_of, version_bytes}
 use Rattle.col_model.specs.Images.{images64, is_image_of_bool, is_image_of_u32}
 use Rattle.col_model.specs.U64List.{bitpacked_bytes}
@@ -133,22 +135,61 @@ other_header = refl
 
 -- ---- versions and indexes
 
-version_read : version_of version_bytes ≡ Some 2
+version_read : version_of version_bytes ≡ Some 3
 version_read = refl
 
 versions_read : map version_of
     ((1 ∷ 0 ∷ 0 ∷ 0 ∷ 0x02 ∷ 0x71 ∷ 0x77 ∷ 0x42 ∷ []) ∷ (3 ∷ 0 ∷ 0 ∷ 0 ∷ 0x02 ∷ 0x71 ∷ 0x77 ∷ 0x42 ∷ [])
-    ∷ (0 ∷ 0 ∷ 0 ∷ 0 ∷ 0x02 ∷ 0x71 ∷ 0x77 ∷ 0x42 ∷ []) ∷ [])
-    ≡ Some 1 ∷ None ∷ None ∷ []
+    ∷ (0 ∷ 0 ∷ 0 ∷ 0 ∷ 0x02 ∷ 0x71 ∷ 0x77 ∷ 0x42 ∷ [])
+    ∷ (4 ∷ 0 ∷ 0 ∷ 0 ∷ 0x02 ∷ 0x71 ∷ 0x77 ∷ 0x42 ∷ []) ∷ []) ≡ Some 1 ∷ Some 3 ∷ None ∷ None ∷ []
 versions_read = refl
 
 full_counts : counts (0 ∷ []) 2 3 ≡ Some (record { cardinality = full; of_rows = 1 ∷ 1 ∷ 1 ∷ [] })
 unfolding col_model_on_literals
 full_counts = refl
 
-other_version : counts (0 ∷ []) 3 3 ≡ None
+other_version : counts (0 ∷ []) 4 3 ≡ None
 unfolding col_model_on_literals
 other_version = refl
+
+-- values in the first 40 of 100 rows, as one run, and a run that would end behind the last row
+one_run : map (λ lengths. counts (1 ∷ 1 ∷ 0xe4 ∷ 0 ∷ 0x80 ∷ 0x81 ∷ 0x80 ∷ 0x81 ∷ lengths
+    ++ (5 ∷ 0 ∷ 0 ∷ 0 ∷ 0 ∷ 0 ∷ 0 ∷ 0 ∷ [])) 3 100)
+    ((0 ∷ 0xa8 ∷ 0x81 ∷ 0x80 ∷ 0x81 ∷ []) ∷ (0 ∷ 0xe5 ∷ 0x81 ∷ 0x80 ∷ 0x81 ∷ []) ∷ [])
+    ≡ Some (record { cardinality = optional; of_rows = replicate 40 1 ++ replicate 60 0 }) ∷ None ∷ []
+unfolding col_model_on_literals
+one_run = refl
+
+-- the set of runs of ten rows
+ten_by_runs : List ℕ → List ℕ → Option (List ℕ)
+ten_by_runs starts lengths =
+    option_map (λ (s : RowSet). s.rows) (row_set 3 (1 ∷ 0x8a ∷ bitpacked_bytes starts ++ bitpacked_bytes lengths
+    ++ to_le_bytes w64 (length (bitpacked_bytes starts))))
+
+-- runs that are apart, one up to the end, and none; then: touching, overlapping and falling ones, one that is empty, one past
+-- the end, and fewer lengths than starts
+runs_read : ten_by_runs (0 ∷ 4 ∷ []) (3 ∷ 2 ∷ []) ∷ ten_by_runs (9 ∷ []) (1 ∷ []) ∷ ten_by_runs [] []
+    ∷ ten_by_runs (0 ∷ 3 ∷ []) (3 ∷ 2 ∷ []) ∷ ten_by_runs (0 ∷ 2 ∷ []) (3 ∷ 2 ∷ []) ∷ ten_by_runs (4 ∷ 0 ∷ []) (3 ∷ 2 ∷ [])
+    ∷ ten_by_runs (0 ∷ 4 ∷ []) (0 ∷ 2 ∷ []) ∷ ten_by_runs (9 ∷ []) (2 ∷ []) ∷ ten_by_runs (0 ∷ 4 ∷ []) (3 ∷ []) ∷ []
+    ≡ Some (0 ∷ 1 ∷ 2 ∷ 4 ∷ 5 ∷ []) ∷ Some (9 ∷ []) ∷ Some [] ∷ None ∷ None ∷ None ∷ None ∷ None ∷ None ∷ []
+unfolding col_model_on_literals ten_by_runs
+runs_read = refl
+
+-- runs as they are found in rows, and the first count of rows that stand in one
+runs_found : map runs_of ((3 ∷ []) ∷ (0 ∷ 1 ∷ 2 ∷ 4 ∷ 6 ∷ 7 ∷ []) ∷ [] ∷ [])
+    ≡ ((3, 1) ∷ []) ∷ ((0, 3) ∷ (4, 1) ∷ (6, 2) ∷ []) ∷ [] ∷ []
+unfolding col_model_on_literals
+runs_found = refl
+
+runs_pay : map (λ n. are_in_runs (range_with_len 5 n)) (0 ∷ 32 ∷ 33 ∷ []) ≡ false ∷ false ∷ true ∷ []
+unfolding col_model_on_literals
+runs_pay = refl
+
+-- forms: one by one, and another
+forms_read : map (row_set 3) ((0 ∷ 0x83 ∷ bitpacked_bytes (0 ∷ 2 ∷ [])) ∷ (2 ∷ 0x83 ∷ bitpacked_bytes (0 ∷ 2 ∷ [])) ∷ [] ∷ [])
+    ≡ Some (record { num_rows = 3; rows = 0 ∷ 2 ∷ [] }) ∷ None ∷ None ∷ []
+unfolding col_model_on_literals
+forms_read = refl
 
 -- rows of 2, 0 and 1 values
 old_index : offset_counts_v1 (bitpacked_bytes (0 ∷ 2 ∷ 2 ∷ 3 ∷ [])) ≡ Some (2 ∷ 0 ∷ 1 ∷ [])

@@ -14,7 +14,7 @@ use Rattle.col_model.specs.ColumnType.{ColumnType, type_code, type_of_code, has_
 use Rattle.col_model.specs.ColumnType as types
 use Rattle.col_model.specs.Column.{column, number_rows, stored_numbers, is_stored}
 use Rattle.col_model.specs.Keys.{Key, key_bytes, is_name, key_of, keyed_length, key_table, are_keys, entries_from, total_length, FileKeys, file_footer, keys}
-use Rattle.col_model.specs.Version.{magic, version_bytes}
+use Rattle.col_model.specs.Version.{current_version, magic, version_bytes}
 use Rattle.col_model.specs.File.{PartColumn, part_column, parts_of}
 use Rattle.col_model.specs.Spelling.{column_bytes, keyed_length_bytes, key_table_bytes, footer_bytes, keyed_lengths, file_bytes}
 use Rattle.col_common.proofs.VIntLemmas.{vint-vint_bytes}
@@ -81,18 +81,18 @@ key_table-key_table_bytes ps all h e =
     rw (vint-vint_bytes (length ps) (flat_map keyed_length_bytes ps) h, read, e) refl
 
 file_footer-parts : (a b c : List ℕ) (table_length row_count : ℕ) → le_number w64 a ≡ Some (table_length, b)
-    → le_number w32 b ≡ Some (row_count, c) → le_number w32 c ≡ Some (2, magic)
-    → file_footer a ≡ Some (record { table_length = table_length; row_count = row_count; version = 2 })
+    → le_number w32 b ≡ Some (row_count, c) → le_number w32 c ≡ Some (current_version, magic)
+    → file_footer a ≡ Some (record { table_length = table_length; row_count = row_count; version = current_version })
 unfolding file_footer
 file_footer-parts a b c table_length row_count x y z = rw (x, y, z) refl
 
 pub file_footer-footer_bytes : (table_length row_count : ℕ) → table_length < 2 ^ 64 → row_count < 2 ^ 32
     → file_footer (footer_bytes table_length row_count)
-    ≡ Some (record { table_length = table_length; row_count = row_count; version = 2 })
+    ≡ Some (record { table_length = table_length; row_count = row_count; version = current_version })
 unfolding footer_bytes
 file_footer-footer_bytes table_length row_count h k =
     file_footer-parts _ (to_le_bytes w32 row_count ++ version_bytes) version_bytes table_length row_count
-    (le_number-w64 table_length _ h) (le_number-w32 row_count _ k) (le_number-w32 2 magic (omega arith))
+    (le_number-w64 table_length _ h) (le_number-w32 row_count _ k) (le_number-w32 current_version magic (omega arith))
 
 length-footer_bytes : (table_length row_count : ℕ) → 20 ≡ length (footer_bytes table_length row_count)
 unfolding footer_bytes
@@ -103,7 +103,7 @@ pub keys-parts : (body : List ℕ) (ps : List (Key × ℕ)) (n : ℕ) → AllByR
     → are_keys (map (λ p. p.0) ps) ≡ true → length (key_table_bytes ps) < 2 ^ 64 → n < 2 ^ 32
     → total_length ps ≡ length body
     → keys ((body ++ key_table_bytes ps) ++ footer_bytes (length (key_table_bytes ps)) n)
-    ≡ Some (record { row_count = n; version = 2; entries = entries_from 0 ps })
+    ≡ Some (record { row_count = n; version = current_version; entries = entries_from 0 ps })
 unfolding keys
 keys-parts body ps n all h e t k s =
     rw (
@@ -132,9 +132,10 @@ slice-middle before part rest =
 
 -- a key with its column's bytes, as a part's column
 abbrev pub part_column_of : ℕ → Key × List ℕ → PartColumn
-part_column_of n p = record { name = p.0.name; column_type = p.0.column_type; content = column p.1 p.0.column_type 2 n }
+part_column_of n p =
+    record { name = p.0.name; column_type = p.0.column_type; content = column p.1 p.0.column_type current_version n }
 
-part_columns-from : (before : List ℕ) (ps : List (Key × List ℕ)) (tail : List ℕ) (k : FileKeys) → k.version ≡ 2
+part_columns-from : (before : List ℕ) (ps : List (Key × List ℕ)) (tail : List ℕ) (k : FileKeys) → k.version ≡ current_version
     → map (part_column (before ++ (joined_lists (map (λ p. p.1) ps) ++ tail)) k)
     (entries_from (length before) (keyed_lengths ps)) ≡ map (part_column_of k.row_count) ps
 part_columns-from before [] tail k v = refl
@@ -170,7 +171,7 @@ parts_of-file_bytes n ps all h e t k =
     let body = joined_lists (map (λ p. p.1) ps) in
     let table = key_table_bytes (keyed_lengths ps) in
     let footer = footer_bytes (length table) n in
-    let found : FileKeys = record { row_count = n; version = 2; entries = entries_from 0 (keyed_lengths ps) } in
+    let found : FileKeys = record { row_count = n; version = current_version; entries = entries_from 0 (keyed_lengths ps) } in
     let named : are_keys (map (λ p. p.0) (keyed_lengths ps)) ≡ true = rw (keys_of-keyed_lengths ps) e in
     let read : keys ((body ++ table) ++ footer) ≡ Some found =
     keys-parts body (keyed_lengths ps) n all (rw (length-map {B = Key × ℕ} ps (λ p. (p.0, length p.1))) h) named

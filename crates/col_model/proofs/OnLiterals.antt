@@ -14,7 +14,7 @@ use Rattle.col_model.specs.Codecs.{params_bytes, linear_line, linear_body, cut_b
 use Rattle.col_model.specs.AddressList.{coded_number, ranges_from, ranges_at, address_footer_at, coded_values, values128}
 use Rattle.col_model.specs.Sorted.{sorted_items, distinct_items}
 use Rattle.col_model.specs.Dictionary.{cut, terms}
-use Rattle.col_model.specs.Index.{row_set, row_offsets, offset_counts_v1, shape, counts}
+use Rattle.col_model.specs.Index.{listed_set, runs_of, run_set, formed_set, row_set, row_offsets, offset_counts_v1, shape, counts}
 use Rattle.col_model.specs.Column.{number_rows, term_column, column}
 use Rattle.col_model.specs.Keys.{key_of, keyed_length, key_table, file_footer, keys}
 use Rattle.col_model.specs.File.{parts_of}
@@ -42,9 +42,10 @@ unfolding is_utf8 chars encode digits parts_by_first parts_by_second items group
     stats_at line bitpacked_values params_at linear_values blocks blockwise_values values64 trained_slope
     trained_line params_bytes linear_line linear_body cut_blocks block_line blocks_bytes blockwise_body
     bitpacked_body bitpacked_estimate linear_estimate blockwise_estimate chosen_codec coded_number ranges_from
-    ranges_at address_footer_at coded_values values128 sorted_items distinct_items cut terms row_set row_offsets
-    offset_counts_v1 shape counts number_rows term_column column key_of keyed_length key_table file_footer keys
-    parts_of docs_between encode_with decode_pairs serde_json_on_literals numerical_type is_too_large written
+    ranges_at address_footer_at coded_values values128 sorted_items distinct_items cut terms
+    listed_set runs_of run_set formed_set row_set row_offsets offset_counts_v1 shape counts number_rows
+    term_column column key_of keyed_length key_table file_footer keys parts_of docs_between
+    encode_with decode_pairs serde_json_on_literals numerical_type is_too_large written
     content_after picks joined_column merged line_spelled_by script_of report_of check_report outcome_of_merge
     outcome_of_script outcome gen_script hit_from sort_order column_bytes keyed_length_bytes key_table_bytes footer_bytes file_bytes
 col_model_on_literals = tt

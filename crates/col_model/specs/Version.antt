@@ -5,11 +5,11 @@ use Rattle.col_common.specs.Reading.{◌>>=◌, only_if, le_number}
 
 -- the version that is written
 abbrev pub current_version : ℕ
-current_version = 2
+current_version = 3
 
 -- the versions that are read
 abbrev pub is_version : ℕ → Bool
-is_version v = (v == 1) || (v == 2)
+is_version v = (v == 1) || (v == 2) || (v == 3)
 
 -- the last four bytes of a file
 abbrev pub magic : List ℕ

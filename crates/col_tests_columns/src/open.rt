@@ -3,7 +3,7 @@ use bytes::Bytes;
 use col_common::ColumnarError;
 use col_dynamic::ColumnType;
 use col_dynamic_open::{LenientColumn, open_column_u64_lenient};
-use col_index::Version;
+use col_index::CURRENT_VERSION;
 use std::alloc::Global;
 use std::test::Fail;
 
@@ -36,7 +36,7 @@ fn numbers(
     bytes: &'static [u8],
 ) -> Result<(Option<u64>, Option<u64>), ColumnarError> {
     let bytes = Bytes::from_static(bytes);
-    two_rows(&open_column_u64_lenient(alloc, column_type, bytes, Version::V2, 2)?)
+    two_rows(&open_column_u64_lenient(alloc, column_type, bytes, CURRENT_VERSION, 2)?)
 }
 
 #[test]

@@ -2,7 +2,7 @@
 
 use bytes::Bytes;
 use col_common::ColumnarError;
-use col_index::Version;
+use col_index::CURRENT_VERSION;
 use col_text::{StrColumn, open_column_str};
 use std::alloc::Global;
 use std::process::Abort;
@@ -30,6 +30,6 @@ fn assert_texts(rt: &impl Abort, alloc: Global, column: &StrColumn) -> Result<()
 #[test]
 fn a_term_that_is_no_text_is_told(rt: HostRuntime) -> Result<(), Fail> {
     let bytes = Bytes::from_static(A_AND_NO_TEXT);
-    let column = open_column_str(rt.alloc(), bytes, Version::V2, 2)?;
+    let column = open_column_str(rt.alloc(), bytes, CURRENT_VERSION, 2)?;
     assert_texts(&rt, rt.alloc(), &column)
 }

@@ -10,11 +10,11 @@ use std::test::Fail;
 
 // The u64 column "a" of the rows 10 and 20.
 pub(crate) const TEN_AND_TWENTY: &[u8] = b"\0\0\x8a\x8a\x81\x82\x02\x01\0\0\0\0\0\0\0\
-\x81\x83a\0\x01\x8f\x06\0\0\0\0\0\0\0\x02\0\0\0\x02\0\0\0\x02qwB";
+\x81\x83a\0\x01\x8f\x06\0\0\0\0\0\0\0\x02\0\0\0\x03\0\0\0\x02qwB";
 
 // The str column "s" of three rows without a value.
-const THREE_WITHOUT: &[u8] = b"\0\0\0\0\x01\x83\0\x80\x81\x80\x80\0\x80\x81\x80\x80\
-\x07\0\0\0\0\0\0\0\x04\0\0\0\x81\x83s\0\x04\x9c\x06\0\0\0\0\0\0\0\x03\0\0\0\x02\0\0\0\x02qwB";
+const THREE_WITHOUT: &[u8] = b"\0\0\0\0\x01\0\x83\0\x80\x81\x80\x80\0\x80\x81\x80\x80\
+\x08\0\0\0\0\0\0\0\x04\0\0\0\x81\x83s\0\x04\x9d\x06\0\0\0\0\0\0\0\x03\0\0\0\x03\0\0\0\x02qwB";
 
 // Four columns of 1 to 4 bytes, which aren't read: "col1" (str), "subcol1" (str) and "subcol2"
 // (i64) below it, and "col2" (str).
@@ -212,7 +212,7 @@ fn a_dictionary_is_counted_apart(rt: HostRuntime) -> Result<(), Fail> {
     let alloc = rt.alloc();
     let handle = handle_in(alloc, THREE_WITHOUT)?;
     let [usage, again] = usage_in(alloc, THREE_WITHOUT, &handle)?;
-    assert_eq!(rt; parts(&usage), (24, 4));
-    assert_eq!(rt; parts(&again), (24, 4));
+    assert_eq!(rt; parts(&usage), (25, 4));
+    assert_eq!(rt; parts(&again), (25, 4));
     Ok(())
 }

@@ -8,7 +8,7 @@ use std::test::Fail;
 
 // The same rows twice.
 const TWICE: &[u8] = b"\0\0\x8a\x8a\x81\x84\x0a\x01\0\0\0\0\0\0\0\
-\x81\x83a\0\x01\x8f\x06\0\0\0\0\0\0\0\x04\0\0\0\x02\0\0\0\x02qwB";
+\x81\x83a\0\x01\x8f\x06\0\0\0\0\0\0\0\x04\0\0\0\x03\0\0\0\x02qwB";
 
 // The stack of two files of one column. Two reads open each, and one more reads its column: the
 // fourth fails.

@@ -3,7 +3,7 @@ ghost use Rattle.std.specs.Prelude.{◌<◌, ◌^◌, length, IfOk};
 
 use bytes::Bytes;
 use col_common::ColumnarError;
-use col_index::Version;
+use col_index::CURRENT_VERSION;
 use col_merge_column::{merged_content_is_joined, picked_content_is_joined};
 use col_merge_terms::{TermMerger, TermsWithSegmentOrd, compute_merged_term_ord_mapping};
 use col_terms::Dictionary;
@@ -32,8 +32,8 @@ fn two_columns(alloc: Global) -> Result<Vec<BytesColumn>, ColumnarError>
     ensures { IfOk result (λ columns. length columns.items < 2 ^ 32) }
 {
     let mut columns = Vec::with_capacity(alloc, 2)?;
-    columns.push(open_column_bytes(alloc, Bytes::from_static(THREE_ROWS), Version::V2, 3)?)?;
-    columns.push(open_column_bytes(alloc, Bytes::from_static(ONE_ROW), Version::V2, 1)?)?;
+    columns.push(open_column_bytes(alloc, Bytes::from_static(THREE_ROWS), CURRENT_VERSION, 3)?)?;
+    columns.push(open_column_bytes(alloc, Bytes::from_static(ONE_ROW), CURRENT_VERSION, 1)?)?;
     Ok(columns)
 }
 

@@ -5,12 +5,16 @@ use std::test::Fail;
 
 #[test]
 fn a_footer_tells_its_version(rt: HostRuntime) -> Result<(), Fail> {
-    assert_eq!(rt; footer(), *b"\x02\x00\x00\x00\x02\x71\x77\x42");
-    assert_eq!(rt; parse_footer(footer())?, Version::V2);
+    assert_eq!(rt; footer(), *b"\x03\x00\x00\x00\x02\x71\x77\x42");
+    assert_eq!(rt; parse_footer(footer())?, Version::V3);
     assert_eq!(rt;
         parse_footer(*b"\x01\x00\x00\x00\x02\x71\x77\x42")?,
         Version::V1
     );
-    assert!(rt; parse_footer(*b"\x03\x00\x00\x00\x02\x71\x77\x42").is_err());
+    assert_eq!(rt;
+        parse_footer(*b"\x02\x00\x00\x00\x02\x71\x77\x42")?,
+        Version::V2
+    );
+    assert!(rt; parse_footer(*b"\x04\x00\x00\x00\x02\x71\x77\x42").is_err());
     Ok(())
 }

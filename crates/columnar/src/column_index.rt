@@ -2,8 +2,8 @@
 //! written and merged.
 
 pub use col_index::{
-    Cardinality, ColumnIndex, MultiValueIndex, MultiValueIndexV1, MultiValueIndexV2, NonNullDocs,
-    OptionalIndex, OptionalIndexSelectCursor, SelectCursor, Set, open_column_index,
+    Cardinality, ColumnIndex, IndexRuns, MultiValueIndex, MultiValueIndexV1, MultiValueIndexV2,
+    NonNullDocs, OptionalIndex, OptionalIndexSelectCursor, SelectCursor, Set, open_column_index,
     open_multivalued_index, open_optional_index,
 };
 pub use col_indexer::{

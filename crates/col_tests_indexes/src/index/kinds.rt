@@ -25,6 +25,6 @@ fn cardinalities_and_versions_have_texts(rt: HostRuntime) -> Result<(), Fail> {
         assert_eq!(rt; text.as_str(), name);
     }
     let text = format!(in rt.alloc(); "{CURRENT_VERSION} {}", Version::V1)?;
-    assert_eq!(rt; text.as_str(), "v2 v1");
+    assert_eq!(rt; text.as_str(), "v3 v1");
     Ok(())
 }

@@ -3,8 +3,8 @@
 use bytes::Bytes;
 use col_common::{DocId, RowId};
 use col_index::{
-    ColumnIndex, MultiValueIndex, OptionalIndex, SelectCursor, Set, Version, indexes_have_counts,
-    open_multivalued_index,
+    CURRENT_VERSION, ColumnIndex, MultiValueIndex, OptionalIndex, SelectCursor, Set, Version,
+    indexes_have_counts, open_multivalued_index, open_optional_index,
 };
 use std::alloc::Global;
 use std::process::Abort;
@@ -122,6 +122,45 @@ fn rows_with_one_value_at_most_have_their_rank(rt: HostRuntime) -> Result<(), Fa
         positions: &[1, 0],
     };
     let text = "Optional(OptionalIndex { num_docs: 7, num_non_null_docs: 2, .. })";
+    assert_answers(&rt, rt.alloc(), &ColumnIndex::from(index), answers, text)
+}
+
+// Ten rows, of which 0, 1, 5, 6 and 7 have a value: the form, the row count, where runs start, how
+// long they are, and how many bytes the starts take.
+const TWO_RUNS: &[u8] = b"\x01\x8a\0\x80\x85\x81\x82\x02\0\x82\x81\x81\x82\x02\
+\x06\0\0\0\0\0\0\0";
+
+// An index has these runs: the first row of each, and how many rows it has.
+fn assert_runs(rt: &impl Abort, index: &OptionalIndex, wanted: &[(RowId, RowId)]) {
+    let Some(runs) = index.runs() else {
+        assert!(rt; false, "the rows are in runs");
+        return;
+    };
+    assert_eq!(rt; runs.num_runs() as usize, wanted.len());
+    for at in 0..runs.num_runs() {
+        assert_eq!(rt; Some(&runs.run(at)), wanted.get(at as usize));
+    }
+}
+
+#[test]
+fn rows_in_runs_have_their_rank(rt: HostRuntime) -> Result<(), Fail> {
+    let bytes = Bytes::from_static(TWO_RUNS);
+    let index = open_optional_index(rt.alloc(), bytes, CURRENT_VERSION)?;
+    assert_runs(&rt, &index, &[(0, 2), (5, 3)]);
+    assert_eq!(rt;
+        (
+            index.rank(6),
+            index.rank_if_exists(4),
+            index.next_non_null_doc(2)
+        ),
+        (3, None, Some(5))
+    );
+    let answers = Answers {
+        docs: &[7, 4, 5, 0, 9],
+        with_values: &[7, 5, 0],
+        positions: &[4, 2, 0],
+    };
+    let text = "Optional(OptionalIndex { num_docs: 10, num_non_null_docs: 5, .. })";
     assert_answers(&rt, rt.alloc(), &ColumnIndex::from(index), answers, text)
 }
 

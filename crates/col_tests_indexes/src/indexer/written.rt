@@ -8,7 +8,7 @@ use col_index::OptionalIndex;
 use col_indexer::{
     IndexBuilder, MultivaluedIndexBuilder, PreallocatedIndexBuilders, RowIds,
     SerializableColumnIndex, SerializableMultivalueIndex, SerializableOptionalIndex, StartOffsets,
-    serialize_multivalued_index, serialize_optional_index,
+    serialize_column_index, serialize_multivalued_index, serialize_optional_index,
 };
 use std::alloc::Global;
 use std::process::Abort;
@@ -22,13 +22,20 @@ const STARTS: [RowId; 3] = [0, 3, 5];
 // Rows that fall.
 const TURNED: [RowId; 2] = [1, 0];
 
-const WRITTEN: [u8; 23] = [
-    0x02, 0x82, 0x00, 0x80, 0x81, 0x81, 0x82, 0x02, 0x00, 0x80, 0x81, 0x85, 0x83, 0x58, 0x01, 0x07,
-    0, 0, 0, 0, 0, 0, 0,
+const WRITTEN: [u8; 24] = [
+    0x02, 0x00, 0x82, 0x00, 0x80, 0x81, 0x81, 0x82, 0x02, 0x00, 0x80, 0x81, 0x85, 0x83, 0x58, 0x01,
+    0x08, 0, 0, 0, 0, 0, 0, 0,
 ];
 
 // The bytes of the documents, behind the cardinality's code.
-const NUM_ROW_BYTES: usize = 7;
+const NUM_ROW_BYTES: usize = 8;
+
+// The first forty rows of a hundred, behind the cardinality's code: the form, the row count, where
+// the run starts, how long it is, and how many bytes the starts take.
+const ONE_RUN: [u8; 21] = [
+    0x01, 0x01, 0xe4, 0x00, 0x80, 0x81, 0x80, 0x81, 0x00, 0xa8, 0x81, 0x80, 0x81, 0x05, 0, 0, 0, 0,
+    0, 0, 0,
+];
 
 fn two_documents() -> SerializableMultivalueIndex<'static>
     ensures index { IsIndex (multivalued_index (row_offsets_of result)) }
@@ -65,6 +72,24 @@ fn parts_of_an_index_are_written_as_in_the_whole(rt: HostRuntime) -> Result<(), 
         num_rows: 2,
     });
     assert!(rt; !turned.is_index());
+    Ok(())
+}
+
+#[test]
+fn rows_that_follow_one_another_are_written_as_a_run(rt: HostRuntime) -> Result<(), Fail> {
+    let alloc = rt.alloc();
+    let mut rows: Vec<RowId> = Vec::new(alloc);
+    for row in 0..40 {
+        rows.push(row)?;
+    }
+    let mut sink = empty_sink(alloc);
+    let index = SerializableColumnIndex::Optional(SerializableOptionalIndex {
+        non_null_row_ids: RowIds::Slice(&rows),
+        num_rows: 100,
+    });
+    assert!(rt; index.is_index());
+    serialize_column_index(alloc, index, &mut sink)?;
+    assert_eq!(rt; sink.bytes(), ONE_RUN.as_slice());
     Ok(())
 }
 

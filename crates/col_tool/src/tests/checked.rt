@@ -1,4 +1,4 @@
-//! Three files under `check`, with each single bit turned.
+//! Four files under `check`, with each single bit turned.
 use crate::tests::files::{FILES, merged, turned};
 use crate::tests::{Left, SOUND, left_by};
 use bytes::Bytes;

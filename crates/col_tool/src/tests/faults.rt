@@ -8,9 +8,9 @@ use std::test::Fail;
 const SCRIPT: &str = "[\"segment\",1]\n[\"type\",\"a\",\"u64\"]\n[\"u64\",0,\"a\",5]\n";
 
 // The merged file: the rows 7 and 8, nothing, 9, and 5.
-const FILE: &[u8] = b"\x02\x84\0\x80\x81\x83\x83\x38\0\x80\x81\x84\x84\xd0\x08\x07\0\0\0\0\0\0\0\
-\0\x85\x81\x84\x84\x1a\x01\x17\0\0\0\0\0\0\0\
-\x81\x83a\0\x01\xa6\x06\0\0\0\0\0\0\0\x04\0\0\0\x02\0\0\0\x02qwB";
+const FILE: &[u8] = b"\x02\0\x84\0\x80\x81\x83\x83\x38\0\x80\x81\x84\x84\xd0\x08\
+\x08\0\0\0\0\0\0\0\0\x85\x81\x84\x84\x1a\x01\x18\0\0\0\0\0\0\0\
+\x81\x83a\0\x01\xa7\x06\0\0\0\0\0\0\0\x04\0\0\0\x03\0\0\0\x02qwB";
 
 const REPORT: &str = "[\"rows\",4]\n[\"column\",\"a\",\"u64\",\"mult\",4]\n\
 [\"row\",0,[7,8]]\n[\"row\",2,[9]]\n[\"row\",3,[5]]\n";
@@ -22,14 +22,14 @@ const CASES: [([u64; 4], u8, usize, usize); 13] = [
     ([0, NEVER, NEVER, NEVER], 4, 0, 0),
     ([1, NEVER, NEVER, NEVER], 4, 0, 0),
     ([2, NEVER, NEVER, NEVER], 4, 0, 0),
-    ([4, NEVER, NEVER, NEVER], 0, 64, 85),
+    ([4, NEVER, NEVER, NEVER], 0, 65, 85),
     ([NEVER, 0, NEVER, NEVER], 4, 0, 0),
     ([NEVER, 1, NEVER, NEVER], 4, 0, 0),
-    ([NEVER, 2, NEVER, NEVER], 0, 64, 85),
+    ([NEVER, 2, NEVER, NEVER], 0, 65, 85),
     ([NEVER, NEVER, 0, NEVER], 5, 32, 0),
-    ([NEVER, NEVER, 1, NEVER], 0, 64, 85),
-    ([NEVER, NEVER, NEVER, 0], 5, 64, 42),
-    ([NEVER, NEVER, NEVER, 1], 0, 64, 85),
+    ([NEVER, NEVER, 1, NEVER], 0, 65, 85),
+    ([NEVER, NEVER, NEVER, 0], 5, 65, 42),
+    ([NEVER, NEVER, NEVER, 1], 0, 65, 85),
     ([0, NEVER, 0, 0], 4, 0, 0),
     ([NEVER, NEVER, 0, 0], 5, 32, 0),
 ];

@@ -1,4 +1,4 @@
-//! Three files, each cut and changed at each byte.
+//! Four files, each cut and changed at each byte.
 use crate::tests::{SOUND, VERSION_1, left_by};
 use bytes::Bytes;
 use std::alloc::{AllocError, Global};
@@ -12,12 +12,20 @@ const TEN_AND_TWENTY: &[u8] = b"\0\0\x8a\x8a\x81\x82\x02\x01\0\0\0\0\0\0\0\
 const THREE_WITHOUT: &[u8] = b"\0\0\0\0\x01\x83\0\x80\x81\x80\x80\0\x80\x81\x80\x80\
 \x07\0\0\0\0\0\0\0\x04\0\0\0\x81\x83s\0\x04\x9c\x06\0\0\0\0\0\0\0\x03\0\0\0\x02\0\0\0\x02qwB";
 
-// Files of versions 2, 1 and 2, and the bytes whose lowest bit may be turned: the least number, the
-// divisor, the name and the type; the least number, the name and the type; the name.
-pub(crate) const FILES: [(&[u8], &[usize]); 3] = [
-    (TEN_AND_TWENTY, &[2, 3, 17, 19]),
+// The u64 column "a" of a hundred rows, with 7 in the first forty, which are a run.
+const FORTY_SEVENS: &[u8] = b"\x01\x01\xe4\0\x80\x81\x80\x81\0\xa8\x81\x80\x81\
+\x05\0\0\0\0\0\0\0\0\x87\x81\x80\xa8\x15\0\0\0\0\0\0\0\
+\x81\x83a\0\x01\xa2\x06\0\0\0\0\0\0\0\x64\0\0\0\x03\0\0\0\x02qwB";
+
+// Files of versions 2, 1, 2 and 3, and the bytes whose lowest bit may be turned: the least number,
+// the divisor, the name, the type, and the version, since a Full index is the same in the next one;
+// the least number, the name and the type; the name; the run's start, the least number, the name
+// and the type.
+pub(crate) const FILES: [(&[u8], &[usize]); 4] = [
+    (TEN_AND_TWENTY, &[2, 3, 17, 19, 33]),
     (VERSION_1, &[8, 23, 25]),
     (THREE_WITHOUT, &[30]),
+    (FORTY_SEVENS, &[4, 22, 36, 38]),
 ];
 
 // The status of a merge of a file alone.

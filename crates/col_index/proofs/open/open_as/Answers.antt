@@ -22,14 +22,15 @@ returns-else-not-is_empty-clause-answer c =
 pub returns-in_err-open_optional_index-in-Optional-clause-answer : goal.returns-in_err-open_optional_index-in-Optional-clause-answer
 returns-in_err-open_optional_index-in-Optional-clause-answer c =
     let p = err_from_is_err_and c.from_residual.result c.from_residual.ensures.1 in
-    rw (p.1, p.2) (refuses-list c.in_err-open_optional_index-in-Optional.field-0.0 (row_set c.args.bytes)
+    rw (p.1, p.2) (refuses-list c.in_err-open_optional_index-in-Optional.field-0.0
+    (row_set (version_number c.args.format_version) c.args.bytes)
     (shape (cardinality_code (cardinality_of c.args.cardinality) ∷ c.args.bytes) (version_number c.args.format_version))
     (λ e. shape-optional c.args.cardinality c.args.format_version c.args.bytes c.in-Optional.is
     ∙ ap (option_map (λ (s : RowSet). optional_shape (set_counts s))) e)
     c.in_err-open_optional_index-in-Optional.ensures)
 
-pub returns-in_err-open_multivalued_index-in-Multivalued-clause-answer
-    : goal.returns-in_err-open_multivalued_index-in-Multivalued-clause-answer
+pub returns-in_err-open_multivalued_index-in-Multivalued-clause-answer :
+    goal.returns-in_err-open_multivalued_index-in-Multivalued-clause-answer
 returns-in_err-open_multivalued_index-in-Multivalued-clause-answer c =
     let after = c.from_residual-in_err-open_multivalued_index-in-Multivalued in
     let p = err_from_is_err_and after.result after.ensures.1 in
@@ -45,8 +46,8 @@ returns-in_ok-open_optional_index-in-Optional-clause-answer c =
     ∙ ap (option_map (λ (s : RowSet). optional_shape (set_counts s)))
     c.in_ok-open_optional_index-in-Optional.ensures
 
-pub returns-in_ok-open_multivalued_index-in-Multivalued-clause-answer
-    : goal.returns-in_ok-open_multivalued_index-in-Multivalued-clause-answer
+pub returns-in_ok-open_multivalued_index-in-Multivalued-clause-answer :
+    goal.returns-in_ok-open_multivalued_index-in-Multivalued-clause-answer
 returns-in_ok-open_multivalued_index-in-Multivalued-clause-answer c =
     shape-multivalued c.args.cardinality c.args.format_version c.args.bytes c.in-Multivalued.is
     ∙ c.in_ok-open_multivalued_index-in-Multivalued.ensures.answer

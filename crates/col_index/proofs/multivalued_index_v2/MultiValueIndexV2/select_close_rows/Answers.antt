@@ -13,6 +13,7 @@ loop-at-init c = record {
   window = record { short = omega arith; counts = λ i h. absurd (omega (arith, h)) };
   room = refl;
   before = rank_of_zero c.args.self.now.starts;
+  near = c.none-near.ensures c.args.self.now.set.rows;
   selected = selected-none (offset_counts c.args.self.now) c.args.ranks.now (rows_at-none (offset_counts c.args.self.now));
 }
 
@@ -25,8 +26,8 @@ window_at-window-requires-clause-inside c =
     subst (λ xs. rank xs (get_or c.loop-at.ranks c.loop-at.at 0 + 1) < length xs)
     (sym (ap (λ (o : RowOffsets). o.starts) c.self.view_is)) listed
 
-pub select-requires : goal.select-requires
-select-requires c =
+pub select_near-requires-clause-rank : goal.select_near-requires-clause-rank
+select_near-requires-clause-rank c =
     let o = c.args.self.now in
     let here = is_position o _ _ (search rules) c.requires.rising c.loop-at-test.true c.requires.below in
     let read = selected-read (offset_counts o) _ c.loop-at.ranks c.loop-at.kept c.loop-at.at c.loop-at.invariant.selected in
@@ -45,12 +46,13 @@ loop-at-preserved c =
     let ps = c.args.ranks.now in
     let at = c.loop-at.at in
     let number = get_or c.window_at-window.new.table (get_or c.loop-at.ranks at 0 - c.window_at-window.result.position) 0 in
-    let found : slice_get o.set.rows (number - 1) ≡ Some c.select.result = search rules in
+    let found : slice_get o.set.rows (number - 1) ≡ Some c.select_near.result = search rules in
     record {
       window = search rules;
       room = search rules;
       before = started ∙ ap (rank o.starts) (after-more ps at (get_or ps at 0) refl);
+      near = search rules;
       selected =
-          row-written o ps at here c.loop-at.ranks c.loop-at.kept c.loop-at.before number c.select.result
+          row-written o ps at here c.loop-at.ranks c.loop-at.kept c.loop-at.before number c.select_near.result
           c.loop-at.invariant.selected c.loop-at.invariant.before started found c.is_other.result c.is_other.ensures;
     }

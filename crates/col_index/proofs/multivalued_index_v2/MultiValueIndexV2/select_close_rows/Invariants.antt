@@ -2,6 +2,7 @@ use Rattle.std.proofs.Common.{◌≡◌, length}
 use Rattle.col_model.specs.Index.{offset_counts}
 use Rattle.col_model.specs.Positions.{rank}
 use Rattle.col_index.specs.Windows.{IsWindow}
+use Rattle.col_index.specs.RunPlaces.{IsRunOf}
 use Rattle.col_index.proofs.KeptLemmas.{IsSelected}
 use Rattle.col_index.proofs.RowsAtLemmas.{after}
 use Rattle.col_index.proofs.multivalued_index_v2.MultiValueIndexV2.select_close_rows.Given as goal
@@ -11,5 +12,6 @@ invariant-loop-at l = record {
   window : IsWindow l.self.starts l.window l.table;
   room : length l.table ≡ 1024;
   before : l.before ≡ rank l.self.starts (after l.at l.fn.ranks);
+  near : IsRunOf l.self.set.rows l.near.run;
   selected : IsSelected (offset_counts l.self) l.fn.ranks l.ranks l.kept l.at;
 }

@@ -9,6 +9,7 @@ pub loop-at-init : goal.loop-at-init
 loop-at-init c = record {
   place = search rules;
   target = c.first-place.ensures.target;
+  near = c.none-near.ensures c.args.self.now.set.rows;
   selected = selected-none (offset_counts c.args.self.now) c.args.ranks.now (rows_at-none (offset_counts c.args.self.now));
 }
 
@@ -21,6 +22,7 @@ loop-at-preserved-then-place-before c =
     record {
       place = t.place;
       target = t.target ∙ after-more c.args.ranks.now c.loop-at.at _ refl;
+      near = c.loop-at.invariant.near;
       selected = selected-same (offset_counts o) _ c.loop-at.ranks c.loop-at.kept c.loop-at.at c.loop-at.invariant.selected
           (turn-same o _ _ here c.seek-place.result t
           c.loop-at.place c.loop-at.invariant.place c.loop-at.invariant.target c.if-place-before.true);
@@ -34,8 +36,8 @@ overflow_sub-place c =
     c.seek-place.ensures.target c.from.ensures c.loop-at.invariant.selected in
     turn-some o _ _ here c.seek-place.result t
 
-pub select-requires : goal.select-requires
-select-requires c =
+pub select_near-requires-clause-rank : goal.select_near-requires-clause-rank
+select_near-requires-clause-rank c =
     let o = c.args.self.now in
     let here = is_position o _ _ (search rules) c.requires.rising c.loop-at-test.true c.requires.below in
     let t = turned o _ c.loop-at.ranks c.loop-at.kept c.loop-at.at c.from.result c.seek-place.result (search rules)
@@ -50,15 +52,16 @@ loop-at-preserved c =
     let here = is_position o _ _ (search rules) c.requires.rising c.loop-at-test.true c.requires.below in
     let t = turned o _ c.loop-at.ranks c.loop-at.kept c.loop-at.at c.from.result c.seek-place.result (search rules)
     c.seek-place.ensures.target c.from.ensures c.loop-at.invariant.selected in
-    let found : slice_get o.set.rows (c.seek-place.result.at - 1) ≡ Some c.select.result = search rules in
+    let found : slice_get o.set.rows (c.seek-place.result.at - 1) ≡ Some c.select_near.result = search rules in
     let next = turn-next o _ _ here c.seek-place.result t
-    c.loop-at.place c.loop-at.invariant.place c.loop-at.invariant.target c.if-place-before.false c.select.result
+    c.loop-at.place c.loop-at.invariant.place c.loop-at.invariant.target c.if-place-before.false c.select_near.result
     found in
     let long : c.loop-at.at < length c.loop-at.ranks = omega arith in
     record {
       place = t.place;
       target = t.target ∙ after-more c.args.ranks.now c.loop-at.at _ refl;
+      near = search rules;
       selected =
           selected-next (offset_counts o) _ c.loop-at.ranks c.loop-at.kept c.loop-at.at c.loop-at.invariant.selected
-          c.select.result long next;
+          c.select_near.result long next;
     }

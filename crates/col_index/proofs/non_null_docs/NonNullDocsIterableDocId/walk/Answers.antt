@@ -7,7 +7,11 @@ pub returns-clause-stands : goal.returns-clause-stands
 returns-clause-stands c =
     let inner : c.default.result.inner ≡ 0 = search rules in
     let place : c.default.result.place ≡ 0 = search rules in
+    let sum : c.default.result.sum ≡ 0 = search rules in
     record {
-      ranked = ap (rank c.args.self.now) inner ∙ sym (rank_of_zero c.args.self.now) ∙ sym place;
-      small = omega (arith, inner);
+      ranked = record {
+        ranked = ap (rank c.args.self.now) inner ∙ sym (rank_of_zero c.args.self.now) ∙ sym place;
+        small = omega (arith, inner);
+      };
+      follow = λ k from upto. absurd (omega (arith, sum, upto));
     }

@@ -1,10 +1,13 @@
-use Rattle.std.proofs.Common.{◌∙◌}
+use Rattle.std.proofs.Common.{refl, ◌∙◌}
 use Rattle.std.proofs.lemmas.List.{length-set}
 use Rattle.col_index.proofs.SelectLemmas.{rank_below, selected_front, selected_rest}
 use Rattle.col_index.proofs.optional_index.OptionalIndex.select_batch.Goals as goal
 
-pub select-requires : goal.select-requires
-select-requires c =
+pub loop-at-init : goal.loop-at-init
+loop-at-init c = record { near = c.none-near.ensures c.args.self.now.rows; long = refl; front = refl; rest = refl }
+
+pub select_near-requires-clause-rank : goal.select_near-requires-clause-rank
+select_near-requires-clause-rank c =
     rank_below c.args.self.now.rows c.args.ranks.now c.loop-at.ranks c.loop-at.at c.loop-at-test.true
     c.loop-at.invariant.rest c.requires
 
@@ -14,10 +17,11 @@ loop-at-preserved c =
     let old = c.args.ranks.now in
     let xs = c.loop-at.ranks in
     let at = c.loop-at.at in
-    let row = c.select.result in
+    let row = c.select_near.result in
     let before = c.loop-at.invariant in
     record {
+      near = c.select_near.ensures.near;
       long = length-set xs at row ∙ before.long;
-      front = selected_front rows old xs at c.loop-at-test.true before.rest row before.long before.front c.select.ensures;
+      front = selected_front rows old xs at c.loop-at-test.true before.rest row before.long before.front c.select_near.ensures.row;
       rest = selected_rest rows old xs at c.loop-at-test.true before.rest row;
     }

@@ -1,7 +1,7 @@
 use Rattle.std.proofs.Common.{◌-◌, ◌^◌, length, sym, arith}
 use Rattle.std.proofs.lemmas.Bool.{lt-leb}
 use Rattle.col_indexer.specs.Written.{row_offsets_of}
-use Rattle.col_indexer.proofs.SpellingLemmas.{rows-few}
+use Rattle.col_indexer.proofs.ListSpellingLemmas.{rows-few}
 use Rattle.col_indexer.proofs.serialize.SerializableMultivalueIndex.is_past_limit.Goals as goal
 
 pub returns-then-rows-lt4294967295 : goal.returns-then-rows-lt4294967295

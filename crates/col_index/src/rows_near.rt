@@ -1,0 +1,11 @@
+//! Rows that are ranked one behind another, by how that goes fastest.
+use crate::listed_rows::ListedRows;
+use crate::row_runs::RowRuns;
+
+/// Rows with a value that are walked, or ranked each by itself.
+#[derive(Clone, Copy)]
+pub(crate) enum RowsNear<'a> {
+    Walked(&'a ListedRows),
+    Ranked(&'a ListedRows),
+    InRuns(&'a RowRuns),
+}
