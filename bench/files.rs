@@ -2,7 +2,7 @@
 #![allow(dead_code)] // each measure takes a part of it
 
 use crate::compact;
-use crate::numbers::{put_list, set_bytes};
+use crate::numbers::{put_list, run_bytes, set_bytes};
 use crate::shared::{Blockwise, put_best, put_vint};
 
 pub const NUM_TEXTS: usize = 20_000;
@@ -48,6 +48,15 @@ pub fn texts() -> Vec<String> {
     (0..NUM_TEXTS as u64).map(text).collect()
 }
 
+// Rows with a value in runs, where these hold more than 32 rows each on the average, else one by one.
+fn formed_bytes(num_docs: usize, rows: &[u64]) -> Vec<u8> {
+    let num_runs = rows.chunk_by(|row, next| row + 1 == *next).count();
+    if 32 * num_runs >= rows.len() { return [vec![0], set_bytes(num_docs, rows)].concat(); }
+    let runs = rows.chunk_by(|row, next| row + 1 == *next).map(|run| (run[0], run.len() as u64));
+    let (starts, lengths): (Vec<u64>, Vec<u64>) = runs.unzip();
+    [vec![1], run_bytes(num_docs, &starts, &lengths)].concat()
+}
+
 // The index of the documents of values, which never fall.
 fn put_index(docs: &[u32], num_docs: u32, out: &mut Vec<u8>) {
     let rises = docs.windows(2).all(|pair| pair[0] < pair[1]);
@@ -56,7 +65,7 @@ fn put_index(docs: &[u32], num_docs: u32, out: &mut Vec<u8>) {
     if rises {
         rows.extend(docs.iter().map(|doc| u64::from(*doc)));
         out.push(1);
-        return out.extend_from_slice(&set_bytes(num_docs as usize, &rows));
+        return out.extend_from_slice(&formed_bytes(num_docs as usize, &rows));
     }
     for (at, doc) in docs.iter().enumerate() {
         if at > 0 && docs[at - 1] == *doc { continue; }
@@ -64,7 +73,7 @@ fn put_index(docs: &[u32], num_docs: u32, out: &mut Vec<u8>) {
         starts.push(at as u64);
     }
     starts.push(docs.len() as u64);
-    let set = set_bytes(num_docs as usize, &rows);
+    let set = formed_bytes(num_docs as usize, &rows);
     out.push(2);
     out.extend_from_slice(&set);
     put_list(&starts, out);
@@ -126,7 +135,7 @@ impl File {
         let keys_len = (self.bytes.len() - start) as u64;
         self.bytes.extend_from_slice(&keys_len.to_le_bytes());
         self.bytes.extend_from_slice(&num_docs.to_le_bytes());
-        self.bytes.extend_from_slice(&[2, 0, 0, 0, 2, 0x71, 0x77, 0x42]);
+        self.bytes.extend_from_slice(&[3, 0, 0, 0, 2, 0x71, 0x77, 0x42]);
         self.bytes
     }
 }

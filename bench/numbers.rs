@@ -108,9 +108,22 @@ impl Place {
 // Writes a list under Bitpacked or Linear, whichever takes fewer bytes.
 pub fn put_list(vals: &[u64], out: &mut Vec<u8>) { put_best::<Linear>(vals, out) }
 
+// The rows with a value, one by one.
 pub fn set_bytes(num_rows: usize, rows: &[u64]) -> Vec<u8> {
     let mut out = Vec::new();
     put_vint(num_rows as u64, &mut out);
     put_list(rows, &mut out);
+    out
+}
+
+// The same by the runs that they stand in.
+pub fn run_bytes(num_rows: usize, starts: &[u64], lengths: &[u64]) -> Vec<u8> {
+    let mut out = Vec::new();
+    put_vint(num_rows as u64, &mut out);
+    let front = out.len();
+    put_list(starts, &mut out);
+    let starts_len = (out.len() - front) as u64;
+    put_list(lengths, &mut out);
+    out.extend_from_slice(&starts_len.to_le_bytes());
     out
 }

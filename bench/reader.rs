@@ -15,7 +15,7 @@ struct Key { name: String, code: u8, start: u64, end: u64 }
 // The keys of a file, if they rise, have a known code, and their columns fill what stands in front of them.
 fn keys(bytes: &[u8]) -> Option<Vec<Key>> {
     let (front, footer) = bytes.split_at(bytes.len().checked_sub(FOOTER_LEN)?);
-    if footer[12..] != [2, 0, 0, 0, 2, 0x71, 0x77, 0x42] { return None; }
+    if footer[12..] != [3, 0, 0, 0, 2, 0x71, 0x77, 0x42] { return None; }
     let keys_len = u64::from_le_bytes(footer[..8].try_into().ok()?) as usize;
     let (columns, mut table) = front.split_at(front.len().checked_sub(keys_len)?);
     let count = take_vint(&mut table) as usize;

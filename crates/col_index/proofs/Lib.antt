@@ -24,6 +24,7 @@ mod ValueLemmas
 mod PushLemmas
 mod SelectedLemmas
 mod IfAnyLemmas
+mod BitRangeLemmas
 mod InRowLemmas
 mod RowsAtLemmas
 mod KeptLemmas
@@ -52,3 +53,6 @@ mod RankedRunLemmas
 mod RunEndLemmas
 mod RunGapLemmas
 mod LentRunLemmas
+mod StartCountLemmas
+mod RunBitLemmas
+mod RunMaskLemmas

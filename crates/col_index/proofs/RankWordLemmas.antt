@@ -42,6 +42,19 @@ ones_more n k =
     ∙ (ones_cat k (bit_at n k) (n % 2 ^ k) (mod_below n (2 ^ k) (pow_pos k))
     ∙ ap (λ b. b + count_ones (n % 2 ^ k)) (ones_of_bit (bit_at n k) (bit_at-lt n k)))
 
+-- no more bits are set than there are
+ones_below_few : (n k : ℕ) → count_ones (n % 2 ^ k) ≤ k
+ones_below_few n zero =
+    let none : n % 2 ^ 0 ≡ 0 = omega arith in
+    omega (arith, ap count_ones none, no_ones)
+ones_below_few n (suc k) =
+    let next : suc k ≡ 1 + k = omega arith in
+    omega (arith, ap (λ i. count_ones (n % 2 ^ i)) next, ones_more n k, bit_at-lt n k, ones_below_few n k)
+
+-- of 64 bits at most 64 are set
+pub ones_few : (n : ℕ) → n < 2 ^ 64 → count_ones n ≤ 64
+ones_few n h = omega (arith, ap count_ones (mod-eq_of_lt h), ones_below_few n 64)
+
 -- the code's mask
 pub below_mask : (n k : ℕ) → k < 64 → bit_and n (1 * 2 ^ k % 18446744073709551616 - 1) ≡ n % 2 ^ k
 below_mask n k h =
@@ -101,16 +114,18 @@ flags_clear words e k h =
     ∙ (ap (λ w. eqb (bit_at w (k % 64)) 1) (get_or-replicate (length words) (k / 64) 0 0 (omega arith))
     ∙ ap (λ b. eqb b 1) (bit_at-zero (k % 64)))
 
-or_true : (b : Bool) → (b || true) ≡ true
+-- a test or a true one
+pub or_true : (b : Bool) → (b || true) ≡ true
 or_true true = refl
 or_true false = refl
 
-or_false : (b : Bool) → (b || false) ≡ b
+-- a test or a false one
+pub or_false : (b : Bool) → (b || false) ≡ b
 or_false true = refl
 or_false false = refl
 
 -- one row more
-held_more : (rows : List ℕ) (at row k : ℕ) → slice_get rows at ≡ Some row
+pub held_more : (rows : List ℕ) (at row k : ℕ) → slice_get rows at ≡ Some row
     → holds (take (at + 1) rows) k ≡ (holds (take at rows) k || nat_eq row k)
 held_more rows at row k read =
     let within = slice_get_within rows at row read in

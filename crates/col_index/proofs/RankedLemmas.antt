@@ -1,16 +1,17 @@
 -- Ranks of rows by what an index keeps beside them.
-use Rattle.std.proofs.Common.{◌≡◌, ℕ, ◌*◌, ◌^◌, ◌<◌, ◌≤◌, nat_lt, true, length, None, sym, ap, arith}
+use Rattle.std.proofs.Common.{◌≡◌, ℕ, zero, suc, ◌*◌, ◌^◌, ◌<◌, ◌≤◌, nat_lt, true, List, [], ◌∷◌, length, slice_index, None, refl, sym, ap, arith}
 use Rattle.std.proofs.lemmas.Bool.{ltb-true}
 use Rattle.std.proofs.lemmas.Option.{slice_get-get_or}
+use Rattle.col_common.specs.Flags.{flag_at}
 use Rattle.col_common.specs.Reading.{only_if}
 use Rattle.col_model.specs.Index.{RowSet}
 use Rattle.col_model.specs.Positions.{rank}
-use Rattle.col_index.specs.Ranks.{ones_below}
-use Rattle.col_index.specs.RankedRows.{AreRankedRows}
-use Rattle.col_index.specs.declared.ranks.Ranks.{Ranks}
+use Rattle.col_index.specs.Ranks.{AreBuckets, ones_below}
+use Rattle.col_index.specs.RankedRows.{AreBitsOf}
 use Rattle.col_index.specs.Sets.{AreRows, holds}
 use Rattle.col_index.proofs.RankLaws.{rows_rise, narrowed-rank, rank-le-length}
 use Rattle.col_index.proofs.RangeLemmas.{past-free}
+use Rattle.col_index.proofs.SearchLemmas.{rank_of_zero}
 use Rattle.col_index.proofs.SetLemmas.{row_below}
 use Rattle.col_index.proofs.RankWordLemmas.{ones_below-rank}
 
@@ -29,15 +30,35 @@ missed_past s row a h =
     sym (ap (λ b. only_if b (rank s.rows row))
     (past-free s.rows row (rows_rise s a) (omega (arith, rank_past s row a h))))
 
--- a row with a bit has the rank that the bits say
-module _ (s : RowSet) (r : Ranks) (row : ℕ) (ranked : AreRankedRows s r)
-    (reached : nat_lt row (64 * length r.words.words.items) ≡ true) where
+-- the parts of 2 ^ 31 rows start at no row, at the middle and past all rows
+half_counts : (s : RowSet) (middle : ℕ) → AreRows s → s.num_rows < 2 ^ 32 → middle ≡ rank s.rows (2 ^ 31)
+    → (part : ℕ) → part < 3 → slice_index (0 ∷ middle ∷ length s.rows ∷ []) part ≡ rank s.rows (2 ^ 31 * part)
+half_counts s middle a few e zero h = rank_of_zero s.rows
+half_counts s middle a few e (suc zero) h = e
+half_counts s middle a few e (suc (suc zero)) h = rank_past s (2 ^ 31 * 2) a (omega arith)
+half_counts s middle a few e (suc (suc (suc part))) h = absurd (omega arith)
+
+-- so that their counts are those of all rows
+pub halves : (s : RowSet) (middle : ℕ) → AreRows s → s.num_rows < 2 ^ 32 → middle ≡ rank s.rows (2 ^ 31)
+    → AreBuckets s.rows s.num_rows 31 (0 ∷ middle ∷ length s.rows ∷ [])
+halves s middle a few e = record {
+  short = omega arith;
+  room = omega arith;
+  counts = record { long = refl; each = half_counts s middle a few e };
+}
+
+-- a row with a bit
+module _ (s : RowSet) (count : ℕ) (words before : List ℕ) (own : AreBitsOf s count words before) (row : ℕ)
+    (reached : nat_lt row (64 * length words) ≡ true) where
   -- the bits set below a row are as many as its rank
-  pub bits_rank : ones_below r.words.words.items r.words.before.items row ≡ rank s.rows row
+  pub bits_rank : ones_below words before row ≡ rank s.rows row
   bits_rank =
-      ones_below-rank s.rows r.words.words.items r.words.before.items row (rows_rise s ranked.rows) ranked.kept.bits
-      (ltb-true row (64 * length r.words.words.items) reached)
+      ones_below-rank s.rows words before row (rows_rise s own.rows) own.bits (ltb-true row (64 * length words) reached)
 
   -- the bits set below a row are fewer than 2 ^ 32
-  pub bits_fit : ones_below r.words.words.items r.words.before.items row < 2 ^ 32
-  bits_fit = omega (arith, bits_rank, rank-le-length s.rows row, ranked.kept.bits.few)
+  pub bits_fit : ones_below words before row < 2 ^ 32
+  bits_fit = omega (arith, bits_rank, rank-le-length s.rows row, own.bits.few)
+
+  -- its bit is set where it has a value
+  pub bits_hold : flag_at words row ≡ holds s.rows row
+  bits_hold = own.bits.flags row (ltb-true row (64 * length words) reached)

@@ -36,11 +36,13 @@ module _ (s : RowSet) (before : List ℕ) (r : AreSummedRuns s before) (count : 
       let next : count ≡ count - 1 + 1 = omega arith in
       ap (λ k. get_or before k 0) next ∙ summed_next s before r (count - 1) (omega arith)
 
+  -- the last of so many runs ends within the row count
   pub last_within : get_or s.rows (count - 1) 0 + (get_or before count 0 - get_or before (count - 1) 0) ≤ s.num_rows
   last_within =
       let within = end_within s.num_rows 0 (count - 1) s.rows (differences before) (first_runs s before r) (omega arith) in
       omega (arith, within, length_of)
 
+  -- and ends at or before the start of the next
   pub last_apart : count < length s.rows
       → get_or s.rows (count - 1) 0 + (get_or before count 0 - get_or before (count - 1) 0) ≤ get_or s.rows count 0
   last_apart more =

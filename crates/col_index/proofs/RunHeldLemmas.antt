@@ -40,6 +40,7 @@ module _ (s : RowSet) (before : List ℕ) (r : AreSummedRuns s before) where
   abbrev rows : List ℕ
   rows = run_rows s.rows lengths
 
+  -- the starts and lengths are runs from row 0 on
   pub first_runs : runs_from s.num_rows 0 s.rows lengths ≡ true
   first_runs = sym (are_runs-first s.num_rows s.rows lengths) ∙ r.runs
 
@@ -58,6 +59,7 @@ module _ (s : RowSet) (before : List ℕ) (r : AreSummedRuns s before) where
   pub set_of_starts : set_by s.num_rows s.rows ≡ Some s
   set_of_starts = ap (λ b. only_if b s) summed_starts
 
+  -- starts of runs are never refused as rows
   pub starts_set : set_by s.num_rows s.rows ≡ None → ⊥
   starts_set none = none-some s (sym none ∙ set_of_starts)
 

@@ -17,3 +17,4 @@ pub mod Runs
 pub mod RunPlaces
 pub mod RowsNear
 pub mod Held
+pub mod RunStarts

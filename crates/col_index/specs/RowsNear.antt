@@ -6,5 +6,5 @@ use Rattle.col_index.specs.declared.rows_near.RowsNear.TheVariants.{Walked, Rank
 -- these rows
 abbrev pub rows_near : RowsNear → List ℕ
 rows_near (Walked rows) = rows.now.rows
-rows_near (Ranked rows) = rows.now.rows
+rows_near (Ranked index) = index.now.rows
 rows_near (InRuns runs) = runs.now.rows

@@ -1,17 +1,16 @@
 //! Rows with a value, in a list.
 ghost use Rattle.std.specs.Prelude.{◌≡◌, ◌^◌, ◌<◌, ◌≤◌, ◌+◌, ◌-◌, ◌*◌, length, slice_get, Some, IfOk};
-ghost use Rattle.col_common.specs.Decoding.{Decodes};
 ghost use Rattle.col_common.specs.Reading.{only_if};
 ghost use Rattle.col_model.specs.Index.{set_counts};
 ghost use Rattle.col_model.specs.Positions.{rank, index_range};
 ghost use Rattle.col_numbers.specs.Readers.{list_of};
-ghost use Rattle.col_index.specs.Offsets.{range_if_any};
-ghost use Rattle.col_index.specs.Sets.{AreRows, holds, set_by};
+ghost use Rattle.col_index.specs.RankedRows.{AreRankedRows};
+ghost use Rattle.col_index.specs.Sets.{AreRows, holds};
 
 use crate::counted_rows::CountedRows;
-use crate::ranks::Ranks;
-use crate::search::{Place, narrow_counted};
-use col_common::{ColumnarError, DocId, RowId, Steps};
+use crate::rank_buckets::RankBuckets;
+use crate::search::{Place, is_listed_at, narrow_counted};
+use col_common::{DocId, RowId, Steps};
 use col_numbers::U64Values;
 use col_values::ColumnValues;
 use std::alloc::{AllocError, Global};
@@ -19,13 +18,13 @@ use std::marker::Model;
 use std::ops::Range;
 use std::sync::ledger::Ledger;
 
-/// The rows that have a value, in a list, with what ranks them. Contracts see the row count and
-/// these rows.
+/// The rows that have a value, in a list, with parts that rank them. Contracts see the row count
+/// and these rows.
 #[derive(Drop)]
 pub(crate) struct ListedRows {
     num_rows: RowId,
     rows: U64Values,
-    ranks: Ranks,
+    buckets: RankBuckets,
 }
 
 impl Model for ListedRows {
@@ -38,34 +37,30 @@ impl Model for ListedRows {
     ghost view = { λ i. record { num_rows = i.num_rows; rows = list_of i.rows } };
 
     ghost invariant = { λ i.
-        AreRankedRows (record { num_rows = i.num_rows; rows = list_of i.rows }) i.ranks };
+        AreRankedRows (record { num_rows = i.num_rows; rows = list_of i.rows }) i.buckets };
 }
 
 impl ListedRows {
-    /// The rows of a list, if this rises and stays below the count.
-    pub(crate) fn from_rows(
-        alloc: Global,
-        num_rows: RowId,
-        rows: U64Values,
-    ) -> Result<ListedRows, ColumnarError>
-        ensures { Decodes (λ rows. rows) result (set_by num_rows (list_of rows)) }
+    /// The rows of a list with their parts.
+    pub(crate) fn of(num_rows: RowId, rows: U64Values, buckets: RankBuckets) -> ListedRows
+        requires { AreRankedRows (record { num_rows = num_rows; rows = list_of rows }) buckets }
+        ensures { result ≡ record { num_rows = num_rows; rows = list_of rows } }
     {
-        let ranks = Ranks::from_rows(alloc, num_rows, &rows)?;
-        Ok(ListedRows {
+        ListedRows {
             num_rows,
             rows,
-            ranks,
-        })
+            buckets,
+        }
     }
 
-    /// The same rows once more, which share their bytes and have ranks of their own.
+    /// The same rows once more, which share their bytes and have parts of their own.
     pub(crate) fn try_clone(&self, alloc: Global) -> Result<ListedRows, AllocError>
         ensures { IfOk result (λ rows. rows ≡ self.now) }
     {
         Ok(ListedRows {
             num_rows: self.num_rows,
             rows: self.rows.try_clone(alloc)?,
-            ranks: self.ranks.try_clone(alloc)?,
+            buckets: self.buckets.try_clone(alloc)?,
         })
     }
 
@@ -116,11 +111,14 @@ impl ListedRows {
     }
 
     /// How many rows before a row have a value.
-    #[inline(always)]
+    #[inline(never)]
     pub(crate) fn rank(&self, row_id: RowId) -> RowId
         ensures { result ≡ rank self.now.rows row_id }
     {
-        self.ranks.rank(self.num_rows, &self.rows, row_id)
+        if row_id >= self.num_rows {
+            return self.rows.num_vals();
+        }
+        self.buckets.rank(self.num_rows, &self.rows, row_id)
     }
 
     /// The rank of a row that has a value.
@@ -128,7 +126,11 @@ impl ListedRows {
     pub(crate) fn rank_if_exists(&self, row_id: RowId) -> Option<RowId>
         ensures { result ≡ only_if (holds self.now.rows row_id) (rank self.now.rows row_id) }
     {
-        self.ranks.rank_if_exists(self.num_rows, &self.rows, row_id)
+        if row_id >= self.num_rows {
+            return None;
+        }
+        self.buckets
+            .rank_if_exists(self.num_rows, &self.rows, row_id)
     }
 
     /// The positions of a row's values.
@@ -146,21 +148,6 @@ impl ListedRows {
             rank..rank + 1
         } else {
             rank..rank
-        }
-    }
-
-    /// The positions of a row's values; 0..0 where it has none.
-    #[inline(always)]
-    pub(crate) fn range_if_any(&self, row_id: RowId) -> Range<RowId>
-        ensures start { result.start ≡ (range_if_any (set_counts self.now) row_id).0 }
-        ensures end { result.end ≡ (range_if_any (set_counts self.now) row_id).1 }
-    {
-        self.rows_rise();
-        // That rows are below a count of 32 bits is known of the count.
-        let _num_docs = self.num_docs();
-        match self.rank_if_exists(row_id) {
-            Some(rank) => rank..rank + 1,
-            None => 0..0,
         }
     }
 
@@ -192,7 +179,7 @@ impl ListedRows {
         requires { at ≡ rank self.now.rows row_id }
         ensures { result ≡ holds self.now.rows row_id }
     {
-        self.ranks.holds(self.num_rows, &self.rows, at, row_id)
+        is_listed_at(&self.rows, at, row_id)
     }
 }
 
@@ -247,12 +234,5 @@ impl ListedRows {
         } else {
             None
         }
-    }
-
-    /// Whether documents that are asked one behind another are walked, and not ranked each by
-    /// itself.
-    #[inline(always)]
-    pub(crate) fn is_walked(&self) -> bool {
-        !self.ranks.has_bits()
     }
 }

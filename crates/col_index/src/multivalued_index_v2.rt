@@ -10,12 +10,13 @@ ghost use Rattle.col_index.specs.Offsets.{AreOldOffsets, range_if_any, row_posit
 ghost use Rattle.col_index.specs.Appending.{PushesValues};
 
 use crate::appending::push_run;
+use crate::held_rows::HeldRows;
 use crate::non_null_docs::NonNullDocs;
 use crate::optional_index::{OptionalIndex, load_numbers};
 use crate::rank_near::{InRuns, RankNear, Ranked, Walked};
 use crate::rows_near::RowsNear;
 use crate::search::Place;
-use crate::selected_runs::NumberedRun;
+use crate::select_near::SelectNear;
 use crate::set::Set;
 use crate::windows::{TABLE_LEN, Window, window_at};
 use col_common::{ColumnarError, DocId, RowId};
@@ -226,8 +227,8 @@ impl MultiValueIndexV2 {
             RowsNear::Walked(rows) => {
                 self.push_positions_by(&Walked { rows }, docs, docs_out, rows_out)
             }
-            RowsNear::Ranked(rows) => {
-                self.push_positions_by(&Ranked { rows }, docs, docs_out, rows_out)
+            RowsNear::Ranked(index) => {
+                self.push_positions_by(&Ranked { index }, docs, docs_out, rows_out)
             }
             RowsNear::InRuns(runs) => {
                 self.push_positions_by(&InRuns { runs }, docs, docs_out, rows_out)
@@ -278,15 +279,30 @@ impl MultiValueIndexV2 {
         requires below { AreBelow (sum (offset_counts self.now)) ranks.old }
         ensures { take result ranks.new ≡ rows_at (offset_counts self.now) ranks.old }
     {
+        match self.optional_index.held() {
+            HeldRows::Listed(rows) => self.select_rows_by(&Walked { rows }, ranks),
+            HeldRows::InRuns(runs) => self.select_rows_by(&InRuns { runs }, ranks),
+        }
+    }
+
+    // The same by its rows with a value.
+    #[inline(always)]
+    fn select_rows_by<R: SelectNear>(&self, rows: &R, ranks: &mut [RowId]) -> usize
+        requires rows { R.rows rows.now ≡ self.now.set.rows }
+        requires rising { is_rising ranks.old ≡ true }
+        requires below { AreBelow (sum (offset_counts self.now)) ranks.old }
+        ensures { take result ranks.new ≡ rows_at (offset_counts self.now) ranks.old }
+    {
         if are_close(ranks) {
-            self.select_close_rows(ranks)
+            self.select_close_rows(rows, ranks)
         } else {
-            self.select_distant_rows(ranks)
+            self.select_distant_rows(rows, ranks)
         }
     }
 
     // The same by windows, in which no step depends on how far apart the positions are.
-    fn select_close_rows(&self, ranks: &mut [RowId]) -> usize
+    fn select_close_rows<R: SelectNear>(&self, rows: &R, ranks: &mut [RowId]) -> usize
+        requires rows { R.rows rows.now ≡ self.now.set.rows }
         requires rising { is_rising ranks.old ≡ true }
         requires below { AreBelow (sum (offset_counts self.now)) ranks.old }
         ensures { take result ranks.new ≡ rows_at (offset_counts self.now) ranks.old }
@@ -296,14 +312,14 @@ impl MultiValueIndexV2 {
             position: 0,
             len: 0,
         };
-        let mut near = NumberedRun::none();
+        let mut near = rows.none_near();
         let mut before = 0;
         let mut kept = 0;
         for at in 0..ranks.len() {
             let position = ranks[at];
             window = window_at(&self.start_index_column, position, window, &mut table);
             let started = table[(position - window.position) as usize];
-            ranks[kept] = self.optional_index.select_near(&mut near, started - 1);
+            ranks[kept] = rows.select_near(&mut near, started - 1);
             kept += is_other(started, before) as usize;
             before = started;
         }
@@ -311,13 +327,14 @@ impl MultiValueIndexV2 {
     }
 
     // The same by places, which are few steps apart or many.
-    fn select_distant_rows(&self, ranks: &mut [RowId]) -> usize
+    fn select_distant_rows<R: SelectNear>(&self, rows: &R, ranks: &mut [RowId]) -> usize
+        requires rows { R.rows rows.now ≡ self.now.set.rows }
         requires rising { is_rising ranks.old ≡ true }
         requires below { AreBelow (sum (offset_counts self.now)) ranks.old }
         ensures { take result ranks.new ≡ rows_at (offset_counts self.now) ranks.old }
     {
         let mut place = Place::first(&self.start_index_column);
-        let mut near = NumberedRun::none();
+        let mut near = rows.none_near();
         let mut kept = 0;
         for at in 0..ranks.len() {
             let before = place.at;
@@ -325,7 +342,7 @@ impl MultiValueIndexV2 {
             if place.at == before {
                 continue;
             }
-            ranks[kept] = self.optional_index.select_near(&mut near, place.at - 1);
+            ranks[kept] = rows.select_near(&mut near, place.at - 1);
             kept += 1;
         }
         kept

@@ -6,6 +6,8 @@ ghost use Rattle.col_common.specs.declared.error.ColumnarError.TheVariants as re
 ghost use Rattle.col_common.specs.Decoding.{Decodes};
 ghost use Rattle.col_model.specs.Index.{RowSet, runs_of, set_counts};
 ghost use Rattle.col_model.specs.Positions.{rank, next_row, index_range};
+ghost use Rattle.col_common.specs.Reading.{only_if};
+ghost use Rattle.col_index.specs.Held.{set_held};
 ghost use Rattle.col_index.specs.Offsets.{range_if_any};
 ghost use Rattle.col_index.specs.Runs.{runs_by};
 ghost use Rattle.col_index.specs.Sets.{AreRows, holds, set_by};
@@ -15,9 +17,13 @@ use crate::held_rows::HeldRows;
 use crate::index_runs::IndexRuns;
 use crate::listed_rows::ListedRows;
 use crate::non_null_docs::NonNullDocs;
+use crate::rank_near::{InRuns, Walked};
+use crate::rank_words::RankWords;
+use crate::ranks::Ranks;
 use crate::row_runs::RowRuns;
 use crate::rows_near::RowsNear;
 use crate::select_cursor::OptionalIndexSelectCursor;
+use crate::select_near::select_all;
 use crate::selected_runs::NumberedRun;
 use crate::set::Set;
 use col_common::{ColumnarError, DocId, RowId, Steps};
@@ -28,19 +34,35 @@ use std::marker::Model;
 use std::ops::Range;
 use std::sync::ledger::Ledger;
 
-/// Which rows have a value. Contracts see the row count and these rows.
-#[derive(Drop)]
+/// Which rows have a value: in a list or in runs, and for the rows that are asked most a bit each.
+/// Contracts see the row count and the rows with a value.
 pub struct OptionalIndex {
     held: HeldRows,
+    bits: RankWords,
+    num_rows: RowId,
+}
+
+impl Drop for OptionalIndex {
+    fn drop(self) {
+        let OptionalIndex {
+            held: _,
+            bits: _,
+            num_rows: _,
+        } = self;
+    }
 }
 
 impl Model for OptionalIndex {
     ghost use Rattle.col_model.specs.Index.{RowSet};
     ghost use Rattle.col_index.specs.Held.{set_held};
+    ghost use Rattle.col_index.specs.RankedRows.{AreBitsOf};
 
     ghost Value = { RowSet };
 
     ghost view = { λ i. set_held i.held };
+
+    ghost invariant = { λ i. AreBitsOf (set_held i.held) i.num_rows
+        i.bits.words.items i.bits.before.items };
 }
 
 impl OptionalIndex {
@@ -66,9 +88,11 @@ impl OptionalIndex {
     ) -> Result<OptionalIndex, ColumnarError>
         ensures { Decodes (λ index. index) result (set_by num_rows (list_of rows)) }
     {
-        let rows = ListedRows::from_rows(alloc, num_rows, rows)?;
+        let ranks = Ranks::from_rows(alloc, num_rows, &rows)?;
         Ok(OptionalIndex {
-            held: HeldRows::Listed(rows),
+            held: HeldRows::Listed(ListedRows::of(num_rows, rows, ranks.buckets)),
+            bits: ranks.words,
+            num_rows,
         })
     }
 
@@ -83,8 +107,12 @@ impl OptionalIndex {
             (runs_by num_rows (list_of starts) (list_of lengths)) }
     {
         let runs = RowRuns::from_lists(alloc, num_rows, starts, lengths)?;
+        runs.rows_rise();
+        let bits = runs.bits(alloc)?;
         Ok(OptionalIndex {
             held: HeldRows::InRuns(runs),
+            bits,
+            num_rows,
         })
     }
 
@@ -96,7 +124,11 @@ impl OptionalIndex {
             HeldRows::Listed(rows) => HeldRows::Listed(rows.try_clone(alloc)?),
             HeldRows::InRuns(runs) => HeldRows::InRuns(runs.try_clone(alloc)?),
         };
-        Ok(OptionalIndex { held })
+        Ok(OptionalIndex {
+            held,
+            bits: self.bits.try_clone(alloc)?,
+            num_rows: self.num_rows,
+        })
     }
 
     /// How many rows there are.
@@ -104,10 +136,7 @@ impl OptionalIndex {
     pub fn num_docs(&self) -> RowId
         ensures { result ≡ self.now.num_rows }
     {
-        match &self.held {
-            HeldRows::Listed(rows) => rows.num_docs(),
-            HeldRows::InRuns(runs) => runs.num_docs(),
-        }
+        self.num_rows
     }
 
     /// How many rows have a value.
@@ -140,10 +169,8 @@ impl OptionalIndex {
     pub fn rows_rise(&self)
         ensures { AreRows self.now }
     {
-        match &self.held {
-            HeldRows::Listed(rows) => rows.rows_rise(),
-            HeldRows::InRuns(runs) => runs.rows_rise(),
-        }
+        // That the rows are those of an index is known where a field is read.
+        let _ = &self.held;
     }
 
     /// The first row with a value that isn't before a target.
@@ -174,9 +201,9 @@ impl OptionalIndex {
         requires { AreBelow (length self.now.rows) ranks.old }
         ensures { map Some ranks.new ≡ map (slice_get self.now.rows) ranks.old }
     {
-        let mut near = NumberedRun::none();
-        for at in 0..ranks.len() {
-            ranks[at] = self.select_near(&mut near, ranks[at]);
+        match &self.held {
+            HeldRows::Listed(rows) => select_all(&Walked { rows }, ranks),
+            HeldRows::InRuns(runs) => select_all(&InRuns { runs }, ranks),
         }
     }
 
@@ -203,26 +230,29 @@ impl Set<RowId> for OptionalIndex {
 
     #[inline(always)]
     fn contains(&self, row_id: RowId) -> bool {
-        match &self.held {
-            HeldRows::Listed(rows) => rows.contains(row_id),
-            HeldRows::InRuns(runs) => runs.contains(row_id),
+        if self.bits.reaches(row_id) {
+            return self.bits.holds(row_id);
         }
+        self.held_contains(row_id)
     }
 
     #[inline(always)]
     fn rank(&self, row_id: RowId) -> RowId {
-        match &self.held {
-            HeldRows::Listed(rows) => rows.rank(row_id),
-            HeldRows::InRuns(runs) => runs.rank(row_id),
+        if self.bits.reaches(row_id) {
+            return self.bits.rank(row_id);
         }
+        self.held_rank(row_id)
     }
 
     #[inline(always)]
     fn rank_if_exists(&self, row_id: RowId) -> Option<RowId> {
-        match &self.held {
-            HeldRows::Listed(rows) => rows.rank_if_exists(row_id),
-            HeldRows::InRuns(runs) => runs.rank_if_exists(row_id),
+        if self.bits.reaches(row_id) {
+            if self.bits.holds(row_id) {
+                return Some(self.bits.rank(row_id));
+            }
+            return None;
         }
+        self.held_rank_if_exists(row_id)
     }
 
     #[inline(always)]
@@ -257,9 +287,45 @@ impl OptionalIndex {
         requires { at ≡ rank self.now.rows row_id }
         ensures { result ≡ holds self.now.rows row_id }
     {
+        if self.bits.reaches(row_id) {
+            return self.bits.holds(row_id);
+        }
         match &self.held {
             HeldRows::Listed(rows) => rows.holds_at(at, row_id),
-            HeldRows::InRuns(runs) => runs.holds_at(at, row_id),
+            HeldRows::InRuns(runs) => runs.contains(row_id),
+        }
+    }
+
+    // Whether a row has a value, by the list or the runs.
+    #[inline(always)]
+    fn held_contains(&self, row_id: RowId) -> bool
+        ensures { result ≡ holds self.now.rows row_id }
+    {
+        match &self.held {
+            HeldRows::Listed(rows) => rows.contains(row_id),
+            HeldRows::InRuns(runs) => runs.contains(row_id),
+        }
+    }
+
+    // How many rows before a row have a value, by the list or the runs.
+    #[inline(always)]
+    fn held_rank(&self, row_id: RowId) -> RowId
+        ensures { result ≡ rank self.now.rows row_id }
+    {
+        match &self.held {
+            HeldRows::Listed(rows) => rows.rank(row_id),
+            HeldRows::InRuns(runs) => runs.rank(row_id),
+        }
+    }
+
+    // The rank of a row that has a value, by the list or the runs.
+    #[inline(never)]
+    fn held_rank_if_exists(&self, row_id: RowId) -> Option<RowId>
+        ensures { result ≡ only_if (holds self.now.rows row_id) (rank self.now.rows row_id) }
+    {
+        match &self.held {
+            HeldRows::Listed(rows) => rows.rank_if_exists(row_id),
+            HeldRows::InRuns(runs) => runs.rank_if_exists(row_id),
         }
     }
 
@@ -293,10 +359,31 @@ impl OptionalIndex {
         ensures start { result.start ≡ (index_range (set_counts self.now) doc_id).0 }
         ensures end { result.end ≡ (index_range (set_counts self.now) doc_id).1 }
     {
+        self.rows_rise();
+        if doc_id >= self.num_rows {
+            return 0..0;
+        }
+        if !self.bits.reaches(doc_id) {
+            return self.held_range(doc_id);
+        }
+        let rank = self.bits.rank(doc_id);
+        if self.bits.holds(doc_id) {
+            rank..rank + 1
+        } else {
+            rank..rank
+        }
+    }
+
+    // The same by the list or the runs.
+    #[inline(always)]
+    fn held_range(&self, doc_id: DocId) -> Range<RowId>
+        requires { doc_id < self.now.num_rows }
+        ensures start { result.start ≡ (index_range (set_counts self.now) doc_id).0 }
+        ensures end { result.end ≡ (index_range (set_counts self.now) doc_id).1 }
+    {
         match &self.held {
             HeldRows::Listed(rows) => rows.range(doc_id),
-            HeldRows::InRuns(runs) if doc_id < runs.num_docs() => runs.range(doc_id),
-            HeldRows::InRuns(_) => 0..0,
+            HeldRows::InRuns(runs) => runs.range(doc_id),
         }
     }
 
@@ -306,9 +393,12 @@ impl OptionalIndex {
         ensures start { result.start ≡ (range_if_any (set_counts self.now) doc_id).0 }
         ensures end { result.end ≡ (range_if_any (set_counts self.now) doc_id).1 }
     {
-        match &self.held {
-            HeldRows::Listed(rows) => rows.range_if_any(doc_id),
-            HeldRows::InRuns(runs) => runs.range_if_any(doc_id),
+        self.rows_rise();
+        // That rows are below a count of 32 bits is known of the count.
+        let _num_docs = self.num_docs();
+        match self.rank_if_exists(doc_id) {
+            Some(rank) => rank..rank + 1,
+            None => 0..0,
         }
     }
 
@@ -318,10 +408,17 @@ impl OptionalIndex {
         ensures { rows_near result ≡ self.now.rows }
     {
         match &self.held {
-            HeldRows::Listed(rows) if rows.is_walked() => RowsNear::Walked(rows),
-            HeldRows::Listed(rows) => RowsNear::Ranked(rows),
+            HeldRows::Listed(_) if self.bits.reaches(0) => RowsNear::Ranked(self),
+            HeldRows::Listed(rows) => RowsNear::Walked(rows),
             HeldRows::InRuns(runs) => RowsNear::InRuns(runs),
         }
+    }
+
+    /// The rows in their list or in their runs.
+    pub(crate) fn held(&self) -> &HeldRows
+        ensures { set_held result.now ≡ self.now }
+    {
+        &self.held
     }
 }
 

@@ -46,7 +46,7 @@ impl OptionalIndex {
     {
         match self.rows_near() {
             RowsNear::Walked(rows) => push_ranks_by(&Walked { rows }, docs, docs_out, rows_out),
-            RowsNear::Ranked(rows) => push_ranks_by(&Ranked { rows }, docs, docs_out, rows_out),
+            RowsNear::Ranked(index) => push_ranks_by(&Ranked { index }, docs, docs_out, rows_out),
             RowsNear::InRuns(runs) => push_ranks_by(&InRuns { runs }, docs, docs_out, rows_out),
         }
     }

@@ -20,6 +20,9 @@ use col_values::ColumnValues;
 use std::alloc::{AllocError, Global};
 use std::ops::Range;
 
+// The half of all numbers of rows, as a power of 2.
+const HALF_SHIFT: u32 = 31;
+
 /// For parts of 2 ^ shift rows how many rows before each part, and before the end, have a value;
 /// and the low bits of those rows, where they tell the rows of a part apart.
 #[derive(Drop)]
@@ -30,13 +33,25 @@ pub struct RankBuckets {
 }
 
 impl RankBuckets {
-    /// No parts.
-    pub fn empty(alloc: Global) -> RankBuckets {
-        RankBuckets {
-            shift: 0,
-            before: Vec::new(alloc),
+    /// Two parts of 2 ^ 31 rows, of a list that rises and stays below the count.
+    pub(crate) fn of_halves(
+        alloc: Global,
+        num_rows: RowId,
+        rows: &U64Values,
+    ) -> Result<RankBuckets, AllocError>
+        requires { is_row_list num_rows (list_of rows.now) ≡ true }
+        ensures ranks { IfOk result (λ ranks.
+            AreBuckets (list_of rows.now) num_rows ranks.shift ranks.before.items) }
+        ensures lows { IfOk result (λ ranks.
+            KeepsLows (list_of rows.now) ranks.shift ranks.lows.items) }
+    {
+        let count = rows.num_vals();
+        let middle = narrow(rows, 0, count, 1 << HALF_SHIFT);
+        Ok(RankBuckets {
+            shift: HALF_SHIFT,
+            before: vec![in alloc; 0, middle, count]?,
             lows: Vec::new(alloc),
-        }
+        })
     }
 
     /// The parts of rows, if these rise and stay below the count.
@@ -53,11 +68,7 @@ impl RankBuckets {
             KeepsLows (list_of rows.now) ranks.shift ranks.lows.items) }
     {
         let shift = part_shift(num_rows, rows.num_vals());
-        let mut counts = vec![in alloc; 0; (num_rows >> shift) as usize + 1]?;
-        if !count_rows(num_rows, rows, shift, &mut counts) {
-            return Err(ColumnarError::InvalidData);
-        }
-        let before = sums_before(alloc, &counts)?;
+        let before = counts_before(alloc, num_rows, rows, shift)?;
         let lows = lows_of(alloc, rows, shift)?;
         Ok(RankBuckets {
             shift,
@@ -143,8 +154,29 @@ fn narrow_if_exists(rows: &U64Values, low: u32, high: u32, row: RowId) -> Option
     None
 }
 
-// A shift with about two of the rows that have a value in each part.
-fn part_shift(num_rows: RowId, num_vals: u32) -> u32
+/// How many of the rows stand before each part of 2 ^ shift rows, and before the end, if the rows
+/// rise and stay below the count.
+pub(crate) fn counts_before(
+    alloc: Global,
+    num_rows: RowId,
+    rows: &U64Values,
+    shift: u32,
+) -> Result<Vec<u32>, ColumnarError>
+    requires { shift < 32 }
+    ensures rows { Decodes (λ before. record { num_rows = num_rows; rows = list_of rows.now })
+        result (set_by num_rows (list_of rows.now)) }
+    ensures counts { IfOk result (λ before.
+        AreBuckets (list_of rows.now) num_rows shift before.items) }
+{
+    let mut counts = vec![in alloc; 0; (num_rows >> shift) as usize + 1]?;
+    if !count_rows(num_rows, rows, shift, &mut counts) {
+        return Err(ColumnarError::InvalidData);
+    }
+    Ok(sums_before(alloc, &counts)?)
+}
+
+/// A shift with about two of the rows that have a value in each part.
+pub(crate) fn part_shift(num_rows: RowId, num_vals: u32) -> u32
     ensures { result < 32 }
 {
     let apart = num_rows / num_vals.max(1);

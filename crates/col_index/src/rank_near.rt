@@ -5,9 +5,11 @@ ghost use Rattle.col_model.specs.Positions.{rank};
 ghost use Rattle.col_index.specs.Sets.{holds};
 
 use crate::listed_rows::ListedRows;
+use crate::optional_index::OptionalIndex;
 use crate::row_runs::RowRuns;
 use crate::run_places::RunPlace;
 use crate::search::Place;
+use crate::set::Set;
 use col_common::{DocId, RowId};
 
 /// Rows with a value, each asked from where the one before was found.
@@ -59,16 +61,16 @@ impl RankNear for Walked<'_> {
     }
 }
 
-/// Rows in a list that are ranked each by itself.
+/// Rows of an index that are ranked each by itself.
 #[derive(Clone, Copy)]
 pub(crate) struct Ranked<'a> {
-    pub rows: &'a ListedRows,
+    pub index: &'a OptionalIndex,
 }
 
 impl RankNear for Ranked<'_> {
     type Place = ();
 
-    ghost rows = { λ r. r.rows.now.rows };
+    ghost rows = { λ r. r.index.now.rows };
 
     ghost IsPlace = { λ r place. Unit {0} };
 
@@ -77,7 +79,7 @@ impl RankNear for Ranked<'_> {
 
     #[inline(always)]
     fn rank_near(&self, _place: &mut (), doc_id: DocId) -> Option<RowId> {
-        self.rows.rank_if_exists(doc_id)
+        self.index.rank_if_exists(doc_id)
     }
 }
 

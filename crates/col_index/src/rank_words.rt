@@ -1,7 +1,8 @@
 //! Rows as bits with ranks.
 ghost use Rattle.std.specs.Prelude.{◌≡◌, ◌≤◌, ◌<◌, ◌*◌, ◌/◌, ◌^◌, true, nat_lt, [], length, replicate};
-ghost use Rattle.std.specs.Prelude.{IfOk};
+ghost use Rattle.std.specs.Prelude.{IfOk, List, ℕ};
 ghost use Rattle.col_common.specs.Decoding.{Decodes};
+ghost use Rattle.col_common.specs.Reading.{only_if};
 ghost use Rattle.col_common.specs.Flags.{flag_at};
 ghost use Rattle.col_common.specs.Ascending.{is_rising};
 ghost use Rattle.col_numbers.specs.Readers.{list_of};
@@ -53,7 +54,7 @@ impl RankWords {
         if !set_rows(num_rows, rows, &mut words) {
             return Err(ColumnarError::InvalidData);
         }
-        let before = count_before(alloc, rows, &words)?;
+        let before = count_before(alloc, &words)?;
         Ok(RankWords { words, before })
     }
 
@@ -97,6 +98,22 @@ impl RankWords {
     {
         (self.words[(row / WORD_BITS) as usize] >> (row % WORD_BITS)) & 1 == 1
     }
+
+    /// The rank of a row that has a value.
+    #[inline(always)]
+    pub fn rank_if_exists(&self, row: RowId) -> Option<RowId>
+        requires long { length self.now.before.items ≡ length self.now.words.items }
+        requires row { row < 64 * length self.now.words.items }
+        requires fits { ones_below self.now.words.items self.now.before.items row < 2 ^ 32 }
+        ensures { result ≡ only_if (flag_at self.now.words.items row)
+            (ones_below self.now.words.items self.now.before.items row) }
+    {
+        let rank = self.rank(row);
+        if self.holds(row) {
+            return Some(rank);
+        }
+        None
+    }
 }
 
 // Sets the bits of rows as far as they rise and stay below the count; whether all of them do.
@@ -117,20 +134,18 @@ fn set_rows(num_rows: RowId, rows: &U64Values, words: &mut [u64]) -> bool
     true
 }
 
-// How many bits are set before each word.
-fn count_before(alloc: Global, rows: &U64Values, words: &[u64]) -> Result<Vec<u32>, AllocError>
-    requires rising { is_rising (list_of rows.now) ≡ true }
-    requires flags { HasFlags (list_of rows.now) words.now }
-    ensures { IfOk result (λ before.
-        AreCounts (list_of rows.now) 64 (length words.now) before.items) }
+// How many bits are set before each word: where they are those of rows, how many of these stand
+// before it.
+pub(crate) fn count_before(alloc: Global, words: &[u64]) -> Result<Vec<u32>, AllocError>
+    requires { length words.now ≤ 2 ^ 26 }
+    ensures { IfOk result (λ before. (rows : List ℕ) → is_rising rows ≡ true
+        → HasFlags rows words.now → AreCounts rows 64 (length words.now) before.items) }
 {
-    // That the rows are fewer than 2 ^ 32 is known of their count.
-    let _count = rows.num_vals();
     let mut before = Vec::with_capacity(alloc, words.len())?;
-    let mut count = 0;
+    let mut count = 0u64;
     for word in words {
-        before.push(count)?;
-        count += word.count_ones();
+        before.push(count as u32)?;
+        count += u64::from(word.count_ones());
     }
     Ok(before)
 }

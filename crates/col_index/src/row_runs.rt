@@ -8,13 +8,15 @@ ghost use Rattle.col_common.specs.Reading.{only_if};
 ghost use Rattle.col_model.specs.Index.{run_rows, runs_of, set_counts};
 ghost use Rattle.col_model.specs.Positions.{rank, index_range};
 ghost use Rattle.col_numbers.specs.Readers.{list_of};
-ghost use Rattle.col_index.specs.Offsets.{range_if_any};
+ghost use Rattle.col_index.specs.Ranks.{AreRanks};
 ghost use Rattle.col_index.specs.Runs.{AreRunTables, AreSummedRuns, rows_of_runs, runs_by};
 ghost use Rattle.col_index.specs.RunPlaces.{HasRank, IsLastRun, IsNear, IsRunOf, IsRunPlace};
 ghost use Rattle.col_index.specs.Sets.{AreRows, holds};
 
-use crate::listed_rows::ListedRows;
+use crate::rank_words::RankWords;
+use crate::run_bits::bits_of_runs;
 use crate::run_places::{Run, RunPlace};
+use crate::run_starts::RunStarts;
 use crate::selected_runs::{NumberedRun, lent_run, numbered_run, select_in};
 use crate::summed_runs::{RunSums, sum_runs};
 use col_common::{ColumnarError, RowId, Steps};
@@ -29,7 +31,7 @@ use std::sync::ledger::Ledger;
 /// the rows of the runs.
 #[derive(Drop)]
 pub(crate) struct RowRuns {
-    starts: ListedRows,
+    starts: RunStarts,
     before: Vec<u32>,
     gaps: Vec<u32>,
 }
@@ -79,12 +81,20 @@ impl RowRuns {
         ensures { Decodes (λ runs. runs) result (Some (rows_of_runs
             (record { num_rows = num_rows; rows = list_of starts }) sums.before.items)) }
     {
-        let starts = ListedRows::from_rows(alloc, num_rows, starts)?;
+        let starts = RunStarts::from_rows(alloc, num_rows, starts)?;
         Ok(RowRuns {
             starts,
             before: sums.before,
             gaps: sums.gaps,
         })
+    }
+
+    /// The bits of the rows, none where there are many rows for each run.
+    pub(crate) fn bits(&self, alloc: Global) -> Result<RankWords, AllocError>
+        ensures { IfOk result (λ bits.
+            AreRanks self.now.rows bits.words.items bits.before.items) }
+    {
+        bits_of_runs(alloc, &self.starts, &self.before)
     }
 
     /// The same rows once more.
@@ -189,23 +199,6 @@ impl RowRuns {
         }
     }
 
-    /// The positions of a row's values; 0..0 where it has none.
-    #[inline(never)]
-    pub(crate) fn range_if_any(&self, row_id: RowId) -> Range<RowId>
-        ensures start { result.start ≡ (range_if_any (set_counts self.now) row_id).0 }
-        ensures end { result.end ≡ (range_if_any (set_counts self.now) row_id).1 }
-    {
-        self.rows_rise();
-        // That rows are below a count of 32 bits is known of the count.
-        let _num_docs = self.num_docs();
-        let bound = self.rank_bound(row_id);
-        if bound.rank < bound.upto {
-            bound.rank..bound.rank + 1
-        } else {
-            0..0
-        }
-    }
-
     /// Whether a row has a value.
     #[inline(always)]
     pub(crate) fn contains(&self, row_id: RowId) -> bool
@@ -213,15 +206,6 @@ impl RowRuns {
     {
         let bound = self.rank_bound(row_id);
         bound.rank < bound.upto
-    }
-
-    /// Whether the row with a rank has a value.
-    #[inline(always)]
-    pub(crate) fn holds_at(&self, _at: RowId, row_id: RowId) -> bool
-        requires { _at ≡ rank self.now.rows row_id }
-        ensures { result ≡ holds self.now.rows row_id }
-    {
-        self.contains(row_id)
     }
 
     /// The row with a rank.
@@ -305,7 +289,7 @@ impl RowRuns {
         ensures count { rank self.now.rows row_id ≡ min result.rank result.upto }
         ensures held { holds self.now.rows row_id ≡ nat_lt result.rank result.upto }
     {
-        let count = self.starts.rank(row_behind(&self.starts, row_id)) as usize;
+        let count = self.starts.count_upto(row_id) as usize;
         RankBound {
             rank: row_id - self.gaps[count],
             upto: self.before[count],
@@ -318,7 +302,7 @@ impl RowRuns {
         ensures place { IsRunPlace self.now.rows result }
         ensures near { IsNear result row_id }
     {
-        let count = self.starts.rank(row_behind(&self.starts, row_id));
+        let count = self.starts.count_upto(row_id);
         let run = last_run(&self.starts, &self.before, count);
         let span = last_before(&self.starts, count, row_id) - run.start;
         RunPlace { run, span }
@@ -327,7 +311,7 @@ impl RowRuns {
 
 // A row that as many starts stand before as stand at or before another row.
 #[inline(always)]
-fn row_behind(starts: &ListedRows, row_id: RowId) -> RowId
+fn row_behind(starts: &RunStarts, row_id: RowId) -> RowId
     ensures { rank starts.now.rows result ≡ rank starts.now.rows (row_id + 1) }
 {
     // That starts are below a count of 32 bits is known of the count.
@@ -338,7 +322,7 @@ fn row_behind(starts: &ListedRows, row_id: RowId) -> RowId
 
 // The last of so many runs, an empty one at row 0 where there is none.
 #[inline(always)]
-fn last_run(starts: &ListedRows, before: &[u32], count: u32) -> Run
+fn last_run(starts: &RunStarts, before: &[u32], count: u32) -> Run
     requires summed { AreSummedRuns starts.now before.now }
     requires count { count ≤ length starts.now.rows }
     ensures fits { result.before + result.len < 2 ^ 32 }
@@ -368,7 +352,7 @@ fn last_run(starts: &ListedRows, before: &[u32], count: u32) -> Run
 
 // The last row before the next start behind a row, or the greatest row where there is none.
 #[inline(always)]
-fn last_before(starts: &ListedRows, count: u32, row_id: RowId) -> RowId
+fn last_before(starts: &RunStarts, count: u32, row_id: RowId) -> RowId
     requires { count ≡ rank starts.now.rows (row_id + 1) }
     ensures row { row_id ≤ result }
     ensures next { count < length starts.now.rows

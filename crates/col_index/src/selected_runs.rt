@@ -5,8 +5,8 @@ ghost use Rattle.col_model.specs.Index.{run_rows, runs_of};
 ghost use Rattle.col_index.specs.Runs.{AreSummedRuns};
 ghost use Rattle.col_index.specs.RunPlaces.{HasRank, IsRunOf};
 
-use crate::listed_rows::ListedRows;
 use crate::run_places::Run;
+use crate::run_starts::RunStarts;
 use col_common::RowId;
 
 /// A run, and the number of the one behind it.
@@ -34,7 +34,7 @@ impl NumberedRun {
 }
 
 /// The row with a rank.
-pub(crate) fn select_in(starts: &ListedRows, before: &[u32], rank: RowId) -> RowId
+pub(crate) fn select_in(starts: &RunStarts, before: &[u32], rank: RowId) -> RowId
     requires summed { AreSummedRuns starts.now before.now }
     requires rank { rank < length (run_rows starts.now.rows (differences before.now)) }
     ensures { slice_get (run_rows starts.now.rows (differences before.now)) rank ≡ Some result }
@@ -71,7 +71,7 @@ fn run_with(before: &[u32], count: u32, rank: RowId) -> u32
 /// The run with the row of a rank, which is looked for at a number first.
 #[inline(always)]
 pub(crate) fn numbered_run(
-    starts: &ListedRows,
+    starts: &RunStarts,
     before: &[u32],
     number: u64,
     rank: RowId,
@@ -91,7 +91,7 @@ pub(crate) fn numbered_run(
 }
 
 /// The run with a number: its first row, and how many rows it has.
-pub(crate) fn lent_run(starts: &ListedRows, before: &[u32], at: RowId) -> (RowId, RowId)
+pub(crate) fn lent_run(starts: &RunStarts, before: &[u32], at: RowId) -> (RowId, RowId)
     requires summed { AreSummedRuns starts.now before.now }
     requires at { at < length (runs_of (run_rows starts.now.rows (differences before.now))) }
     ensures { slice_get (runs_of (run_rows starts.now.rows (differences before.now))) at
@@ -121,9 +121,9 @@ fn run_near(before: &[u32], count: u32, number: u64, rank: RowId) -> u32
     run_with(before, count, rank)
 }
 
-// The run with a number.
+/// The run with a number.
 #[inline(always)]
-fn run_at(starts: &ListedRows, before: &[u32], number: u32) -> Run
+pub(crate) fn run_at(starts: &RunStarts, before: &[u32], number: u32) -> Run
     requires summed { AreSummedRuns starts.now before.now }
     requires number { number < length starts.now.rows }
     ensures start { slice_index starts.now.rows number ≡ result.start }

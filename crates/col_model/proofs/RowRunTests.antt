@@ -53,6 +53,7 @@ pub record AreApart (n : ℕ) (starts lengths : List ℕ) : Type 0 where
   pub apart : list_all (λ p. nat_lt p.0 p.1) (zip (run_ends starts lengths) (drop 1 starts)) ≡ true
   pub within : are_below (n + 1) (run_ends starts lengths) ≡ true
 
+-- lists that are runs of so many rows have equally many starts and lengths, and lie apart
 pub are_runs-parts : (n : ℕ) (ss ls : List ℕ) → are_runs n ss ls ≡ true → AreApart n ss ls
 are_runs-parts n ss ls e =
     let alike = length ss == length ls in

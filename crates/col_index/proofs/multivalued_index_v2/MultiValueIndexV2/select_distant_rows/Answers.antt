@@ -1,4 +1,4 @@
-use Rattle.std.proofs.Common.{rules, ◌≡◌, ◌-◌, ◌<◌, slice_get, length, Some, refl, ◌∙◌, arith}
+use Rattle.std.proofs.Common.{rules, ◌≡◌, ◌-◌, ◌<◌, slice_get, length, Some, refl, sym, subst, ◌∙◌, arith}
 use Rattle.col_model.specs.Index.{offset_counts}
 use Rattle.col_index.proofs.KeptLemmas.{is_position, selected-none, selected-same, selected-next}
 use Rattle.col_index.proofs.RowsAtLemmas.{after-more}
@@ -6,15 +6,15 @@ use Rattle.col_index.proofs.TurnLemmas.{rows_at-none, turned, turn-some, turn-in
 use Rattle.col_index.proofs.multivalued_index_v2.MultiValueIndexV2.select_distant_rows.Goals as goal
 
 pub loop-at-init : goal.loop-at-init
-loop-at-init c = record {
+loop-at-init g c = record {
   place = search rules;
   target = c.first-place.ensures.target;
-  near = c.none-near.ensures c.args.self.now.set.rows;
+  near = c.none_near-near.ensures;
   selected = selected-none (offset_counts c.args.self.now) c.args.ranks.now (rows_at-none (offset_counts c.args.self.now));
 }
 
 pub loop-at-preserved-then-place-before : goal.loop-at-preserved-then-place-before
-loop-at-preserved-then-place-before c =
+loop-at-preserved-then-place-before g c =
     let o = c.args.self.now in
     let here = is_position o _ _ (search rules) c.requires.rising c.loop-at-test.true c.requires.below in
     let t = turned o _ c.loop-at.ranks c.loop-at.kept c.loop-at.at c.from.result c.seek-place.result (search rules)
@@ -29,7 +29,7 @@ loop-at-preserved-then-place-before c =
     }
 
 pub overflow_sub-place : goal.overflow_sub-place
-overflow_sub-place c =
+overflow_sub-place g c =
     let o = c.args.self.now in
     let here = is_position o _ _ (search rules) c.requires.rising c.loop-at-test.true c.requires.below in
     let t = turned o _ c.loop-at.ranks c.loop-at.kept c.loop-at.at c.from.result c.seek-place.result (search rules)
@@ -37,22 +37,23 @@ overflow_sub-place c =
     turn-some o _ _ here c.seek-place.result t
 
 pub select_near-requires-clause-rank : goal.select_near-requires-clause-rank
-select_near-requires-clause-rank c =
+select_near-requires-clause-rank g c =
     let o = c.args.self.now in
     let here = is_position o _ _ (search rules) c.requires.rising c.loop-at-test.true c.requires.below in
     let t = turned o _ c.loop-at.ranks c.loop-at.kept c.loop-at.at c.from.result c.seek-place.result (search rules)
     c.seek-place.ensures.target c.from.ensures c.loop-at.invariant.selected in
     let inside : c.seek-place.result.at - 1 < length o.set.rows =
     turn-inside o _ _ here c.seek-place.result t in
-    search rules
+    subst (λ xs. c.seek-place.result.at - 1 < length xs) (sym c.requires.rows) inside
 
 pub loop-at-preserved : goal.loop-at-preserved
-loop-at-preserved c =
+loop-at-preserved g c =
     let o = c.args.self.now in
     let here = is_position o _ _ (search rules) c.requires.rising c.loop-at-test.true c.requires.below in
     let t = turned o _ c.loop-at.ranks c.loop-at.kept c.loop-at.at c.from.result c.seek-place.result (search rules)
     c.seek-place.ensures.target c.from.ensures c.loop-at.invariant.selected in
-    let found : slice_get o.set.rows (c.seek-place.result.at - 1) ≡ Some c.select_near.result = search rules in
+    let found : slice_get o.set.rows (c.seek-place.result.at - 1) ≡ Some c.select_near.result =
+    subst (λ xs. slice_get xs (c.seek-place.result.at - 1) ≡ Some c.select_near.result) c.requires.rows c.select_near.ensures.row in
     let next = turn-next o _ _ here c.seek-place.result t
     c.loop-at.place c.loop-at.invariant.place c.loop-at.invariant.target c.if-place-before.false c.select_near.result
     found in
@@ -60,7 +61,7 @@ loop-at-preserved c =
     record {
       place = t.place;
       target = t.target ∙ after-more c.args.ranks.now c.loop-at.at _ refl;
-      near = search rules;
+      near = c.select_near.ensures.near;
       selected =
           selected-next (offset_counts o) _ c.loop-at.ranks c.loop-at.kept c.loop-at.at c.loop-at.invariant.selected
           c.select_near.result long next;

@@ -1,4 +1,4 @@
-use Rattle.std.proofs.Common.{List, ℕ, ◌≡◌, ◌≤◌, ◌<◌, ◌+◌, ◌-◌, length, get_or, subst, ◌∙◌, inl, inr, arith}
+use Rattle.std.proofs.Common.{List, ℕ, ◌≡◌, ◌≤◌, ◌<◌, ◌+◌, ◌-◌, length, get_or, subst, inl, inr, arith}
 use Rattle.std.proofs.lemmas.Bool.{cases_lt}
 use Rattle.col_common.specs.Ascending.{differences}
 use Rattle.col_model.specs.Index.{RowSet, run_rows}
@@ -11,16 +11,16 @@ use Rattle.col_index.proofs.row_runs.RowRuns.place_of.Goals as goal
 
 pub overflow_sub-span : goal.overflow_sub-span
 overflow_sub-span c =
-    let found = c.last_run-run.ensures.run c.args.row_id (c.rank-count.ensures ∙ c.row_behind.ensures) in
+    let found = c.last_run-run.ensures.run c.args.row_id (c.count_upto-count.ensures) in
     omega (arith, found.start, c.last_before.ensures.row)
 
 pub returns-clause-place : goal.returns-clause-place
 returns-clause-place c =
     let starts = c.self.inside.starts in
     let run = c.last_run-run.result in
-    let count = c.rank-count.result in
+    let count = c.count_upto-count.result in
     let last = c.last_before.result in
-    let here : count ≡ rank starts.rows (c.args.row_id + 1) = c.rank-count.ensures ∙ c.row_behind.ensures in
+    let here : count ≡ rank starts.rows (c.args.row_id + 1) = c.count_upto-count.ensures in
     let found = c.last_run-run.ensures.run c.args.row_id here in
     let rises = rows_rise starts (summed_starts starts c.self.inside.before.items c.self.invariant.summed) in
     let few : count ≤ length starts.rows = omega (arith, here, rank-le-length starts.rows (c.args.row_id + 1)) in
@@ -44,5 +44,5 @@ returns-clause-place c =
 
 pub returns-clause-near : goal.returns-clause-near
 returns-clause-near c =
-    let found = c.last_run-run.ensures.run c.args.row_id (c.rank-count.ensures ∙ c.row_behind.ensures) in
+    let found = c.last_run-run.ensures.run c.args.row_id (c.count_upto-count.ensures) in
     record { behind = found.start; before = omega (arith, found.start, c.last_before.ensures.row) }
