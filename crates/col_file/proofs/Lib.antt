@@ -1,10 +1,10 @@
 mod PlaceLemmas
 mod RunLemmas
 mod NameLemmas
-mod ListLemmas
+pub mod ListLemmas
 mod EndLemmas
 pub mod PartLemmas
 pub mod ReadLemmas
-mod OpenedLemmas
+pub mod OpenedLemmas
 mod TypeLemmas
 mod CheckLemmas

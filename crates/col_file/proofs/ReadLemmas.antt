@@ -1,5 +1,6 @@
 -- What several readings leave of a reader.
 use Rattle.std.proofs.Common.{ℕ, ◌+◌, ◌≤◌, refl, ◌∙◌, arith}
+use Rattle.col_common.specs.Causes.{Rose}
 use Rattle.col_file.specs.Readers.{SeenReader, Reads}
 
 -- a reader that stays as it is was read no more than so often
@@ -34,3 +35,7 @@ reads-most m n a b few reads = record {
   };
   keys = reads.keys;
 }
+
+-- a count that rose behind one that never falls rose
+pub rose-later : (a b c : ℕ) → a ≤ b → Rose b c → Rose a c
+rose-later a b c h k = omega (arith, h, k)

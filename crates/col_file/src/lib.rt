@@ -18,4 +18,4 @@ pub use check::check_columns;
 pub use column_iter::ColumnIter;
 pub use dynamic_column_handle::DynamicColumnHandle;
 pub use laws::count_columns;
-pub use reader::{ColumnarReader, files_are_read};
+pub use reader::{ColumnarReader, files_are_read, read_column};

@@ -143,8 +143,8 @@ impl<F: FileHandle> ColumnarReader<F> {
         Ok(self.keys.handles(alloc, places.start, places.end)?)
     }
 
-    // The version of the file's bytes.
-    pub(crate) fn format_version(&self) -> Version
+    /// The version of the file's bytes.
+    pub fn format_version(&self) -> Version
         ensures { version_number result ≡ self.now.keys.version }
     {
         self.keys.version()
@@ -176,6 +176,23 @@ impl<F: FileHandle> ColumnarReader<F> {
         let (start, end) = handle.byte_range();
         read_part(alloc, &mut self.file, start, end)
     }
+}
+
+/// The bytes of a handle's column, whatever they stand for, by at most one read. It answers
+/// InvalidData where the handle is no entry of the reader, and, where the file tells what it holds,
+/// nowhere else.
+pub fn read_column<F: FileHandle>(
+    alloc: Global,
+    reader: &mut ColumnarReader<F>,
+    handle: &DynamicColumnHandle,
+) -> Result<Bytes, ColumnarError>
+    ensures no_entry { is_entry reader.old.keys handle.now ≡ false
+        → result ≡ Err ColumnarError.InvalidData }
+    ensures answer { AnswersForHandle (λ expected part. part ≡ expected)
+        reader.old.file reader.new.file result (bytes_at reader.old.keys handle.now) }
+    ensures kept { Reads 1 reader.old reader.new }
+{
+    reader.read_column(alloc, handle)
 }
 
 impl<F: FileHandle> fmt::Debug for ColumnarReader<F> {

@@ -1,11 +1,27 @@
 -- Rows with a value and ends of values, of rows behind others.
-use Rattle.std.proofs.Common.{◌≡◌, ℕ, zero, suc, ◌+◌, ◌<◌, ◌≤◌, not, cond, List, [], ◌∷◌, ◌++◌, length, map, slice_get, Some, refl, sym, ap, ◌∙◌, arith}
+use Rattle.std.proofs.Common.{◌≡◌, ℕ, zero, suc, ◌+◌, ◌<◌, ◌≤◌, ◌==◌, not, Bool, true, false, cond, List, [], ◌∷◌, ◌++◌, length, map, count_by, slice_get, Some, refl, sym, ap, ◌∙◌, arith}
 use Rattle.std.proofs.lemmas.Bool.{ne_eqb}
+use Rattle.std.proofs.lemmas.List.Sums.{sum_by-cons}
 use Rattle.col_model.specs.Positions.{rows_with_value, starts_after, starts_of}
 use Rattle.col_indexer.specs.Counted.{rows_behind, ends_behind}
 use Rattle.col_index.proofs.RowsLaws.{rows_from, rows_with_value-from}
 
 -- ---- rows with a value
+
+one-more : (b : Bool) (a : ℕ) (rows : List ℕ) → length (cond b (a ∷ rows) rows) ≡ cond b 1 0 + length rows
+one-more true a rows = omega arith
+one-more false a rows = omega arith
+
+count-from : (a : ℕ) (cs : List ℕ) → length (rows_from a cs) ≡ count_by (λ c. not (c == 0)) cs
+count-from a [] = refl
+count-from a (c ∷ cs) =
+    one-more (not (c == 0)) a (rows_from (suc a) cs)
+    ∙ ap (λ n. cond (not (c == 0)) 1 0 + n) (count-from (suc a) cs)
+    ∙ sym (sum_by-cons (λ d. cond (not (d == 0)) 1 0) c cs)
+
+-- how many rows have a value
+pub count-rows : (cs : List ℕ) → length (rows_with_value cs) ≡ count_by (λ c. not (c == 0)) cs
+count-rows cs = ap length (rows_with_value-from cs) ∙ count-from 0 cs
 
 -- a row with a value is the first
 pub rows_from-some : (a c : ℕ) (cs : List ℕ) → rows_from a (suc c ∷ cs) ≡ a ∷ rows_from (suc a) cs

@@ -1,7 +1,7 @@
 pub mod CountedLemmas
 pub mod SegmentCountLemmas
 pub mod SegmentLemmas
-mod UniformLemmas
+pub mod UniformLemmas
 mod StackedStartLemmas
 mod NextRowLemmas
 mod StackedWalkLemmas

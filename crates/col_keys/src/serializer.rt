@@ -35,7 +35,7 @@ impl Model for ColumnarSerializer {
 }
 
 impl ColumnarSerializer {
-    ghost use Rattle.col_keys.specs.Put.{no_columns, with_column, end_bytes, HavePut, AreKeys, HasColumns};
+    ghost use Rattle.col_keys.specs.Put.{no_columns, with_column, end_bytes, HavePut, AreKeys, HasColumns, Puts};
 
     pub fn new(alloc: Global) -> ColumnarSerializer
         ensures { result ≡ no_columns }
@@ -62,6 +62,23 @@ impl ColumnarSerializer {
             column_type,
             bytes: Buffer::new(self.alloc),
         }
+    }
+
+    /// Puts the bytes of a column under a key, behind the columns before it: all of what
+    /// `start_serialize_column` and `finalize` of the column do.
+    pub fn put_column<K: Sink>(
+        &mut self,
+        name: &str,
+        column_type: ColumnType,
+        bytes: Buffer,
+        sink: &mut K,
+    ) -> Result<(), ColumnarError>
+        ensures { Puts self.old self.new (K.seen sink.old) (K.seen sink.new) result
+            (key_at name.now column_type) bytes }
+    {
+        let mut column = self.start_serialize_column(name, column_type);
+        column.bytes = bytes;
+        column.finalize(self, sink)
     }
 
     /// Writes the keys and the footer behind the columns.

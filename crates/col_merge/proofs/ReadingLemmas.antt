@@ -7,7 +7,7 @@ use Rattle.col_model.specs.Keys.{FileKeys}
 use Rattle.col_model.proofs.SharedTypes.{some≢none, same-some}
 use Rattle.col_common.specs.Reading.{◌>>=◌}
 use Rattle.col_file.specs.Readers.{SeenReader, Reads}
-use Rattle.col_file.proofs.ReadLemmas.{reads-none, reads-then, reads-most}
+use Rattle.col_file.proofs.ReadLemmas.{reads-none, reads-then, reads-most, rose-later}
 use Rattle.col_model.specs.File.{parts_of}
 use Rattle.col_merge.specs.Parts.{told_part, told_parts}
 use Rattle.col_merge.specs.Readings.{AllRead, SomeReaderRose}
@@ -59,10 +59,6 @@ module _ (times : FileKeys → ℕ) where
   counts-stay (r ∷ rs) (s ∷ ss) h = ap₂ (λ n ns. n ∷ ns) (ap (λ k. k.row_count) h.0.keys) (counts-stay rs ss h.1)
 
 -- ---- faults
-
--- a count that rose later rose
-pub rose-later : (a b c : ℕ) → a ≤ b → Rose b c → Rose a c
-rose-later a b c h k = omega (arith, h, k)
 
 -- the reader at a place, as it was
 record WasAt (rs : List SeenReader) (at : ℕ) (now : SeenReader) : Type 0 where

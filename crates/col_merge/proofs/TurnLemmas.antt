@@ -19,7 +19,8 @@ use Rattle.col_merge.specs.Parts.{told_parts}
 use Rattle.col_merge.specs.Readings.{AllRead}
 use Rattle.col_merge.specs.Turns.{RefusesParts, RefusesMerge, IsLaterSink, PutsOne, IsPutAs, MergedOne, ArePutAs, MergedSoFar}
 use Rattle.col_merge.proofs.EachLemmas.{each-stops}
-use Rattle.col_merge.proofs.ReadingLemmas.{rose-before, parts-stay, rose-later}
+use Rattle.col_file.proofs.ReadLemmas.{rose-later}
+use Rattle.col_merge.proofs.ReadingLemmas.{rose-before, parts-stay}
 
 -- ---- what is told
 

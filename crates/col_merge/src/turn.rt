@@ -5,8 +5,7 @@ ghost use Rattle.col_model.specs.Merge.{Required, required_type};
 ghost use Rattle.col_order.specs.Orders.{counts_of, picks_of};
 ghost use Rattle.col_order.specs.RowOrders.{order_of};
 ghost use Rattle.col_types.specs.Kinds.{kind_of};
-ghost use Rattle.col_keys.specs.KeyTables.{key_at};
-ghost use Rattle.col_keys.specs.Put.{Puts, no_columns};
+ghost use Rattle.col_keys.specs.Put.{no_columns};
 ghost use Rattle.col_merge.specs.Joined.{joined_by};
 ghost use Rattle.col_merge.specs.Readings.{AllRead, slot_reads, slots_reads};
 ghost use Rattle.col_merge_plan.specs.RequiredTypes.{known_type};
@@ -14,7 +13,7 @@ ghost use Rattle.col_merge_plan.specs.Slots.{counts_read};
 ghost use Rattle.col_merge.specs.Turns.{IsLaterSink, MergesOne, MergesSlots};
 
 use crate::join_columns::join_columns;
-use col_common::{Buffer, ColumnarError, FileHandle, Sink};
+use col_common::{ColumnarError, FileHandle, Sink};
 use col_file::ColumnarReader;
 use col_keys::{ColumnarSerializer, SlotKey};
 use col_order::MergeRowOrder;
@@ -80,23 +79,7 @@ fn merge_slot<F: FileHandle, K: Sink>(
     ensures sink { IsLaterSink (K.seen output.old) (K.seen output.new) }
 {
     match join_columns(alloc, columnar_readers, slot, wanted, merge_row_order)? {
-        Some((column_type, bytes)) => put_column(slot.name(), column_type, bytes, columns, output),
+        Some((column_type, bytes)) => columns.put_column(slot.name(), column_type, bytes, output),
         None => Ok(()),
     }
-}
-
-// Puts a column behind those of the file.
-fn put_column<K: Sink>(
-    name: &str,
-    column_type: ColumnType,
-    bytes: Buffer,
-    columns: &mut ColumnarSerializer,
-    output: &mut K,
-) -> Result<(), ColumnarError>
-    ensures { Puts columns.old columns.new (K.seen output.old) (K.seen output.new) result
-        (key_at name.now column_type) bytes }
-{
-    let mut column = columns.start_serialize_column(name, column_type);
-    column.bytes = bytes;
-    column.finalize(columns, output)
 }

@@ -1,20 +1,18 @@
 -- The limits of a column of picked rows.
-use Rattle.std.proofs.Common.{◌≡◌, ℕ, suc, ◌+◌, ◌^◌, ◌-◌, ◌==◌, not, Bool, true, false, cond, List, [], ◌∷◌, length, map, Some, Option, refl, sym, ap, ap₂, ◌∙◌, arith}
+use Rattle.std.proofs.Common.{◌≡◌, ℕ, ◌+◌, ◌^◌, ◌-◌, ◌==◌, not, Bool, true, false, cond, List, [], ◌∷◌, length, map, Some, Option, refl, sym, ap, ap₂, ◌∙◌, arith}
 use Rattle.std.specs.Prelude.{nat_le, ◌&&◌, ◌||◌, sum, count_by, sum_by, unwrap_or}
 use Rattle.std.proofs.lemmas.Bool.{eqb-true, leb-false}
-use Rattle.std.proofs.lemmas.List.{length-map}
 use Rattle.std.proofs.lemmas.List.Sums.{sum_by-cons}
 use Rattle.col_index.proofs.CountLaws.{offset_counts-rows}
-use Rattle.col_index.proofs.RowsLaws.{rows_from, rows_with_value-from}
 use Rattle.col_index.specs.Offsets.{cardinality_in}
 use Rattle.col_indexer.specs.Merged.{merged_cardinality, merged_counts, IsMerged}
+use Rattle.col_indexer.proofs.CountedLemmas.{count-rows}
 use Rattle.col_indexer.specs.Spelling.{Index, full_index, optional_index, multivalued_index, IsIndex, is_past_limit}
 use Rattle.col_model.specs.ColumnType.{ColumnType}
 use Rattle.col_model.specs.Index.{Counts, Shape, empty_shape, full_shape, optional_shape, multivalued_shape, counts_over, set_counts, offset_counts}
 use Rattle.col_model.specs.Limits.{cell_count, is_multivalued, has_many_codes, is_too_large}
 use Rattle.col_model.specs.Order.{Order}
-use Rattle.col_model.specs.Positions.{rows_with_value}
-use Rattle.col_model.specs.Table.{Cell, Cardinality}
+use Rattle.col_model.specs.Table.{Cell}
 use Rattle.col_model.specs.Table as tables
 use Rattle.col_model.proofs.MergedSound.{chosen-is}
 use Rattle.col_order.specs.Orders.{counts_of, picks_of}
@@ -42,21 +40,6 @@ count-some (xs ∷ xss) =
     sum_by-cons (λ ys. cond (not (length ys == 0)) 1 0) xs xss
     ∙ ap (λ n. cond (not (length xs == 0)) 1 0 + n) (count-some xss)
     ∙ sym (sum_by-cons (λ c. cond (not (c == 0)) 1 0) (length xs) (map length xss))
-
-one-more : (b : Bool) (a : ℕ) (rows : List ℕ) → length (cond b (a ∷ rows) rows) ≡ cond b 1 0 + length rows
-one-more true a rows = omega arith
-one-more false a rows = omega arith
-
-count-from : (a : ℕ) (cs : List ℕ) → length (rows_from a cs) ≡ count_by (λ c. not (c == 0)) cs
-count-from a [] = refl
-count-from a (c ∷ cs) =
-    one-more (not (c == 0)) a (rows_from (suc a) cs)
-    ∙ ap (λ n. cond (not (c == 0)) 1 0 + n) (count-from (suc a) cs)
-    ∙ sym (sum_by-cons (λ d. cond (not (d == 0)) 1 0) c cs)
-
--- how many rows have a value
-count-rows : (cs : List ℕ) → length (rows_with_value cs) ≡ count_by (λ c. not (c == 0)) cs
-count-rows cs = ap length (rows_with_value-from cs) ∙ count-from 0 cs
 
 -- ---- the counts of a merged index
 

@@ -1,12 +1,12 @@
 -- What a check leaves of a file.
-use Rattle.std.proofs.Common.{◌≡◌, ◌≤◌, ◌+◌, ℕ, List, length, Option, Some, None, Ok, Err, IfSome, refl, ap, subst, arith}
+use Rattle.std.proofs.Common.{◌≡◌, ◌≤◌, ◌+◌, ℕ, List, length, Option, Some, None, Result, Ok, Err, IfSome, refl, ap, subst, arith}
 use Rattle.std.proofs.lemmas.List.{length-map}
 use Rattle.col_common.specs.Outside.{SeenFile}
 use Rattle.col_common.specs.declared.error.ColumnarError.{ColumnarError}
 use Rattle.col_common.specs.declared.error.ColumnarError.TheVariants.{OutOfMemory, ReadFault, InvalidData}
 use Rattle.col_file.specs.Files.{ReadsFile, IsExpected, RefusesFile, AnswersForHandle}
 use Rattle.col_file.specs.Readers.{SeenReader}
-use Rattle.col_merge.proofs.ReadingLemmas.{rose-later}
+use Rattle.col_file.proofs.ReadLemmas.{rose-later}
 use Rattle.col_model.specs.Check.{check_report}
 use Rattle.col_model.specs.File.{Part, part_column, parts_of}
 use Rattle.col_model.specs.Keys.{FileKeys, keys}
@@ -16,7 +16,7 @@ use Rattle.col_outcome.proofs.PartLemmas.{keeps-read, keeps-then}
 -- ---- a file that isn't opened
 
 -- a file without a key table has no part
-parts-none : (told : Option (List ℕ)) → IfSome told (λ bytes. keys bytes ≡ None) → IfSome told (λ bytes. parts_of bytes ≡ None)
+pub parts-none : (told : Option (List ℕ)) → IfSome told (λ bytes. keys bytes ≡ None) → IfSome told (λ bytes. parts_of bytes ≡ None)
 unfolding parts_of
 parts-none None h = tt
 parts-none (Some bytes) h = rw h refl
@@ -63,15 +63,16 @@ reads-opened None k before between after h opened read = tt
 reads-opened (Some bytes) k before between after h opened read = omega (arith, takes-entries bytes k h, opened, read)
 
 -- what is answered for the opened file is answered for the file
-answers-opened : (old mid new : SeenFile) (result : Report) → ReadsFile 2 old mid
-    → AnswersForHandle (λ p report. report.items ≡ check_report p) mid new result parts_of
-    → AnswersForHandle (λ p report. report.items ≡ check_report p) old new result parts_of
-answers-opened old mid new (Ok made) r h =
-    subst (λ told. IfSome told (λ bytes. IsExpected (λ p report. report.items ≡ check_report p) made (parts_of bytes))) r.told h
-answers-opened old mid new (Err OutOfMemory) r h = tt
-answers-opened old mid new (Err InvalidData) r h = subst (λ told. IfSome told (λ bytes. parts_of bytes ≡ None)) r.told h
-answers-opened old mid new (Err ReadFault) r h = rose-later old.faults mid.faults new.faults r.later h
-answers-opened old mid new (Err _) r h = absurd h
+pub answers-opened : {T V : Type 0} (IsOf : V → T → Type 0) (expected : List ℕ → Option V) (old mid new : SeenFile)
+    (result : Result T ColumnarError) → ReadsFile 2 old mid → AnswersForHandle IsOf mid new result expected
+    → AnswersForHandle IsOf old new result expected
+answers-opened IsOf expected old mid new (Ok made) r h =
+    subst (λ told. IfSome told (λ bytes. IsExpected IsOf made (expected bytes))) r.told h
+answers-opened IsOf expected old mid new (Err OutOfMemory) r h = tt
+answers-opened IsOf expected old mid new (Err InvalidData) r h =
+    subst (λ told. IfSome told (λ bytes. expected bytes ≡ None)) r.told h
+answers-opened IsOf expected old mid new (Err ReadFault) r h = rose-later old.faults mid.faults new.faults r.later h
+answers-opened IsOf expected old mid new (Err _) r h = absurd h
 
 -- a file that was opened
 pub checks-opened : (old : SeenFile) (r : SeenReader) (new : SeenFile) (result : Report)
@@ -79,7 +80,7 @@ pub checks-opened : (old : SeenFile) (r : SeenReader) (new : SeenFile) (result :
     → AnswersForHandle (λ p report. report.items ≡ check_report p) r.file new result parts_of
     → ReadsFile (length r.keys.entries) r.file new → ChecksFile old new result
 checks-opened old r new result opened answer reads = record {
-  answer = answers-opened old r.file new result opened.1 answer;
+  answer = answers-opened (λ p report. report.items ≡ check_report p) parts_of old r.file new result opened.1 answer;
   kept = keeps-then old r.file new (keeps-read 2 old r.file opened.1) (keeps-read (length r.keys.entries) r.file new reads);
   reads = reads-opened old.told r.keys old.reads r.file.reads new.reads opened.0 opened.1.reads reads.reads;
 }

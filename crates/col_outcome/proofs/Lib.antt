@@ -11,3 +11,4 @@ mod SegmentLemmas
 mod StayLemmas
 mod TableLemmas
 mod CheckingLemmas
+mod UpgradingLemmas

@@ -41,7 +41,7 @@ answer-is TieBreakerStart r h = cc
 answer-is NotUtf8 r h = cc
 
 -- nothing in memory fails
-unfaulted : Rose 0 0 → ⊥
+pub unfaulted : Rose 0 0 → ⊥
 unfaulted h = omega (arith, h)
 
 -- why a merge into memory refuses

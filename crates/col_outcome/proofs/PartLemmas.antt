@@ -6,7 +6,7 @@ use Rattle.col_common.specs.Causes.{Rose}
 use Rattle.col_common.specs.Outside.{SeenFile}
 use Rattle.col_file.specs.Files.{ReadsFile}
 use Rattle.col_file.specs.Readers.{SeenReader}
-use Rattle.col_merge.proofs.ReadingLemmas.{rose-later}
+use Rattle.col_file.proofs.ReadLemmas.{rose-later}
 use Rattle.col_outcome.specs.Parts.{given, handed_in, is_given, is_above_zero, given_in, files_in, KeepsFile, AllKeep, SomeFileRose}
 
 -- ---- files that stay

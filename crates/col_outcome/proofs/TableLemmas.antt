@@ -30,10 +30,3 @@ same-at f g [] (y ∷ ys) i d e same within = cc
 same-at f g (x ∷ xs) [] i d e same within = absurd (omega arith)
 same-at f g (x ∷ xs) (y ∷ ys) zero d e same within = ap (head_or (f x)) same
 same-at f g (x ∷ xs) (y ∷ ys) (suc i) d e same within = same-at f g xs ys i d e (ap tail_of same) (omega arith)
-
--- lists whose images are the same have one length
-pub same-length : {A B C : Type 0} (f : A → C) (g : B → C) (xs : List A) (ys : List B) → map f xs ≡ map g ys → length xs ≡ length ys
-same-length f g [] [] same = refl
-same-length f g [] (y ∷ ys) same = cc
-same-length f g (x ∷ xs) [] same = cc
-same-length f g (x ∷ xs) (y ∷ ys) same = ap suc (same-length f g xs ys (ap tail_of same))

@@ -4,3 +4,4 @@ pub mod Inputs
 pub mod Making
 pub mod Ordered
 pub mod Checking
+pub mod Upgrading

@@ -172,7 +172,7 @@ fn merged_file<F: FileHandle>(
 }
 
 // The report on a file.
-fn report_on(
+pub(crate) fn report_on(
     alloc: Global,
     file: &Bytes,
     finds: &[Find],

@@ -13,7 +13,7 @@ pub(crate) const TEN_AND_TWENTY: &[u8] = b"\0\0\x8a\x8a\x81\x82\x02\x01\0\0\0\0\
 \x81\x83a\0\x01\x8f\x06\0\0\0\0\0\0\0\x02\0\0\0\x03\0\0\0\x02qwB";
 
 // The str column "s" of three rows without a value.
-const THREE_WITHOUT: &[u8] = b"\0\0\0\0\x01\0\x83\0\x80\x81\x80\x80\0\x80\x81\x80\x80\
+pub(crate) const THREE_WITHOUT: &[u8] = b"\0\0\0\0\x01\0\x83\0\x80\x81\x80\x80\0\x80\x81\x80\x80\
 \x08\0\0\0\0\0\0\0\x04\0\0\0\x81\x83s\0\x04\x9d\x06\0\0\0\0\0\0\0\x03\0\0\0\x03\0\0\0\x02qwB";
 
 // Four columns of 1 to 4 bytes, which aren't read: "col1" (str), "subcol1" (str) and "subcol2"

@@ -11,3 +11,5 @@ mod refused;
 mod report;
 #[cfg(test)]
 mod script;
+#[cfg(test)]
+mod upgraded;

@@ -21,12 +21,13 @@ pub use col_dynamic::{
     BytesColumn, Column, ColumnSpaceUsage, ColumnType, DynamicColumn, HasAssociatedColumnType,
     IpColumn, NumColumn, NumericalType, NumericalValue, StrColumn,
 };
-pub use col_file::{ColumnIter, ColumnarReader, DynamicColumnHandle, check_columns};
+pub use col_file::{ColumnIter, ColumnarReader, DynamicColumnHandle, check_columns, read_column};
 pub use col_index::{CURRENT_VERSION, Cardinality, ColumnIndex, Version};
 pub use col_merge::{StackFromReaders, merge_columnar};
 pub use col_merge_terms::compute_merged_term_ord_mapping;
 pub use col_order::{MergeRowOrder, ShuffleMergeOrder, StackMergeOrder};
 pub use col_terms::{Dictionary, Streamer, TermOrdHit};
+pub use col_upgrade::upgrade;
 pub use col_values::{
     ColumnValues, EmptyColumnValues, MonotonicallyMappableToU64, MonotonicallyMappableToU128,
 };

@@ -1,7 +1,8 @@
 use Rattle.std.proofs.Common.{refl}
 use Rattle.std.proofs.lemmas.Result.{err_from_is_err_and}
 use Rattle.col_tool.proofs.AnswerLemmas.{delivered-other}
-use Rattle.col_tool.proofs.CheckLemmas.{check-delivered, check-refusal, check-refused, check-rose, check-kept, check-reads, keeps-none, refusal-checks, refusal-unwritten}
+use Rattle.col_tool.proofs.CheckLemmas.{check-delivered, check-refusal, check-refused, check-rose, check-kept, check-reads, keeps-none}
+use Rattle.col_tool.proofs.InputLemmas.{refusal-checks, refusal-unwritten}
 use Rattle.col_tool.proofs.RefusedLemmas.{delivered-checks}
 use Rattle.col_tool.proofs.run.answer_of_check.Goals as goal
 

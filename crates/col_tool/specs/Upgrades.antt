@@ -1,0 +1,30 @@
+-- A file that is written again, and what the program answers, whatever its words ask for. States
+-- docs/RULES.md, The command line, Upgraded files and Statuses.
+use Rattle.std.specs.Prelude.{ℕ, ◌==◌, ◌&&◌, Bool, true, false, List, [], ◌∷◌, length, codes, bytes_eq, if◌then◌else◌, Option, Some, None}
+use Rattle.col_model.specs.File.{table_of}
+use Rattle.col_model.specs.Outcome.{Outcome, done, refused, as_file, outcome}
+use Rattle.col_model.specs.Report.{report_of}
+use Rattle.col_model.specs.Table.{Table}
+
+-- `upgrade OUT IN`, with one input
+abbrev pub are_upgrade_words : List (List ℕ) → ℕ → Bool
+are_upgrade_words (upgrade ∷ out ∷ in_ ∷ []) inputs =
+    bytes_eq upgrade (codes "upgrade") && (inputs == 1)
+are_upgrade_words _ inputs = false
+
+-- what writing a file again comes to: 6 where it has no table, else its table and a short report
+-- without lookups
+abbrev pub upgraded : Option Table → Outcome
+upgraded None = refused 6
+upgraded (Some t) = done (as_file t) (report_of t [] true)
+
+-- The outcome of `upgrade`, which has one input.
+abbrev pub outcome_of_upgrade : List (List ℕ) → Outcome
+outcome_of_upgrade (bytes ∷ []) = upgraded (table_of bytes)
+outcome_of_upgrade _ = refused 2
+
+-- The outcome of all words. An upgrade reads no script.
+unfoldable pub outcome_of_words : List (List ℕ) → List (List ℕ) → List ℕ → Outcome
+outcome_of_words words inputs script =
+    if are_upgrade_words words (length inputs) then outcome_of_upgrade inputs
+    else outcome words inputs script

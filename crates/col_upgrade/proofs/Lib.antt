@@ -1,0 +1,5 @@
+mod RefusalLemmas
+mod IndexLemmas
+mod NumberLemmas
+pub mod PutLemmas
+mod FileLemmas
