@@ -40,6 +40,17 @@ fn file_of(docs: &[Doc], texts: &[String]) -> Vec<u8> {
     file.finish(num_docs)
 }
 
+// A file of the numbers of documents, or without a column.
+fn file_of_ids(docs: &[Doc], has_ids: bool) -> Vec<u8> {
+    let num_docs = docs.len() as u32;
+    let mut file = File::default();
+    if has_ids {
+        let (rows, vals): (Vec<u32>, Vec<u64>) = (0..).zip(docs.iter().map(|doc| doc.id)).unzip();
+        file.put("id", U64, |out| put_numbers(&rows, &vals, num_docs, out));
+    }
+    file.finish(num_docs)
+}
+
 // The columns of a file, each under its key.
 struct Reader { num_docs: u32, columns: Vec<(&'static [u8], &'static [u8])> }
 
@@ -58,6 +69,10 @@ impl Reader {
         }
         Reader { num_docs, columns }
     }
+
+    fn column(&self, key: &[u8]) -> Option<&'static [u8]> {
+        Some(self.columns.iter().find(|column| column.0 == key)?.1)
+    }
 }
 
 fn take(len: usize, bytes: &mut &'static [u8]) -> &'static [u8] {
@@ -71,19 +86,27 @@ struct Part<T> { starts: Option<Vec<u32>>, vals: Vec<T> }
 
 fn list(bytes: &'static [u8]) -> Vec<u64> { Numbers::open(bytes).unwrap().to_vec() }
 
+// The rows with a value, under either form.
+fn rows(bytes: &'static [u8]) -> Vec<u64> {
+    let (form, mut set) = bytes.split_first().unwrap();
+    take_vint(&mut set);
+    if *form == 0 { return list(set); }
+    let (lists, len) = set.split_last_chunk().unwrap();
+    let (starts, lengths) = lists.split_at(u64::from_le_bytes(*len) as usize);
+    list(starts).into_iter().zip(list(lengths)).flat_map(|(start, len)| start..start + len).collect()
+}
+
 fn starts(bytes: &'static [u8], num_docs: u32) -> Option<Vec<u32>> {
     let (code, rest) = bytes.split_first().unwrap();
-    let (mut set, offsets) = match code {
+    let (rows, offsets) = match code {
         0 => return None,
-        1 => (rest, None),
+        1 => (rows(rest), None),
         _ => {
             let (parts, len) = rest.split_last_chunk().unwrap();
             let (set, offsets) = parts.split_at(u64::from_le_bytes(*len) as usize);
-            (set, Some(list(offsets)))
+            (rows(set), Some(list(offsets)))
         }
     };
-    take_vint(&mut set);
-    let rows = list(set);
     let mut starts = Vec::with_capacity(num_docs as usize + 1);
     for (at, row) in rows.iter().enumerate() {
         let start = offsets.as_ref().map_or(at as u32, |offsets| offsets[at] as u32);
@@ -95,7 +118,11 @@ fn starts(bytes: &'static [u8], num_docs: u32) -> Option<Vec<u32>> {
 }
 
 impl<T: Copy> Part<T> {
-    fn open(bytes: &'static [u8], num_docs: u32, vals: impl Fn(&'static [u8]) -> Vec<T>) -> Part<T> {
+    // Of a file that lacks the column no row has a value.
+    fn open(bytes: Option<&'static [u8]>, num_docs: u32, vals: impl Fn(&'static [u8]) -> Vec<T>) -> Part<T> {
+        let Some(bytes) = bytes else {
+            return Part { starts: Some(vec![0; num_docs as usize + 1]), vals: vec![] };
+        };
         let (parts, len) = bytes.split_last_chunk().unwrap();
         let (index, rest) = parts.split_at(u64::from_le_bytes(*len) as usize);
         Part { starts: starts(index, num_docs), vals: vals(rest) }
@@ -111,7 +138,8 @@ impl<T: Copy> Part<T> {
 }
 
 // Terms ascending, and ordinals.
-fn open_texts(bytes: &'static [u8], num_docs: u32) -> (Vec<&'static [u8]>, Part<u64>) {
+fn open_texts(bytes: Option<&'static [u8]>, num_docs: u32) -> (Vec<&'static [u8]>, Part<u64>) {
+    let Some(bytes) = bytes else { return (vec![], Part::open(None, num_docs, list)) };
     let (parts, len) = bytes.split_last_chunk().unwrap();
     let (dictionary, ords) = parts.split_at(u32::from_le_bytes(*len) as usize);
     let number = |at| u32::from_le_bytes(*dictionary[at..].first_chunk().unwrap()) as usize;
@@ -122,7 +150,7 @@ fn open_texts(bytes: &'static [u8], num_docs: u32) -> (Vec<&'static [u8]>, Part<
         start = end;
         term
     });
-    (terms.collect(), Part::open(ords, num_docs, list))
+    (terms.collect(), Part::open(Some(ords), num_docs, list))
 }
 
 // The terms of all columns, and the place there of each column's terms.
@@ -172,15 +200,15 @@ fn join<T: Copy>(readers: &[Reader], parts: &[Part<T>], order: &Order) -> (Vec<u
     (docs, vals)
 }
 
-// Each file has the same columns, and each row is named once.
+// The first file has each column, and each row is named once.
 #[inline(never)]
 fn merge(files: &[&'static [u8]], order: &Order) -> Vec<u8> {
     let readers: Vec<Reader> = files.iter().map(|bytes| Reader::open(bytes)).collect();
     let num_docs = readers.iter().map(|reader| reader.num_docs).sum();
     let mut file = File::default();
-    for (place, (key, _)) in readers[0].columns.iter().enumerate() {
+    for (key, _) in &readers[0].columns {
         let (code, name) = (key[key.len() - 1], str::from_utf8(&key[..key.len() - 2]).unwrap());
-        let columns = readers.iter().map(|reader| (reader.columns[place].1, reader.num_docs));
+        let columns = readers.iter().map(|reader| (reader.column(key), reader.num_docs));
         if code == STR {
             let opened = columns.map(|(bytes, num_docs)| open_texts(bytes, num_docs));
             let (terms, mut parts): (Vec<_>, Vec<_>) = opened.unzip();
@@ -212,6 +240,15 @@ fn named(num_rows: usize, is_random: bool) -> Order {
     Order::Shuffle(rows)
 }
 
+fn say(name: &str, files: &[&'static [u8]], order: &Order) {
+    let (nanos, bytes) = best(|| merge(black_box(files), order));
+    println!("{name} {nanos} {}", hash(&bytes));
+}
+
+fn read(path_of: impl Fn(usize) -> String) -> Vec<&'static [u8]> {
+    (0..NUM_FILES).map(|at| &*std::fs::read(path_of(at)).unwrap().leak()).collect()
+}
+
 // Words: a path, how many rows, and 0 to read the files, 1 to 3 to merge them stacked, in turn or at random, 4 to
 // measure each, and 5 to write the files.
 fn main() {
@@ -219,23 +256,20 @@ fn main() {
     let [path, count, step] = &words[..] else { panic!("path, count and step") };
     let (count, step): (usize, u32) = (count.parse().unwrap(), step.parse().unwrap());
     let path_of = |at: usize| format!("{path}{at}");
+    let lacking_path_of = |at: usize| format!("{path}_lacking{at}");
     if step == 5 {
         let (docs, texts) = (docs(count), texts());
         for (at, docs) in docs.chunks(count / NUM_FILES).enumerate() {
             std::fs::write(path_of(at), file_of(docs, &texts)).unwrap();
+            std::fs::write(lacking_path_of(at), file_of_ids(docs, at % 2 == 0)).unwrap();
         }
         return;
     }
-    let files = (0..NUM_FILES).map(|at| &*std::fs::read(path_of(at)).unwrap().leak());
-    let files: Vec<&[u8]> = files.collect();
+    let files = read(path_of);
     for (kind, name) in [(1, "stacked"), (2, "in_turn"), (3, "random")] {
         if step != kind && step != 4 { continue; }
         let order = if kind == 1 { Order::Stack } else { named(count, kind == 3) };
-        if step == kind {
-            println!("{}", merge(&files, &order).len());
-        } else {
-            let (nanos, bytes) = best(|| merge(black_box(&files), &order));
-            println!("{name} {nanos} {}", hash(&bytes));
-        }
+        if step == kind { println!("{}", merge(&files, &order).len()) } else { say(name, &files, &order) }
     }
+    if step == 4 { say("lacking", &read(lacking_path_of), &Order::Stack) }
 }
