@@ -37,6 +37,7 @@ mod select_cursor;
 mod select_near;
 mod selected_runs;
 mod set;
+mod start_offsets;
 mod summed_runs;
 mod walked_rows;
 mod windows;

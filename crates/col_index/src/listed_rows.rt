@@ -121,6 +121,16 @@ impl ListedRows {
         self.buckets.rank(self.num_rows, &self.rows, row_id)
     }
 
+    /// How many rows before a row have a value, and whether it has one itself.
+    #[inline(always)]
+    pub(crate) fn rank_and_contains(&self, row_id: RowId) -> (RowId, bool)
+        ensures rank { result.0 ≡ rank self.now.rows row_id }
+        ensures held { result.1 ≡ holds self.now.rows row_id }
+    {
+        let rank = self.rank(row_id);
+        (rank, self.holds_at(rank, row_id))
+    }
+
     /// The rank of a row that has a value.
     #[inline(always)]
     pub(crate) fn rank_if_exists(&self, row_id: RowId) -> Option<RowId>
@@ -173,9 +183,9 @@ impl ListedRows {
         Some(self.select(rank as u32))
     }
 
-    /// Whether the row with a rank has a value.
+    // Whether the row with a rank has a value.
     #[inline(always)]
-    pub(crate) fn holds_at(&self, at: RowId, row_id: RowId) -> bool
+    fn holds_at(&self, at: RowId, row_id: RowId) -> bool
         requires { at ≡ rank self.now.rows row_id }
         ensures { result ≡ holds self.now.rows row_id }
     {

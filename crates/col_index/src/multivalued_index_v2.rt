@@ -18,6 +18,7 @@ use crate::rows_near::RowsNear;
 use crate::search::Place;
 use crate::select_near::SelectNear;
 use crate::set::Set;
+use crate::start_offsets::{are_starts, push_runs};
 use crate::windows::{TABLE_LEN, Window, window_at};
 use col_common::{ColumnarError, DocId, RowId};
 use col_numbers::U64Values;
@@ -192,8 +193,8 @@ impl MultiValueIndexV2 {
         if doc_id >= self.optional_index.num_docs() {
             return 0..0;
         }
-        let rank = self.optional_index.rank(doc_id);
-        if self.optional_index.holds_at(rank, doc_id) {
+        let (rank, held) = self.optional_index.rank_and_contains(doc_id);
+        if held {
             return self.range_at(rank);
         }
         let start = self.start_at(rank);
@@ -363,54 +364,4 @@ fn is_other(number: u32, other: u32) -> bool
     ensures { result ≡ not (number == other) }
 {
     number != other
-}
-
-// Whether numbers are start offsets of so many rows.
-fn are_starts(num_rows: RowId, starts: &U64Values) -> bool
-    ensures { result ≡ is_start_list num_rows (list_of starts.now) }
-{
-    let count = starts.num_vals();
-    if u64::from(count) != u64::from(num_rows) + 1 {
-        return false;
-    }
-    if starts.get_val(0) != 0 {
-        return false;
-    }
-    let mut last = 0;
-    for at in 1..count {
-        let start = starts.get_val(at);
-        if start <= last {
-            return false;
-        }
-        if start > u64::from(u32::MAX) {
-            return false;
-        }
-        last = start;
-    }
-    true
-}
-
-// Appends the rows with a value, and where the values of each start, and those of the last end.
-fn push_runs(
-    start_offsets: &[RowId],
-    rows: &mut Vec<RowId>,
-    starts: &mut Vec<RowId>,
-) -> Result<(), AllocError>
-    requires { AreOldOffsets start_offsets.now }
-    ensures rows { OnOk result (rows.new.items ≡ rows.old.items
-        ++ rows_with_value (differences start_offsets.now)) }
-    ensures starts { OnOk result (starts.new.items ≡ starts.old.items
-        ++ starts_of (differences start_offsets.now)) }
-{
-    let last = start_offsets.len() - 1;
-    for row in 0..last {
-        let start = start_offsets[row];
-        if start_offsets[row + 1] == start {
-            continue;
-        }
-        rows.push(row as RowId)?;
-        starts.push(start)?;
-    }
-    starts.push(start_offsets[last])?;
-    Ok(())
 }

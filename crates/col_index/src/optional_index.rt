@@ -6,7 +6,6 @@ ghost use Rattle.col_common.specs.declared.error.ColumnarError.TheVariants as re
 ghost use Rattle.col_common.specs.Decoding.{Decodes};
 ghost use Rattle.col_model.specs.Index.{RowSet, runs_of, set_counts};
 ghost use Rattle.col_model.specs.Positions.{rank, next_row, index_range};
-ghost use Rattle.col_common.specs.Reading.{only_if};
 ghost use Rattle.col_index.specs.Held.{set_held};
 ghost use Rattle.col_index.specs.Offsets.{range_if_any};
 ghost use Rattle.col_index.specs.Runs.{runs_by};
@@ -34,8 +33,8 @@ use std::marker::Model;
 use std::ops::Range;
 use std::sync::ledger::Ledger;
 
-/// Which rows have a value: in a list or in runs, and for the rows that are asked most a bit each.
-/// Contracts see the row count and the rows with a value.
+/// Which rows have a value: in a list or in runs, and, where enough rows have one, also a bit for
+/// each row. Contracts see the row count and the rows with a value.
 pub struct OptionalIndex {
     held: HeldRows,
     bits: RankWords,
@@ -233,7 +232,7 @@ impl Set<RowId> for OptionalIndex {
         if self.bits.reaches(row_id) {
             return self.bits.holds(row_id);
         }
-        self.held_contains(row_id)
+        self.held.contains(row_id)
     }
 
     #[inline(always)]
@@ -241,7 +240,7 @@ impl Set<RowId> for OptionalIndex {
         if self.bits.reaches(row_id) {
             return self.bits.rank(row_id);
         }
-        self.held_rank(row_id)
+        self.held.rank(row_id)
     }
 
     #[inline(always)]
@@ -252,7 +251,7 @@ impl Set<RowId> for OptionalIndex {
             }
             return None;
         }
-        self.held_rank_if_exists(row_id)
+        self.held.rank_if_exists(row_id)
     }
 
     #[inline(always)]
@@ -281,52 +280,16 @@ impl OptionalIndex {
     ghost use Rattle.col_index.specs.RowsNear.{rows_near};
     ghost use Rattle.col_index.specs.RunPlaces.{IsRunOf};
 
-    /// Whether the row with a rank has a value.
+    /// How many rows before a row have a value, and whether it has one itself.
     #[inline(always)]
-    pub(crate) fn holds_at(&self, at: RowId, row_id: RowId) -> bool
-        requires { at ≡ rank self.now.rows row_id }
-        ensures { result ≡ holds self.now.rows row_id }
+    pub(crate) fn rank_and_contains(&self, row_id: RowId) -> (RowId, bool)
+        ensures rank { result.0 ≡ rank self.now.rows row_id }
+        ensures held { result.1 ≡ holds self.now.rows row_id }
     {
         if self.bits.reaches(row_id) {
-            return self.bits.holds(row_id);
+            return (self.bits.rank(row_id), self.bits.holds(row_id));
         }
-        match &self.held {
-            HeldRows::Listed(rows) => rows.holds_at(at, row_id),
-            HeldRows::InRuns(runs) => runs.contains(row_id),
-        }
-    }
-
-    // Whether a row has a value, by the list or the runs.
-    #[inline(always)]
-    fn held_contains(&self, row_id: RowId) -> bool
-        ensures { result ≡ holds self.now.rows row_id }
-    {
-        match &self.held {
-            HeldRows::Listed(rows) => rows.contains(row_id),
-            HeldRows::InRuns(runs) => runs.contains(row_id),
-        }
-    }
-
-    // How many rows before a row have a value, by the list or the runs.
-    #[inline(always)]
-    fn held_rank(&self, row_id: RowId) -> RowId
-        ensures { result ≡ rank self.now.rows row_id }
-    {
-        match &self.held {
-            HeldRows::Listed(rows) => rows.rank(row_id),
-            HeldRows::InRuns(runs) => runs.rank(row_id),
-        }
-    }
-
-    // The rank of a row that has a value, by the list or the runs.
-    #[inline(never)]
-    fn held_rank_if_exists(&self, row_id: RowId) -> Option<RowId>
-        ensures { result ≡ only_if (holds self.now.rows row_id) (rank self.now.rows row_id) }
-    {
-        match &self.held {
-            HeldRows::Listed(rows) => rows.rank_if_exists(row_id),
-            HeldRows::InRuns(runs) => runs.rank_if_exists(row_id),
-        }
+        self.held.rank_and_contains(row_id)
     }
 
     /// The row with a rank, by the run that the one before was found in.
@@ -364,26 +327,13 @@ impl OptionalIndex {
             return 0..0;
         }
         if !self.bits.reaches(doc_id) {
-            return self.held_range(doc_id);
+            return self.held.range(doc_id);
         }
         let rank = self.bits.rank(doc_id);
         if self.bits.holds(doc_id) {
             rank..rank + 1
         } else {
             rank..rank
-        }
-    }
-
-    // The same by the list or the runs.
-    #[inline(always)]
-    fn held_range(&self, doc_id: DocId) -> Range<RowId>
-        requires { doc_id < self.now.num_rows }
-        ensures start { result.start ≡ (index_range (set_counts self.now) doc_id).0 }
-        ensures end { result.end ≡ (index_range (set_counts self.now) doc_id).1 }
-    {
-        match &self.held {
-            HeldRows::Listed(rows) => rows.range(doc_id),
-            HeldRows::InRuns(runs) => runs.range(doc_id),
         }
     }
 

@@ -2,7 +2,6 @@
 ghost use Rattle.std.specs.Prelude.{◌≡◌, ◌≤◌, ◌<◌, ◌*◌, ◌/◌, ◌^◌, true, nat_lt, [], length, replicate};
 ghost use Rattle.std.specs.Prelude.{IfOk, List, ℕ};
 ghost use Rattle.col_common.specs.Decoding.{Decodes};
-ghost use Rattle.col_common.specs.Reading.{only_if};
 ghost use Rattle.col_common.specs.Flags.{flag_at};
 ghost use Rattle.col_common.specs.Ascending.{is_rising};
 ghost use Rattle.col_numbers.specs.Readers.{list_of};
@@ -97,22 +96,6 @@ impl RankWords {
         ensures { result ≡ flag_at self.now.words.items row }
     {
         (self.words[(row / WORD_BITS) as usize] >> (row % WORD_BITS)) & 1 == 1
-    }
-
-    /// The rank of a row that has a value.
-    #[inline(always)]
-    pub fn rank_if_exists(&self, row: RowId) -> Option<RowId>
-        requires long { length self.now.before.items ≡ length self.now.words.items }
-        requires row { row < 64 * length self.now.words.items }
-        requires fits { ones_below self.now.words.items self.now.before.items row < 2 ^ 32 }
-        ensures { result ≡ only_if (flag_at self.now.words.items row)
-            (ones_below self.now.words.items self.now.before.items row) }
-    {
-        let rank = self.rank(row);
-        if self.holds(row) {
-            return Some(rank);
-        }
-        None
     }
 }
 

@@ -168,6 +168,16 @@ impl RowRuns {
         run.before + (row_id - run.start).min(run.len)
     }
 
+    /// How many rows before a row have a value, and whether it has one itself.
+    #[inline(always)]
+    pub(crate) fn rank_and_contains(&self, row_id: RowId) -> (RowId, bool)
+        ensures rank { result.0 ≡ rank self.now.rows row_id }
+        ensures held { result.1 ≡ holds self.now.rows row_id }
+    {
+        let bound = self.rank_bound(row_id);
+        (bound.rank.min(bound.upto), bound.rank < bound.upto)
+    }
+
     /// The rank of a row that has a value.
     #[inline(always)]
     pub(crate) fn rank_if_exists(&self, row_id: RowId) -> Option<RowId>

@@ -2,7 +2,7 @@ use Rattle.std.proofs.Common.{◌≡◌, ◌+◌, length, sym, ◌∙◌, arith}
 use Rattle.std.proofs.lemmas.Option.{get_or_from_slice_get}
 use Rattle.col_numbers.specs.Readers.{list_of}
 use Rattle.col_index.proofs.StartLemmas.{rises-first, rises-fallen, rises-large, rises-more}
-use Rattle.col_index.proofs.multivalued_index_v2.are_starts.Goals as goal
+use Rattle.col_index.proofs.start_offsets.are_starts.Goals as goal
 
 pub loop-at-init : goal.loop-at-init
 loop-at-init c =

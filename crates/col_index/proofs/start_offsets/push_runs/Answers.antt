@@ -1,7 +1,7 @@
 use Rattle.std.proofs.Common.{◌++◌, ap}
 use Rattle.col_index.proofs.StartLemmas.{offsets-zeroth}
 use Rattle.col_index.proofs.RunLemmas.{runs-none, pushed, rows-with, starts-with}
-use Rattle.col_index.proofs.multivalued_index_v2.push_runs.Goals as goal
+use Rattle.col_index.proofs.start_offsets.push_runs.Goals as goal
 
 pub loop-row-init : goal.loop-row-init
 loop-row-init c =

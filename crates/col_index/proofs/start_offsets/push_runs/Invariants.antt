@@ -2,7 +2,7 @@ use Rattle.std.proofs.Common.{◌≡◌, ◌++◌}
 use Rattle.col_common.specs.Ascending.{differences}
 use Rattle.col_model.specs.Positions.{rows_with_value, starts_of}
 use Rattle.col_index.proofs.RunLemmas.{rows_left, starts_left}
-use Rattle.col_index.proofs.multivalued_index_v2.push_runs.Given as goal
+use Rattle.col_index.proofs.start_offsets.push_runs.Given as goal
 
 abbrev pub invariant-loop-row : goal.invariant-loop-row
 invariant-loop-row l = record {

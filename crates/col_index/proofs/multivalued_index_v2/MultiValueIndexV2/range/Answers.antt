@@ -22,40 +22,40 @@ pub range_at-requires : goal.range_at-requires
 range_at-requires c =
     let o = c.args.self.now in
     let a : AreOffsets o = search rules in
-    let r : c.rank-rank.result ≡ rank o.set.rows c.args.doc_id = search rules in
+    let r : c.rank_and_contains-rank.result.0 ≡ rank o.set.rows c.args.doc_id = search rules in
     let held : holds o.set.rows c.args.doc_id ≡ true = search rules in
-    held-inside o a c.args.doc_id c.rank-rank.result r held
+    held-inside o a c.args.doc_id c.rank_and_contains-rank.result.0 r held
 
-pub returns-then-holds_at-clause-start : goal.returns-then-holds_at-clause-start
-returns-then-holds_at-clause-start c =
+pub returns-then-held-clause-start : goal.returns-then-held-clause-start
+returns-then-held-clause-start c =
     let o = c.args.self.now in
     let a : AreOffsets o = search rules in
     let h : c.args.doc_id < o.set.num_rows = search rules in
-    let r : c.rank-rank.result ≡ rank o.set.rows c.args.doc_id = search rules in
-    range-start o a c.args.doc_id h c.rank-rank.result c.range_at.result.start r c.range_at.ensures.start
+    let r : c.rank_and_contains-rank.result.0 ≡ rank o.set.rows c.args.doc_id = search rules in
+    range-start o a c.args.doc_id h c.rank_and_contains-rank.result.0 c.range_at.result.start r c.range_at.ensures.start
 
-pub returns-then-holds_at-clause-end : goal.returns-then-holds_at-clause-end
-returns-then-holds_at-clause-end c =
+pub returns-then-held-clause-end : goal.returns-then-held-clause-end
+returns-then-held-clause-end c =
     let o = c.args.self.now in
     let a : AreOffsets o = search rules in
     let h : c.args.doc_id < o.set.num_rows = search rules in
-    let r : c.rank-rank.result ≡ rank o.set.rows c.args.doc_id = search rules in
+    let r : c.rank_and_contains-rank.result.0 ≡ rank o.set.rows c.args.doc_id = search rules in
     let held : holds o.set.rows c.args.doc_id ≡ true = search rules in
-    range-end_held o a c.args.doc_id h c.rank-rank.result c.range_at.result.«end» r held c.range_at.ensures.«end»
+    range-end_held o a c.args.doc_id h c.rank_and_contains-rank.result.0 c.range_at.result.«end» r held c.range_at.ensures.«end»
 
 pub returns-clause-start : goal.returns-clause-start
 returns-clause-start c =
     let o = c.args.self.now in
     let a : AreOffsets o = search rules in
     let h : c.args.doc_id < o.set.num_rows = search rules in
-    let r : c.rank-rank.result ≡ rank o.set.rows c.args.doc_id = search rules in
-    range-start o a c.args.doc_id h c.rank-rank.result c.start_at-start.result r c.start_at-start.ensures
+    let r : c.rank_and_contains-rank.result.0 ≡ rank o.set.rows c.args.doc_id = search rules in
+    range-start o a c.args.doc_id h c.rank_and_contains-rank.result.0 c.start_at-start.result r c.start_at-start.ensures
 
 pub returns-clause-end : goal.returns-clause-end
 returns-clause-end c =
     let o = c.args.self.now in
     let a : AreOffsets o = search rules in
     let h : c.args.doc_id < o.set.num_rows = search rules in
-    let r : c.rank-rank.result ≡ rank o.set.rows c.args.doc_id = search rules in
+    let r : c.rank_and_contains-rank.result.0 ≡ rank o.set.rows c.args.doc_id = search rules in
     let free : holds o.set.rows c.args.doc_id ≡ false = search rules in
-    range-end_free o a c.args.doc_id h c.rank-rank.result c.start_at-start.result r free c.start_at-start.ensures
+    range-end_free o a c.args.doc_id h c.rank_and_contains-rank.result.0 c.start_at-start.result r free c.start_at-start.ensures
