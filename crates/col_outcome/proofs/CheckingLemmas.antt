@@ -10,7 +10,7 @@ use Rattle.col_file.proofs.ReadLemmas.{rose-later}
 use Rattle.col_model.specs.Check.{check_report}
 use Rattle.col_model.specs.File.{Part, part_column, parts_of}
 use Rattle.col_model.specs.Keys.{FileKeys, keys}
-use Rattle.col_outcome.specs.Checking.{Report, ChecksFile, check_reads}
+use Rattle.col_outcome.specs.Checking.{Report, ChecksFile, whole_reads}
 use Rattle.col_outcome.proofs.PartLemmas.{keeps-read, keeps-then}
 
 -- ---- a file that isn't opened
@@ -28,14 +28,14 @@ refuses-parts old new InvalidData h = parts-none old.told h
 refuses-parts old new ReadFault h = h
 refuses-parts old new _ h = absurd h
 
--- a check takes two reads at least
-two-reads : (o : Option Part) → 2 ≤ check_reads o
+-- all of a file takes two reads at least
+two-reads : (o : Option Part) → 2 ≤ whole_reads o
 two-reads None = omega arith
 two-reads (Some p) = omega arith
 
 -- so two reads are no more than it takes
-reads-unopened : (told : Option (List ℕ)) (before after : ℕ) → after ≤ before + 2
-    → IfSome told (λ bytes. after ≤ before + check_reads (parts_of bytes))
+pub reads-unopened : (told : Option (List ℕ)) (before after : ℕ) → after ≤ before + 2
+    → IfSome told (λ bytes. after ≤ before + whole_reads (parts_of bytes))
 reads-unopened None before after h = tt
 reads-unopened (Some bytes) before after h = omega (arith, h, two-reads (parts_of bytes))
 
@@ -51,14 +51,14 @@ checks-unopened old new e h = record {
 -- ---- a file that is opened
 
 -- a file with a key table has a part with as many columns as there are entries
-takes-entries : (bytes : List ℕ) (k : FileKeys) → keys bytes ≡ Some k → check_reads (parts_of bytes) ≡ 2 + length k.entries
+takes-entries : (bytes : List ℕ) (k : FileKeys) → keys bytes ≡ Some k → whole_reads (parts_of bytes) ≡ 2 + length k.entries
 unfolding parts_of
 takes-entries bytes k h = rw h (ap (λ n. 2 + n) (length-map k.entries (part_column bytes k)))
 
--- two reads, and one each of its entries, are no more than a check takes
-reads-opened : (told : Option (List ℕ)) (k : FileKeys) (before between after : ℕ)
+-- two reads, and one each of its entries, are no more than all of a file takes
+pub reads-opened : (told : Option (List ℕ)) (k : FileKeys) (before between after : ℕ)
     → IfSome told (λ bytes. keys bytes ≡ Some k) → between ≤ before + 2 → after ≤ between + length k.entries
-    → IfSome told (λ bytes. after ≤ before + check_reads (parts_of bytes))
+    → IfSome told (λ bytes. after ≤ before + whole_reads (parts_of bytes))
 reads-opened None k before between after h opened read = tt
 reads-opened (Some bytes) k before between after h opened read = omega (arith, takes-entries bytes k h, opened, read)
 

@@ -6,7 +6,7 @@ use Rattle.col_common.specs.Reading.{◌>>=◌}
 use Rattle.col_common.specs.declared.error.ColumnarError.{ColumnarError}
 use Rattle.col_common.specs.declared.error.ColumnarError.TheVariants.{OutOfMemory, ReadFault, WriteFault, InvalidData}
 use Rattle.col_file.specs.Files.{ReadsFile, RefusesFile, AnswersForHandle, IsExpected}
-use Rattle.col_file.specs.Readers.{SeenReader, Reads}
+use Rattle.col_file.specs.Readers.{SeenReader}
 use Rattle.col_model.specs.File.{StandsFor, parts_of, table_of, table_of_part}
 use Rattle.col_model.specs.Keys.{keys}
 use Rattle.col_model.specs.Report.{report_of}
@@ -14,7 +14,7 @@ use Rattle.col_model.specs.Table.{Table}
 use Rattle.col_outcome.specs.Making.{IsMade}
 use Rattle.col_outcome.specs.Upgrading.{UpgradesOne}
 use Rattle.col_outcome.specs.declared.merging.FileAndReport.{FileAndReport}
-use Rattle.col_outcome.proofs.CheckingLemmas.{answers-opened, parts-none}
+use Rattle.col_outcome.proofs.CheckingLemmas.{answers-opened, parts-none, reads-opened, reads-unopened}
 use Rattle.col_outcome.proofs.MergedFileLemmas.{unfaulted}
 use Rattle.col_outcome.proofs.PartLemmas.{keeps-read, keeps-then}
 use Rattle.col_upgrade.specs.Upgrades.{AddsTable, UpgradesFile}
@@ -36,27 +36,24 @@ refuses-table old new _ h = absurd h
 -- a file that wasn't opened
 pub upgrades-unopened : (old new : SeenFile) (e : ColumnarError) → RefusesFile old new e keys × ReadsFile 2 old new
     → UpgradesOne old new (Err e)
-upgrades-unopened old new e h = record { answer = refuses-table old new e h.0; kept = keeps-read 2 old new h.1 }
+upgrades-unopened old new e h = record {
+  answer = refuses-table old new e h.0;
+  kept = keeps-read 2 old new h.1;
+  reads = reads-unopened old.told old.reads new.reads h.1.reads;
+}
 
 -- ---- a file that is opened
 
 -- a file that was opened
 pub upgrades-opened : (old : SeenFile) (r : SeenReader) (new : SeenFile) (result : Result FileAndReport ColumnarError)
-    → IfSome old.told (λ bytes. keys bytes ≡ Some r.keys) × ReadsFile 2 old r.file → UpgradesOne r.file new result
-    → UpgradesOne old new result
-upgrades-opened old r new result opened behind = record {
-  answer = answers-opened (IsMade true []) table_of old r.file new result opened.1 behind.answer;
-  kept = keeps-then old r.file new (keeps-read 2 old r.file opened.1) behind.kept;
+    → IfSome old.told (λ bytes. keys bytes ≡ Some r.keys) × ReadsFile 2 old r.file
+    → AnswersForHandle (IsMade true []) r.file new result table_of
+    → ReadsFile (length r.keys.entries) r.file new → UpgradesOne old new result
+upgrades-opened old r new result opened answer reads = record {
+  answer = answers-opened (IsMade true []) table_of old r.file new result opened.1 answer;
+  kept = keeps-then old r.file new (keeps-read 2 old r.file opened.1) (keeps-read (length r.keys.entries) r.file new reads);
+  reads = reads-opened old.told r.keys old.reads r.file.reads new.reads opened.0 opened.1.reads reads.reads;
 }
-
--- the reader of a file that was written again hands it back
-pub upgrades-handed : (old new : SeenReader) (file : SeenFile) (result : Result FileAndReport ColumnarError) → file ≡ new.file
-    → AnswersForHandle (IsMade true []) old.file new.file result table_of → Reads (length old.keys.entries) old new
-    → UpgradesOne old.file file result
-upgrades-handed old new file result same answer reads = subst (λ f. UpgradesOne old.file f result) (sym same) (record {
-  answer = answer;
-  kept = keeps-read (length old.keys.entries) old.file new.file reads.file;
-})
 
 -- ---- the file that is made
 

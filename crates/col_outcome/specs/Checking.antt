@@ -13,22 +13,22 @@ use Rattle.col_outcome.specs.Parts.{KeepsFile}
 abbrev pub Report : Type 0
 Report = Result (Vec ℕ Global) ColumnarError
 
--- how many reads a check takes: two find the end of the file, and one each of its entries
-abbrev pub check_reads : Option Part → ℕ
-check_reads None = 2
-check_reads (Some p) = 2 + length p.columns
+-- how many reads all of a file takes: two find its end, and one each of its entries
+abbrev pub whole_reads : Option Part → ℕ
+whole_reads None = 2
+whole_reads (Some p) = 2 + length p.columns
 
--- a file was read no more often than a check of it takes
-abbrev pub IsReadForCheck : SeenFile → SeenFile → Type 0
-IsReadForCheck old new =
-    IfSome old.told (λ bytes. new.reads ≤ old.reads + check_reads (parts_of bytes))
+-- a file was read no more often than reading it once takes
+abbrev pub IsReadOnce : SeenFile → SeenFile → Type 0
+IsReadOnce old new =
+    IfSome old.told (λ bytes. new.reads ≤ old.reads + whole_reads (parts_of bytes))
 
 -- The report is that of a check of the file, which is kept. InvalidData says that its bytes have no
 -- key table.
 pub record ChecksFile (old new : SeenFile) (result : Report) : Type 0 where
   pub answer : AnswersForHandle (λ p report. report.items ≡ check_report p) old new result parts_of
   pub kept : KeepsFile old new
-  pub reads : IsReadForCheck old new
+  pub reads : IsReadOnce old new
 
 -- The same of inputs of which there is one.
 pub record ChecksInput (olds news : List SeenFile) (result : Report) : Type 0 where

@@ -1,6 +1,6 @@
 //! A file that is written again, and the report on it.
 ghost use Rattle.std.specs.Prelude.{◌≡◌, [], true, length, map, vec_len};
-ghost use Rattle.col_file.specs.Files.{AnswersForHandle};
+ghost use Rattle.col_file.specs.Files.{AnswersForHandle, ReadsFile};
 ghost use Rattle.col_file.specs.Readers.{Reads};
 ghost use Rattle.col_model.specs.File.{table_of};
 ghost use Rattle.col_outcome.specs.Making.{IsMade};
@@ -45,7 +45,9 @@ fn upgrade_opened<H: FileHandle>(
     alloc: Global,
     reader: ColumnarReader<H>,
 ) -> (H, Result<FileAndReport, ColumnarError>)
-    ensures { UpgradesOne reader.file (H.seen result.0) result.1 }
+    ensures answer { AnswersForHandle (IsMade true []) reader.file (H.seen result.0) result.1
+        table_of }
+    ensures reads { ReadsFile (length reader.keys.entries) reader.file (H.seen result.0) }
 {
     let mut reader = reader;
     let made = made_again(alloc, &mut reader);

@@ -9,7 +9,7 @@ use Rattle.col_common.specs.declared.error.ColumnarError.{ColumnarError}
 use Rattle.col_model.specs.Check.{check_report}
 use Rattle.col_model.specs.File.{parts_of}
 use Rattle.col_model.specs.Outcome.{checked, outcome_of_check}
-use Rattle.col_outcome.specs.Checking.{Report, IsReadForCheck, ChecksInput}
+use Rattle.col_outcome.specs.Checking.{Report, IsReadOnce, ChecksInput}
 use Rattle.col_outcome.specs.Parts.{all_told, AllKeep, SomeFileRose}
 use Rattle.col_tool.specs.Answer.{Leaves, KeepsOutputs, Delivers}
 use Rattle.col_tool.proofs.InputLemmas.{IsOfInput, IsOfOne, input-delivered, input-refusal, input-refused, input-rose}
@@ -68,8 +68,8 @@ pub check-kept : (olds news : List SeenFile) (result : Report) → ChecksInput o
 check-kept olds news result c =
     subst (λ fs. AllKeep fs news) (sym c.before) (subst (λ fs. AllKeep (c.old ∷ []) fs) (sym c.behind) (c.checks.kept, tt))
 
--- it is read no more often than a check takes
-pub check-reads : (olds news : List SeenFile) (result : Report) → ChecksInput olds news result → AllZip IsReadForCheck olds news
+-- it is read once
+pub check-reads : (olds news : List SeenFile) (result : Report) → ChecksInput olds news result → AllZip IsReadOnce olds news
 check-reads olds news result c =
-    subst (λ fs. AllZip IsReadForCheck fs news) (sym c.before)
-    (subst (λ fs. AllZip IsReadForCheck (c.old ∷ []) fs) (sym c.behind) (c.checks.reads, tt))
+    subst (λ fs. AllZip IsReadOnce fs news) (sym c.before)
+    (subst (λ fs. AllZip IsReadOnce (c.old ∷ []) fs) (sym c.behind) (c.checks.reads, tt))

@@ -1,9 +1,11 @@
 -- What the answer to an upgrade leaves.
 use Rattle.std.proofs.Common.{◌≡◌, ℕ, List, [], ◌∷◌, Result, Ok, Err, IfSome, true, refl, sym, subst}
+use Rattle.std.specs.List.{AllZip}
 use Rattle.col_common.specs.Outside.{SeenFile, SeenSink}
 use Rattle.col_common.specs.Refused.{code_of}
 use Rattle.col_common.specs.declared.error.ColumnarError.{ColumnarError}
 use Rattle.col_model.specs.File.{table_of}
+use Rattle.col_outcome.specs.Checking.{IsReadOnce}
 use Rattle.col_outcome.specs.Making.{IsMade}
 use Rattle.col_outcome.specs.Parts.{all_told, AllKeep, SomeFileRose}
 use Rattle.col_outcome.specs.Upgrading.{UpgradesInput}
@@ -44,3 +46,10 @@ pub upgrade-kept : (olds news : List SeenFile) (result : Result FileAndReport Co
     → AllKeep olds news
 upgrade-kept olds news result u =
     subst (λ fs. AllKeep fs news) (sym u.before) (subst (λ fs. AllKeep (u.old ∷ []) fs) (sym u.behind) (u.upgrades.kept, tt))
+
+-- it is read once
+pub upgrade-reads : (olds news : List SeenFile) (result : Result FileAndReport ColumnarError) → UpgradesInput olds news result
+    → AllZip IsReadOnce olds news
+upgrade-reads olds news result u =
+    subst (λ fs. AllZip IsReadOnce fs news) (sym u.before)
+    (subst (λ fs. AllZip IsReadOnce (u.old ∷ []) fs) (sym u.behind) (u.upgrades.reads, tt))

@@ -4,7 +4,7 @@ use Rattle.col_tool.proofs.AnswerLemmas.{delivered-other}
 use Rattle.col_tool.proofs.CheckLemmas.{keeps-none}
 use Rattle.col_tool.proofs.InputLemmas.{refusal-checks, refusal-unwritten}
 use Rattle.col_tool.proofs.RefusedLemmas.{delivered-checks}
-use Rattle.col_tool.proofs.UpgradeLemmas.{upgrade-delivered, upgrade-refusal, upgrade-refused, upgrade-rose, upgrade-kept}
+use Rattle.col_tool.proofs.UpgradeLemmas.{upgrade-delivered, upgrade-refusal, upgrade-refused, upgrade-rose, upgrade-kept, upgrade-reads}
 use Rattle.col_tool.proofs.run.answer_of_upgrade.Goals as goal
 
 pub returns-in_err-made-clause-leaves : goal.returns-in_err-made-clause-leaves
@@ -44,3 +44,9 @@ returns-clause-among g c = delivered-checks _ c.deliver.ensures.delivers.among
 
 pub returns-clause-handles : goal.returns-clause-handles
 returns-clause-handles g c = upgrade-kept _ _ _ c.in_ok-made.ensures
+
+pub returns-in_err-made-clause-reads : goal.returns-in_err-made-clause-reads
+returns-in_err-made-clause-reads g c = upgrade-reads _ _ _ c.in_err-made.ensures
+
+pub returns-clause-reads : goal.returns-clause-reads
+returns-clause-reads g c = upgrade-reads _ _ _ c.in_ok-made.ensures
