@@ -8,6 +8,7 @@ pub mod column_index;
 pub mod column_values;
 pub mod columns;
 pub mod dictionaries;
+pub mod facets;
 pub mod files;
 pub mod merging;
 pub mod outside;

@@ -1,0 +1,10 @@
+pub mod OrderLemmas
+pub mod TotalLemmas
+pub mod MergeLemmas
+pub mod SortLemmas
+pub mod TopLemmas
+pub mod RunLemmas
+pub mod TableLemmas
+pub mod DocLemmas
+pub mod FacetLemmas
+pub mod CountingLemmas

@@ -1,0 +1,78 @@
+-- Facets: how often cells stand.
+use Rattle.std.specs.Prelude.{◌≡◌, ℕ, ◌^◌, nat_lt, not, Bool, false, List, map, flat_map, nat_abs, take, count_by, if◌then◌else◌}
+use Rattle.std.specs.List.{list_all, sum_by}
+use Rattle.std.specs.Ordering.{eq_by_cmp, is_lt, is_gt, nat_cmp, ordering_then}
+use Rattle.std.specs.declared.cmp.Ordering.{Ordering}
+use Rattle.col_common.specs.Ascending.{all_adjacent}
+use Rattle.col_common.specs.declared.error.ColumnarError.{ColumnarError}
+use Rattle.col_common.specs.declared.error.ColumnarError.TheVariants.{OutOfMemory, TooLarge}
+use Rattle.col_model.specs.ColumnType.{ColumnType, same_type}
+use Rattle.col_model.specs.ColumnType as types
+use Rattle.col_model.specs.Lookup.{row_of}
+use Rattle.col_model.specs.Sorted.{distinct_items, sorted_items}
+use Rattle.col_model.specs.Table.{Cell, number, text, Content}
+use Rattle.col_facet.specs.Cells.{cell_cmp}
+use Rattle.col_facet.specs.declared.facet_cell.FacetCell.{FacetCell}
+use Rattle.col_facet.specs.declared.facet_cell.FacetCell.TheVariants.{Num, Addr, Term}
+use Rattle.col_facet.specs.declared.facet_cell.FacetCount.{FacetCount}
+
+-- the cells are one
+abbrev pub same_cell : FacetCell → FacetCell → Bool
+same_cell a b = eq_by_cmp cell_cmp a b
+
+-- the cells of counts
+abbrev pub counted_cells : List FacetCount → List FacetCell
+counted_cells fs = map (λ f. f.cell) fs
+
+-- the counts of a cell, summed
+abbrev pub summed_count : List FacetCount → FacetCell → ℕ
+summed_count fs c = sum_by (λ f. if same_cell c f.cell then f.count else 0) fs
+
+-- each cell once, ascending, with its counts summed
+unfoldable pub totals_of : List FacetCount → List FacetCount
+totals_of fs = map (λ c. record { cell = c; count = summed_count fs c })
+    (distinct_items cell_cmp (counted_cells fs))
+
+-- how often a cell stands in a list
+abbrev pub copies : List FacetCell → FacetCell → ℕ
+copies cells c = count_by (λ d. same_cell c d) cells
+
+-- each cell of a list once, ascending, with how often it stands there
+unfoldable pub facets_of : List FacetCell → List FacetCount
+facets_of cells = map (λ c. record { cell = c; count = copies cells c })
+    (distinct_items cell_cmp cells)
+
+-- the cell of facets that a cell of a column of this type is
+abbrev pub facet_cell : ColumnType → Cell → FacetCell
+facet_cell t (text b) = Term b
+facet_cell t (number z) = if same_type t types.ip then Addr (nat_abs z) else Num z
+
+-- the cells in the rows of documents, one row behind another
+abbrev pub cells_at : Content → List ℕ → List Cell
+cells_at content docs = flat_map (row_of content) docs
+
+-- how often the cells of a column stand in the rows of documents
+abbrev pub facets_at : ColumnType → Content → List ℕ → List FacetCount
+facets_at t content docs = facets_of (map (facet_cell t) (cells_at content docs))
+
+-- 64 bits count each cell
+abbrev pub are_counted : List FacetCount → Bool
+are_counted fs = list_all (λ f. nat_lt f.count (2 ^ 64)) fs
+
+-- each cell stands before the next
+abbrev pub are_ascending : List FacetCount → Bool
+are_ascending fs = all_adjacent (λ f g. is_lt (cell_cmp f.cell g.cell)) fs
+
+-- why there are no such sums: 64 bits don't count each, or memory is wanting
+abbrev pub RefusesSums : ColumnarError → List FacetCount → Type 0
+RefusesSums OutOfMemory sums = Unit {0}
+RefusesSums TooLarge sums = are_counted sums ≡ false
+RefusesSums _ sums = ⊥
+
+-- by falling count, then by cell
+abbrev pub rank_cmp : FacetCount → FacetCount → Ordering
+rank_cmp f g = ordering_then (nat_cmp g.count f.count) (cell_cmp f.cell g.cell)
+
+-- the first so many by falling count, then by cell
+unfoldable pub top_of : ℕ → List FacetCount → List FacetCount
+top_of k fs = take k (sorted_items (λ f g. not (is_gt (rank_cmp f g))) fs)

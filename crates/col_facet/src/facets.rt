@@ -1,0 +1,110 @@
+//! Facets of columns.
+ghost use Rattle.std.specs.Prelude.{◌≡◌, pos, true, length, map, IfOk};
+ghost use Rattle.col_common.specs.Ascending.{AreBelow, is_rising};
+ghost use Rattle.col_column.specs.Columns.{rows_of_values, num_docs_in};
+ghost use Rattle.col_dynamic.specs.Dynamic.{type_of, content_of};
+ghost use Rattle.col_model.specs.Codes.{bool_code};
+ghost use Rattle.col_numbers.specs.NumValues.{num_values_of};
+ghost use Rattle.col_facet.specs.Facets.{facets_of, facets_at, are_ascending};
+ghost use Rattle.col_facet.specs.Tables.{term_at, flag_cell};
+ghost use Rattle.col_facet.specs.Values.{values_in_rows};
+
+use crate::blocks::values_of_docs;
+use crate::counting::counts_of_docs;
+use crate::facet_cell::FacetCount;
+use crate::facet_value::FacetValue;
+use crate::runs::facets_of_values;
+use crate::table::counted_facets;
+use col_column::{Column, NumColumn};
+use col_common::{DocId, RowId};
+use col_dynamic::DynamicColumn;
+use col_text::BytesColumn;
+use col_values::ColumnValues;
+use std::alloc::{AllocError, Global};
+
+/// How often each cell stands in the rows of documents that ascend: those that do, ascending.
+pub fn facet(
+    alloc: Global,
+    column: &DynamicColumn,
+    docs: &[DocId],
+) -> Result<Vec<FacetCount>, AllocError>
+    requires rising { is_rising docs.now ≡ true }
+    requires below { AreBelow (length (content_of column.now).rows) docs.now }
+    ensures ok { IfOk result (λ facets. facets.items
+        ≡ facets_at (type_of column.now) (content_of column.now) docs.now) }
+    ensures ascending { IfOk result (λ facets. are_ascending facets.items ≡ true) }
+{
+    match column {
+        DynamicColumn::Bool(column) => flag_facets(alloc, column, docs),
+        DynamicColumn::I64(column) => value_facets(alloc, column, docs),
+        DynamicColumn::U64(column) => value_facets(alloc, column, docs),
+        DynamicColumn::IpAddr(column) => value_facets(alloc, column, docs),
+        DynamicColumn::DateTime(column) => value_facets(alloc, column, docs),
+        DynamicColumn::Bytes(column) => term_facets(alloc, column, docs),
+        DynamicColumn::Str(column) => term_facets(alloc, column.bytes_column(), docs),
+    }
+}
+
+/// How many rows a column has, below which documents of a facet are.
+pub fn num_rows(column: &DynamicColumn) -> RowId
+    ensures { result ≡ length (content_of column.now).rows }
+{
+    match column {
+        DynamicColumn::Bool(column) => column.num_docs(),
+        DynamicColumn::I64(column) => column.num_docs(),
+        DynamicColumn::U64(column) => column.num_docs(),
+        DynamicColumn::IpAddr(column) => column.num_docs(),
+        DynamicColumn::DateTime(column) => column.num_docs(),
+        DynamicColumn::Bytes(column) => column.num_rows(),
+        DynamicColumn::Str(column) => column.bytes_column().num_rows(),
+    }
+}
+
+// Those of values, which are sorted.
+fn value_facets<T, V>(
+    alloc: Global,
+    column: &Column<T, V>,
+    docs: &[DocId],
+) -> Result<Vec<FacetCount>, AllocError>
+where
+    T: FacetValue,
+    V: ColumnValues<T>,
+    requires rising { is_rising docs.now ≡ true }
+    requires below { AreBelow (num_docs_in V.values column.now) docs.now }
+    ensures { IfOk result (λ facets. facets.items ≡ facets_of
+        (map T.cell (values_in_rows (rows_of_values V.values column.now) docs.now))) }
+{
+    let values = values_of_docs(alloc, column, docs)?;
+    facets_of_values(alloc, values)
+}
+
+// Those of flags, by a table of two counts.
+fn flag_facets(
+    alloc: Global,
+    column: &NumColumn<bool>,
+    docs: &[DocId],
+) -> Result<Vec<FacetCount>, AllocError>
+    requires rising { is_rising docs.now ≡ true }
+    requires below { AreBelow (num_docs_in num_values_of column.now) docs.now }
+    ensures { IfOk result (λ facets. facets.items ≡ facets_of
+        (map flag_cell (values_in_rows (rows_of_values num_values_of column.now) docs.now))) }
+{
+    let counts = counts_of_docs(alloc, column, docs, 0, 2)?;
+    counted_facets(alloc, &0u64, counts.as_slice())
+}
+
+// Those of terms, by a table of the counts of all ordinals.
+fn term_facets(
+    alloc: Global,
+    column: &BytesColumn,
+    docs: &[DocId],
+) -> Result<Vec<FacetCount>, AllocError>
+    requires rising { is_rising docs.now ≡ true }
+    requires below { AreBelow (num_docs_in num_values_of column.now.ords) docs.now }
+    ensures { IfOk result (λ facets. facets.items ≡ facets_of (map (term_at column.now.terms)
+        (values_in_rows (rows_of_values num_values_of column.now.ords) docs.now))) }
+{
+    column.ordinals_are_told();
+    let counts = counts_of_docs(alloc, column.ords(), docs, 0, column.num_terms())?;
+    counted_facets(alloc, column.dictionary(), counts.as_slice())
+}

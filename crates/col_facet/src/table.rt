@@ -1,0 +1,71 @@
+//! Tables of counts.
+ghost use Rattle.std.specs.Prelude.{◌≡◌, ◌+◌, ◌<◌, ◌^◌, ◌==◌, ℕ, length, slice_index, count_by, [], ◌∷◌, ◌++◌, IfOk, OnOk, if◌then◌else◌};
+ghost use Rattle.col_facet.specs.Tables.{counted_from};
+
+use crate::facet_cell::FacetCount;
+use crate::place_cells::PlaceCells;
+use col_values::MonotonicallyMappableToU64;
+use std::alloc::{AllocError, Global};
+
+/// Counts values by their numbers, those from a base on, each at its place.
+pub(crate) fn tally<T: MonotonicallyMappableToU64>(values: &[T], base: u64, counts: &mut [u64])
+    requires { (i : ℕ) → slice_index counts.old i + length values.now < 2 ^ 64 }
+    ensures { (i : ℕ) → i < length counts.old → slice_index counts.new i
+        ≡ slice_index counts.old i + count_by (λ x. T.code x == base + i) values.now }
+{
+    for value in values {
+        count_number(value.to_u64(), base, counts);
+    }
+}
+
+// Counts a number, where it is one of those from a base on.
+#[inline(always)]
+fn count_number(number: u64, base: u64, counts: &mut [u64])
+    requires { (i : ℕ) → slice_index counts.old i + 1 < 2 ^ 64 }
+    ensures { (i : ℕ) → i < length counts.old → slice_index counts.new i
+        ≡ slice_index counts.old i + (if number == base + i then 1 else 0) }
+{
+    let Some(place) = number.checked_sub(base) else {
+        return;
+    };
+    if place >= counts.len() as u64 {
+        return;
+    }
+    counts[place as usize] += 1;
+}
+
+/// How often the cells of places stand, where they do, by a table of counts.
+pub(crate) fn counted_facets<P: PlaceCells>(
+    alloc: Global,
+    places: &P,
+    counts: &[u64],
+) -> Result<Vec<FacetCount>, AllocError>
+    ensures { IfOk result (λ facets. facets.items
+        ≡ counted_from (P.cells places.now) 0 counts.now) }
+{
+    let mut facets = Vec::new(alloc);
+    for (place, count) in counts.iter().enumerate() {
+        push_counted(alloc, places, place as u64, *count, &mut facets)?;
+    }
+    Ok(facets)
+}
+
+// Adds the cell of a place with its count, where that isn't 0.
+fn push_counted<P: PlaceCells>(
+    alloc: Global,
+    places: &P,
+    place: u64,
+    count: u64,
+    facets: &mut Vec<FacetCount>,
+) -> Result<(), AllocError>
+    ensures { OnOk result (facets.new.items ≡ facets.old.items
+        ++ (if count == 0 then [] else
+        record { cell = P.cells places.now place; count = count } ∷ [])) }
+{
+    if count == 0 {
+        return Ok(());
+    }
+    let cell = places.cell_at(alloc, place)?;
+    facets.push(FacetCount { cell, count })?;
+    Ok(())
+}
