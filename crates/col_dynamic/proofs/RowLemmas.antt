@@ -1,5 +1,5 @@
 -- The rows of a column of any type.
-use Rattle.std.proofs.Common.{◌≡◌, ◌∙◌, List, map, length}
+use Rattle.std.proofs.Common.{◌≡◌, ℕ, ◌∙◌, sym, ap, List, map, length}
 use Rattle.std.proofs.lemmas.List.{length-map}
 use Rattle.col_model.specs.Index.{Shape}
 use Rattle.col_model.specs.Table.{Cell, number}
@@ -26,3 +26,8 @@ seen-rows (columns.IpAddr c) = cell-rows unsigned_cell c.shape (ip_values_of c.v
 seen-rows (columns.DateTime c) = cell-rows number c.shape (num_values_of c.values)
 seen-rows (columns.Bytes c) = cell-rows (term_cell c.terms) c.ords.shape (num_values_of c.ords.values)
 seen-rows (columns.Str c) = cell-rows (term_cell c.terms) c.ords.shape (num_values_of c.ords.values)
+
+-- how many rows a column has that is this one
+pub rows-counted : (c d : DynamicColumn) → c ≡ d → (n : ℕ) → n ≡ row_count (dynamic_shape d) (value_count d)
+    → n ≡ length (content_of c).rows
+rows-counted c d e n is = is ∙ sym (seen-rows d) ∙ sym (ap (λ x. length (content_of x).rows) e)

@@ -14,7 +14,7 @@ ghost use Rattle.col_dynamic.specs.declared.dynamic_column.DynamicColumn.TheVari
 ghost use Rattle.col_dynamic.specs.Dynamic.{type_of, content_of, dynamic_shape, value_count, fits_type};
 
 use col_column::{Column, IpColumn, NumColumn};
-use col_common::DateTime;
+use col_common::{DateTime, RowId};
 use col_index::{Cardinality, ColumnIndex};
 use col_numbers::{NumValues, coerce_to_i64, coerce_to_u64};
 use col_text::{BytesColumn, StrColumn};
@@ -83,6 +83,21 @@ impl DynamicColumn {
             DynamicColumn::DateTime(column) => column.values().num_vals(),
             DynamicColumn::Bytes(column) => column.ords().values().num_vals(),
             DynamicColumn::Str(column) => column.bytes_column().ords().values().num_vals(),
+        }
+    }
+
+    /// How many documents it has a row for.
+    pub fn num_docs(&self) -> RowId
+        ensures { result ≡ length (content_of self.now).rows }
+    {
+        match self {
+            DynamicColumn::Bool(column) => column.num_docs(),
+            DynamicColumn::I64(column) => column.num_docs(),
+            DynamicColumn::U64(column) => column.num_docs(),
+            DynamicColumn::IpAddr(column) => column.num_docs(),
+            DynamicColumn::DateTime(column) => column.num_docs(),
+            DynamicColumn::Bytes(column) => column.num_rows(),
+            DynamicColumn::Str(column) => column.bytes_column().num_rows(),
         }
     }
 

@@ -15,9 +15,9 @@ pub use col_numbers::{MapI64ToU64, MapU64ToI64};
 pub use col_text::{BytesColumn, StrColumn, open_column_bytes, open_column_str};
 pub use col_types::{
     Coerce, ColumnSpaceUsage, ColumnType, HasAssociatedColumnType, NumericalType, NumericalValue,
-    StoredAsU64, StoredAsU128, accepted_numbers_fit, byte_counts_compare_as_their_numbers,
-    cells_lie_between_as_values_do, column_types_compare_as_their_codes,
-    equal_numerical_types_hash_alike, stored_addresses_are_cells_of_their_column,
-    stored_numbers_are_cells_of_their_column,
+    StoredAsU64, StoredAsU128, TermBytes, accepted_numbers_fit,
+    byte_counts_compare_as_their_numbers, cells_lie_between_as_values_do,
+    column_types_compare_as_their_codes, equal_numerical_types_hash_alike,
+    stored_addresses_are_cells_of_their_column, stored_numbers_are_cells_of_their_column,
 };
 pub use dynamic_column::DynamicColumn;

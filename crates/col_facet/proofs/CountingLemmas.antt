@@ -1,5 +1,5 @@
 -- Counts of the values of documents, block by block.
-use Rattle.std.proofs.Common.{◌≡◌, ℕ, ◌+◌, ◌-◌, ◌^◌, ◌<◌, ◌≤◌, nat_lt, Bool, true, false, cond, List, [], ◌++◌, take, drop, length, get_or, refl, sym, ◌∙◌, ap, arith}
+use Rattle.std.proofs.Common.{◌≡◌, ℕ, zero, suc, ◌+◌, ◌-◌, ◌^◌, ◌<◌, ◌≤◌, nat_lt, Bool, true, false, cond, List, [], ◌∷◌, ◌++◌, take, drop, length, get_or, refl, sym, ◌∙◌, ap, arith}
 use Rattle.std.specs.List.{count_by}
 use Rattle.std.proofs.Math.ListN.{get_or-eq_default}
 use Rattle.std.proofs.lemmas.Bool.{ltb-true, ltb-false}
@@ -55,3 +55,32 @@ block-counted {T = T} test old new rows docs at next block order is told more i 
 -- what was added to a list that was emptied
 pub emptied : {T : Type 0} (block new old part : List T) → block ≡ new → new ≡ old ++ part → old ≡ [] → block ≡ part
 emptied block new old part e f g = e ∙ f ∙ ap (λ r. r ++ part) g
+
+-- ---- the same of a list of values, from its front
+
+-- counts of the values before a place leave room for those from there up to another
+pub part-fits : {T : Type 0} (test : ℕ → T → Bool) (counts : List ℕ) (xs : List T) (at next : ℕ) (block : List T)
+    → length xs < 2 ^ 32 → at ≤ next → block ≡ take (next - at) (drop at xs)
+    → ((i : ℕ) → i < length counts → get_or counts i 0 ≡ count_by (test i) (take at xs))
+    → (i : ℕ) → get_or counts i 0 + length block < 2 ^ 64
+part-fits test counts xs at next block few order is told =
+    let whole : take at xs ++ block ≡ take next xs = ap (λ ys. take at xs ++ ys) is ∙ take-next xs at next order in
+    let size : length (take at xs) + length block ≡ length (take next xs) =
+    sym (length-append (take at xs) block) ∙ ap length whole in
+    counted-fits test counts (take at xs) block told (omega (arith, size, few, length-take-most next xs))
+  where
+    length-take-most : {T : Type 0} (n : ℕ) (xs : List T) → length (take n xs) ≤ length xs
+    length-take-most zero xs = omega arith
+    length-take-most (suc n) [] = omega arith
+    length-take-most (suc n) (x ∷ xs) = let h = length-take-most n xs in omega (arith, h)
+
+-- counts with those of the values from there up to another
+pub part-counted : {T : Type 0} (test : ℕ → T → Bool) (old new : List ℕ) (xs : List T) (at next : ℕ) (block : List T)
+    → at ≤ next → block ≡ take (next - at) (drop at xs)
+    → ((i : ℕ) → i < length old → get_or old i 0 ≡ count_by (test i) (take at xs))
+    → ((i : ℕ) → i < length old → get_or new i 0 ≡ get_or old i 0 + count_by (test i) block)
+    → (i : ℕ) → i < length old → get_or new i 0 ≡ count_by (test i) (take next xs)
+part-counted {T = T} test old new xs at next block order is told more i h =
+    more i h ∙ ap (λ n. n + count_by (test i) block) (told i h)
+    ∙ sym (sum_by-append (λ (x : T). cond (test i x) 1 0) (take at xs) block)
+    ∙ ap (count_by (test i)) (ap (λ ys. take at xs ++ ys) is ∙ take-next xs at next order)

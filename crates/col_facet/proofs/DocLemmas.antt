@@ -1,10 +1,10 @@
 -- Values in the rows of documents, by their positions.
-use Rattle.std.proofs.Common.{◌≡◌, ℕ, zero, suc, ◌+◌, ◌-◌, ◌<◌, ◌≤◌, max, nat_lt, true, List, [], ◌∷◌, ◌++◌, map, take, drop, length, get_or, slice_get, unwrap_or, Some, refl, sym, ◌∙◌, ap, ap₂, subst, arith}
+use Rattle.std.proofs.Common.{◌≡◌, ℕ, zero, suc, ◌+◌, ◌-◌, ◌<◌, ◌≤◌, max, nat_lt, true, sum, List, [], ◌∷◌, ◌++◌, map, take, drop, length, get_or, slice_get, unwrap_or, Some, refl, sym, ◌∙◌, ap, ap₂, subst, arith}
 use Rattle.std.specs.Prelude.{flat_map, Result, Ok, Err, OnOk}
 use Rattle.std.specs.declared.alloc.AllocError.{AllocError}
 use Rattle.std.specs.List.{range_with_len, filter_map}
 use Rattle.std.proofs.lemmas.List.{get_or_default, map-append, map-id, length-append, length-drop, length-map, length-replicate, length-take-le, drop-drop}
-use Rattle.std.proofs.Math.Seq.{take-nil}
+use Rattle.std.proofs.Math.Seq.{take-nil, take-length}
 use Rattle.std.proofs.lemmas.Bool.{and_parts, and_from, ltb-true}
 use Rattle.std.proofs.lemmas.List.Concat.{flat_map-append}
 use Rattle.col_common.specs.Ascending.{AreBelow, is_rising}
@@ -17,7 +17,6 @@ use Rattle.col_column.specs.Columns.{rows_by, row_at, row_count, counts_by, IsCo
 use Rattle.col_column.proofs.RowLemmas.{length-cut, row_at-cut, row-empty, single, one, end-within, start-next, start-monotone, start-within}
 use Rattle.col_model.specs.Table.{Cell}
 use Rattle.col_model.specs.Lookup.{row_of}
-use Rattle.col_facet.specs.Facets.{cells_at}
 use Rattle.col_facet.specs.Values.{values_in_rows}
 use Rattle.col_facet.specs.declared.facet_cell.FacetCell.{FacetCell}
 
@@ -243,16 +242,38 @@ row-cells f (row ∷ rows) (suc d) = row-cells f rows d
 -- the cells in the rows of documents are those of the values there
 pub seen-cells : {T : Type 0} (terms : List (List ℕ)) (cell : T → Cell) (s : Shape) (xs : List T) (docs : List ℕ)
     (facet : Cell → FacetCell)
-    → map facet (cells_at (content_seen terms cell s xs) docs) ≡ map (λ x. facet (cell x)) (values_in_rows (rows_by s xs) docs)
+    → map facet (flat_map (row_of (content_seen terms cell s xs)) docs)
+    ≡ map (λ x. facet (cell x)) (values_in_rows (rows_by s xs) docs)
 unfolding values_in_rows
 seen-cells terms cell s xs [] facet = refl
 seen-cells terms cell s xs (d ∷ docs) facet =
     let rows = rows_by s xs in
-    map-append facet (row_of (content_seen terms cell s xs) d) (cells_at (content_seen terms cell s xs) docs)
+    map-append facet (row_of (content_seen terms cell s xs) d) (flat_map (row_of (content_seen terms cell s xs)) docs)
     ∙ ap₂ (λ us vs. us ++ vs)
     (ap (map facet) (row-cells cell rows d) ∙ map-map facet cell (row_at rows d))
     (seen-cells terms cell s xs docs facet)
     ∙ sym (map-append (λ x. facet (cell x)) (row_at rows d) (flat_map (row_at rows) docs))
+
+-- ---- all rows
+
+-- where the values of all rows start, and where they end
+whole-ends : (s : Shape) (n : ℕ) → IsCounted s n → (start_in s 0 ≡ 0) × (start_in s (row_count s n) ≡ n)
+whole-ends (empty_shape m) n counted = (refl, sym counted)
+whole-ends full_shape n counted = (refl, refl)
+whole-ends (optional_shape cs) n counted = (refl, ap sum (take-length cs) ∙ counted)
+whole-ends (multivalued_shape cs) n counted = (refl, ap sum (take-length cs) ∙ counted)
+
+-- the values in all rows are all values
+pub values-whole : {T : Type 0} (s : Shape) (xs : List T) → IsCounted s (length xs)
+    → values_in_rows (rows_by s xs) (range_with_len 0 (row_count s (length xs))) ≡ xs
+values-whole s xs counted =
+    let ends = whole-ends s (length xs) counted in
+    let n = row_count s (length xs) in
+    let from_zero : 0 + n ≡ n = omega arith in
+    let all : length xs - 0 ≡ length xs = omega arith in
+    values-range s xs 0 n
+    ∙ ap₂ (λ a b. take (a - b) (drop b xs)) (ap (start_in s) from_zero ∙ ends.1) ends.0
+    ∙ ap (λ k. take k xs) all ∙ take-length xs
 
 -- ---- parts of documents, and rows
 

@@ -1,6 +1,6 @@
 -- Facets of terms and flags, by tables of their numbers.
 use Rattle.std.proofs.Common.{◌≡◌, ℕ, zero, suc, pos, ◌+◌, ◌<◌, ◌==◌, Bool, true, false, cond, List, [], ◌∷◌, map, length, get_or, slice_get, unwrap_or, refl, sym, ◌∙◌, ap, ap₂, subst, arith}
-use Rattle.std.specs.List.{AllByRecursion, count_by}
+use Rattle.std.specs.List.{AllByRecursion, count_by, range_with_len}
 use Rattle.std.specs.declared.cmp.Ordering.TheVariants.{Less}
 use Rattle.std.specs.Ordering.{nat_cmp}
 use Rattle.std.specs.Cmp.Lexicographic.{slice_cmp}
@@ -15,16 +15,19 @@ use Rattle.col_model.specs.Index.{Shape}
 use Rattle.col_model.proofs.ListLaws.{map-map, all_taken, all_dropped, all-two}
 use Rattle.col_model.proofs.OrderingLaws.{less_where}
 use Rattle.col_model.proofs.StatsLaws.{all_by}
-use Rattle.col_column.specs.Columns.{Seen, rows_by, row_at, row_count, rows_of_values, content_seen}
-use Rattle.col_facet.specs.Facets.{facets_of, facets_at, copies, cells_at, are_ascending}
+use Rattle.col_column.specs.Columns.{Seen, rows_by, row_at, row_count, rows_of_values, content_seen, IsCounted}
+use Rattle.col_facet.specs.Facets.{facets_of, copies, are_ascending, facet_cell, counted_as}
 use Rattle.col_facet.specs.Tables.{counted_from, term_at, flag_cell}
 use Rattle.col_facet.specs.Values.{values_in_rows}
 use Rattle.col_facet.specs.declared.facet_cell.FacetCell.{FacetCell}
 use Rattle.col_facet.specs.declared.facet_cell.FacetCell.TheVariants.{Num}
 use Rattle.col_facet.specs.declared.facet_cell.FacetCount.{FacetCount}
-use Rattle.std.specs.Prelude.{Result, Ok, Err, IfOk, Vec}
+use Rattle.std.specs.Prelude.{Result, Ok, Err, IfOk, Vec, flat_map}
 use Rattle.std.specs.declared.alloc.AllocError.{AllocError}
 use Rattle.std.specs.declared.alloc.Global.{Global}
+use Rattle.col_model.specs.ColumnType.{ColumnType}
+use Rattle.col_model.specs.Facets.{facet_of}
+use Rattle.col_model.specs.Lookup.{row_of}
 use Rattle.col_model.specs.Table.{Cell}
 use Rattle.col_dynamic.specs.Dynamic.{type_of, content_of, dynamic_shape, value_count}
 use Rattle.col_dynamic.proofs.RowLemmas.{seen-rows}
@@ -33,7 +36,8 @@ use Rattle.col_numbers.specs.NumValues.{num_values_of}
 use Rattle.col_numbers.specs.declared.num_values.NumValues.{NumValues}
 use Rattle.col_text.specs.Texts.{AreOrdinals}
 use Rattle.col_facet.proofs.MergeLemmas.{ascending-distinct}
-use Rattle.col_facet.proofs.DocLemmas.{row-taken, rows-length, seen-cells}
+use Rattle.col_facet.proofs.CellLemmas.{counts-of-cells}
+use Rattle.col_facet.proofs.DocLemmas.{row-taken, rows-length, seen-cells, values-whole}
 use Rattle.col_facet.proofs.TableLemmas.{AreRising, table-facets}
 
 -- how often a number stands, from 0 on, among the numbers of values
@@ -147,6 +151,15 @@ term-counted terms ords seen docs counts n told same size length_is counted =
     (λ i h. counted i (omega (arith, h, size))
     ∙ ap (λ (s : Seen (NumValues ℕ)). count_by (λ x. x == 0 + i) (values_in_rows (rows_of_values num_values_of s) docs)) same)
 
+-- the same of all ordinals
+pub all-terms-counted : (terms : List (List ℕ)) (ords : Seen (NumValues ℕ)) (counts xs : List ℕ) (n : ℕ) → AreOrdinals terms ords
+    → xs ≡ num_values_of ords.values → n ≡ length terms → length counts ≡ n
+    → ((i : ℕ) → i < n → get_or counts i 0 ≡ count_by (λ x. x == 0 + i) xs)
+    → counted_from (term_at terms) 0 counts ≡ facets_of (map (term_at terms) (num_values_of ords.values))
+all-terms-counted terms ords counts xs n told same size length_is counted =
+    term-table terms counts (num_values_of ords.values) told.ascend (length_is ∙ size) told.below
+    (λ i h. counted i (omega (arith, h, size)) ∙ ap (count_by (λ x. x == 0 + i)) same)
+
 -- ---- columns
 
 -- facets ascend
@@ -160,23 +173,33 @@ pub found-ascend : (r : Result (Vec FacetCount Global) AllocError) (cs : List Fa
 found-ascend (Ok v) cs e = subst (λ fs. are_ascending fs ≡ true) (sym e) (ascending-facets cs)
 found-ascend (Err x) cs h = h
 
--- facets of the values in rows are those of their cells
-pub found-cells : {T : Type 0} (r : Result (Vec FacetCount Global) AllocError) (facet : Cell → FacetCell) (terms : List (List ℕ))
+-- facets of the values in rows are the counts of their cells
+pub found-cells : {T : Type 0} (r : Result (Vec FacetCount Global) AllocError) (t : ColumnType) (terms : List (List ℕ))
     (cell : T → Cell) (s : Shape) (xs : List T) (docs : List ℕ)
-    → IfOk r (λ v. v.items ≡ facets_of (map (λ x. facet (cell x)) (values_in_rows (rows_by s xs) docs)))
-    → IfOk r (λ v. v.items ≡ facets_of (map facet (cells_at (content_seen terms cell s xs) docs)))
-found-cells r facet terms cell s xs docs h =
-    subst (λ (cs : List FacetCell). IfOk r (λ v. v.items ≡ facets_of cs)) (sym (seen-cells terms cell s xs docs facet)) h
+    → IfOk r (λ v. v.items ≡ facets_of (map (λ x. facet_cell t (cell x)) (values_in_rows (rows_by s xs) docs)))
+    → IfOk r (λ v. v.items ≡ counted_as t (facet_of (content_seen terms cell s xs) docs))
+found-cells r t terms cell s xs docs h =
+    let content = content_seen terms cell s xs in
+    subst (λ (fs : List FacetCount). IfOk r (λ v. v.items ≡ fs))
+    (ap facets_of (sym (seen-cells terms cell s xs docs (facet_cell t)))
+    ∙ counts-of-cells t (flat_map (row_of content) docs)) h
+
+-- the same of all rows
+pub all-cells : {T : Type 0} (r : Result (Vec FacetCount Global) AllocError) (t : ColumnType) (terms : List (List ℕ))
+    (cell : T → Cell) (s : Shape) (xs : List T)
+    → IfOk r (λ v. v.items ≡ facets_of (map (λ x. facet_cell t (cell x))
+    (values_in_rows (rows_by s xs) (range_with_len 0 (row_count s (length xs))))))
+    → IfOk r (λ v. v.items ≡ counted_as t (facet_of (content_seen terms cell s xs)
+    (range_with_len 0 (length (map (map cell) (rows_by s xs))))))
+all-cells r t terms cell s xs h =
+    subst (λ n. IfOk r (λ v. v.items ≡ counted_as t (facet_of (content_seen terms cell s xs) (range_with_len 0 n))))
+    (sym (rows-length (map cell) s xs))
+    (found-cells r t terms cell s xs (range_with_len 0 (row_count s (length xs))) h)
 
 -- documents below the number of rows are below that of a column
 pub docs-below : {T U : Type 0} (f : List T → U) (s : Shape) (xs : List T) (docs : List ℕ) → AreBelow (length (map f (rows_by s xs))) docs
     → AreBelow (row_count s (length xs)) docs
 docs-below f s xs docs below = subst (λ n. AreBelow n docs) (rows-length f s xs) below
-
--- how many rows a column has that is this one
-pub rows-counted : (c d : DynamicColumn) → c ≡ d → (n : ℕ) → n ≡ row_count (dynamic_shape d) (value_count d)
-    → n ≡ length (content_of c).rows
-rows-counted c d e n is = is ∙ sym (seen-rows d) ∙ sym (ap (λ x. length (content_of x).rows) e)
 
 -- documents below its number of rows
 pub docs-of : (c d : DynamicColumn) (docs : List ℕ) → c ≡ d → AreBelow (length (content_of c).rows) docs
@@ -185,6 +208,23 @@ docs-of c d docs e below = subst (λ n. AreBelow n docs) (ap (λ x. length (cont
 
 -- facets of it
 pub facets-of : (r : Result (Vec FacetCount Global) AllocError) (c d : DynamicColumn) (docs : List ℕ) → c ≡ d
-    → IfOk r (λ v. v.items ≡ facets_at (type_of d) (content_of d) docs)
-    → IfOk r (λ v. v.items ≡ facets_at (type_of c) (content_of c) docs)
-facets-of r c d docs e h = subst (λ x. IfOk r (λ v. v.items ≡ facets_at (type_of x) (content_of x) docs)) (sym e) h
+    → IfOk r (λ v. v.items ≡ counted_as (type_of d) (facet_of (content_of d) docs))
+    → IfOk r (λ v. v.items ≡ counted_as (type_of c) (facet_of (content_of c) docs))
+facets-of r c d docs e h =
+    subst (λ x. IfOk r (λ v. v.items ≡ counted_as (type_of x) (facet_of (content_of x) docs))) (sym e) h
+
+-- the counts of the cells in all rows of a column
+abbrev pub whole_facets : DynamicColumn → List FacetCount
+whole_facets c = counted_as (type_of c) (facet_of (content_of c) (range_with_len 0 (length (content_of c).rows)))
+
+-- facets of all its rows
+pub all-facets-of : (r : Result (Vec FacetCount Global) AllocError) (c d : DynamicColumn) → c ≡ d
+    → IfOk r (λ v. v.items ≡ whole_facets d) → IfOk r (λ v. v.items ≡ whole_facets c)
+all-facets-of r c d e h = subst (λ x. IfOk r (λ v. v.items ≡ whole_facets x)) (sym e) h
+
+-- facets of all values of a column are those of the values in all its rows
+pub whole-found : {T : Type 0} (r : Result (Vec FacetCount Global) AllocError) (cell : T → FacetCell) (s : Shape) (xs ys : List T)
+    → ys ≡ xs → IsCounted s (length xs) → IfOk r (λ v. v.items ≡ facets_of (map cell ys))
+    → IfOk r (λ v. v.items ≡ facets_of (map cell (values_in_rows (rows_by s xs) (range_with_len 0 (row_count s (length xs))))))
+whole-found r cell s xs ys e counted h =
+    subst (λ zs. IfOk r (λ v. v.items ≡ facets_of (map cell zs))) (e ∙ sym (values-whole s xs counted)) h

@@ -4,6 +4,8 @@ pub mod MergeLemmas
 pub mod SortLemmas
 pub mod TopLemmas
 pub mod RunLemmas
+pub mod EqualLemmas
+pub mod CellLemmas
 pub mod TableLemmas
 pub mod DocLemmas
 pub mod FacetLemmas

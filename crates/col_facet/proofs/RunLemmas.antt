@@ -205,6 +205,11 @@ facets-none : facets_of [] ≡ []
 unfolding facets_of distinct_items
 facets-none = refl
 
+-- the facets of no values
+pub no-facets : {T : Type 0} (cell : T → FacetCell) (xs : List T) (n : ℕ) → n ≡ length xs → n ≡ 0 → facets_of (map cell xs) ≡ []
+no-facets cell [] n e f = facets-none
+no-facets cell (x ∷ xs) n e f = absurd (omega (arith, e, f))
+
 -- the end of such a walk
 pub run-end : {T : Type 0} (cell : T → FacetCell) (xs : List T) (found all : List FacetCount) (at : ℕ)
     → found ++ facets_of (map cell (drop at xs)) ≡ all → length xs ≤ at → found ≡ all

@@ -13,12 +13,12 @@ use Rattle.col_common.proofs.OctetLemmas.{then_equal}
 use Rattle.col_model.specs.Sorted.{sorted_items}
 use Rattle.col_facet.specs.Cells.{cell_cmp, cells_total}
 use Rattle.col_facet.specs.Facets.{rank_cmp, top_of}
-use Rattle.col_facet.specs.Ranked.{ranked_counts}
+use Rattle.col_facet.specs.Ranked.{ranked_counts, ranked_cmp}
 use Rattle.col_facet.specs.declared.facet_cell.FacetCell.{FacetCell}
 use Rattle.col_facet.specs.declared.facet_cell.FacetCount.{FacetCount}
 use Rattle.col_facet.proofs.OrderLemmas.{cells-apart}
 use Rattle.col_facet.proofs.SortLemmas.{sorted-own, adjacent-sorted, adjacent-map}
-use Rattle.col_merge_terms.proofs.SortLemmas.{sorted-moved}
+use Rattle.col_model.proofs.SortLaws.{sorted-moved}
 
 ranks_total : IsTotalOrder rank_cmp
 ranks_total =
@@ -35,7 +35,7 @@ ranks-apart f g e =
 -- what a sort of cells behind their counts puts first
 pub top-is : (facets : List FacetCount) (k : ℕ) (old new : List (Reverse ℕ × Bor FacetCell)) → ranked_counts old ≡ facets
     → IsPermutation old new
-    → IsSorted (λ p q. ordering_then (nat_cmp q.0.0 p.0.0) (cell_cmp p.1.now q.1.now)) new
+    → IsSorted ranked_cmp new
     → ranked_counts (take k new) ≡ top_of k facets
 unfolding top_of
 top-is facets k old new e moved up =

@@ -1,5 +1,5 @@
 -- Facets: how often cells stand.
-use Rattle.std.specs.Prelude.{◌≡◌, ℕ, ◌^◌, nat_lt, not, Bool, false, List, map, flat_map, nat_abs, take, count_by, if◌then◌else◌}
+use Rattle.std.specs.Prelude.{◌≡◌, ℕ, ℤ, pos, negsuc, ◌^◌, nat_lt, not, Bool, false, List, ◌++◌, map, take, count_by, if◌then◌else◌}
 use Rattle.std.specs.List.{list_all, sum_by}
 use Rattle.std.specs.Ordering.{eq_by_cmp, is_lt, is_gt, nat_cmp, ordering_then}
 use Rattle.std.specs.declared.cmp.Ordering.{Ordering}
@@ -8,9 +8,9 @@ use Rattle.col_common.specs.declared.error.ColumnarError.{ColumnarError}
 use Rattle.col_common.specs.declared.error.ColumnarError.TheVariants.{OutOfMemory, TooLarge}
 use Rattle.col_model.specs.ColumnType.{ColumnType, same_type}
 use Rattle.col_model.specs.ColumnType as types
-use Rattle.col_model.specs.Lookup.{row_of}
+use Rattle.col_model.specs.Facets.{sums_of_counts}
 use Rattle.col_model.specs.Sorted.{distinct_items, sorted_items}
-use Rattle.col_model.specs.Table.{Cell, number, text, Content}
+use Rattle.col_model.specs.Table.{Cell, number, text}
 use Rattle.col_facet.specs.Cells.{cell_cmp}
 use Rattle.col_facet.specs.declared.facet_cell.FacetCell.{FacetCell}
 use Rattle.col_facet.specs.declared.facet_cell.FacetCell.TheVariants.{Num, Addr, Term}
@@ -42,18 +42,24 @@ unfoldable pub facets_of : List FacetCell → List FacetCount
 facets_of cells = map (λ c. record { cell = c; count = copies cells c })
     (distinct_items cell_cmp cells)
 
+-- the cell of an address by its number; a negative number is none
+abbrev pub address_cell : ℤ → FacetCell
+address_cell (pos n) = Addr n
+address_cell (negsuc n) = Num (negsuc n)
+
 -- the cell of facets that a cell of a column of this type is
 abbrev pub facet_cell : ColumnType → Cell → FacetCell
 facet_cell t (text b) = Term b
-facet_cell t (number z) = if same_type t types.ip then Addr (nat_abs z) else Num z
+facet_cell t (number z) = if same_type t types.ip then address_cell z else Num z
 
--- the cells in the rows of documents, one row behind another
-abbrev pub cells_at : Content → List ℕ → List Cell
-cells_at content docs = flat_map (row_of content) docs
+-- counts of the cells of a column of this type, as facets have them
+abbrev pub counted_as : ColumnType → List (Cell × ℕ) → List FacetCount
+counted_as t counts = map (λ p. record { cell = facet_cell t p.0; count = p.1 }) counts
 
--- how often the cells of a column stand in the rows of documents
-abbrev pub facets_at : ColumnType → Content → List ℕ → List FacetCount
-facets_at t content docs = facets_of (map (facet_cell t) (cells_at content docs))
+-- the totals of counts of cells are their sums
+abbrev pub TotalsAreSums : Type 0
+TotalsAreSums = (t : ColumnType) (ps qs : List (Cell × ℕ))
+    → totals_of (counted_as t ps ++ counted_as t qs) ≡ counted_as t (sums_of_counts (ps ++ qs))
 
 -- 64 bits count each cell
 abbrev pub are_counted : List FacetCount → Bool

@@ -119,8 +119,8 @@ where
     push_range(column.values(), rows.start, rows.end, values)
 }
 
-// Adds the values at positions from one up to another.
-fn push_range<T, V>(
+/// Adds the values at positions from one up to another.
+pub(crate) fn push_range<T, V>(
     list: &V,
     start: RowId,
     end: RowId,

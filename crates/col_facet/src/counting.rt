@@ -4,7 +4,7 @@ ghost use Rattle.col_common.specs.Ascending.{AreBelow, is_rising};
 ghost use Rattle.col_column.specs.Columns.{rows_of_values, num_docs_in};
 ghost use Rattle.col_facet.specs.Values.{values_in_rows};
 
-use crate::blocks::{block_end, push_values};
+use crate::blocks::{block_end, push_range, push_values};
 use crate::table::tally;
 use col_column::Column;
 use col_common::DocId;
@@ -61,6 +61,47 @@ where
         let next = block_end(at, docs.len());
         values.clear();
         push_values(alloc, column, &docs[at..next], &mut values)?;
+        tally(values.as_slice(), base, counts);
+        at = next;
+    }
+    Ok(())
+}
+
+/// How often each of so many numbers from a base on stands among all values of a list.
+pub(crate) fn counts_of_all<T, V>(
+    alloc: Global,
+    list: &V,
+    base: u64,
+    len: usize,
+) -> Result<Vec<u64>, AllocError>
+where
+    T: MonotonicallyMappableToU64,
+    V: ColumnValues<T>,
+    ensures len { IfOk result (λ counts. length counts.items ≡ len) }
+    ensures counts { IfOk result (λ counts. (i : ℕ) → i < len → slice_index counts.items i
+        ≡ count_by (λ x. T.code x == base + i) (V.values list.now)) }
+{
+    let mut counts = vec![in alloc; 0; len]?;
+    count_all(alloc, list, base, counts.as_mut_slice())?;
+    Ok(counts)
+}
+
+// Counts the numbers of all values of a list, where none was counted yet.
+fn count_all<T, V>(alloc: Global, list: &V, base: u64, counts: &mut [u64]) -> Result<(), AllocError>
+where
+    T: MonotonicallyMappableToU64,
+    V: ColumnValues<T>,
+    requires none { (i : ℕ) → slice_index counts.old i ≡ 0 }
+    ensures { OnOk result ((i : ℕ) → i < length counts.old → slice_index counts.new i
+        ≡ count_by (λ x. T.code x == base + i) (V.values list.now)) }
+{
+    let count = list.num_vals() as usize;
+    let mut values = Vec::new(alloc);
+    let mut at = 0;
+    while at < count {
+        let next = block_end(at, count);
+        values.clear();
+        push_range(list, at as u32, next as u32, &mut values)?;
         tally(values.as_slice(), base, counts);
         at = next;
     }

@@ -5,7 +5,7 @@ ghost use Rattle.std.specs.Ordering.{eq_by_cmp};
 ghost use Rattle.std.proofs.lemmas.Cmp.{eq_by_cmp_equiv};
 ghost use Rattle.col_facet.specs.Cells.{cell_cmp, cells_total};
 
-use crate::term_bytes::TermBytes;
+use col_dynamic::TermBytes;
 use std::alloc::{AllocError, Global};
 use std::cmp::Ordering;
 

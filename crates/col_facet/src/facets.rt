@@ -4,8 +4,9 @@ ghost use Rattle.col_common.specs.Ascending.{AreBelow, is_rising};
 ghost use Rattle.col_column.specs.Columns.{rows_of_values, num_docs_in};
 ghost use Rattle.col_dynamic.specs.Dynamic.{type_of, content_of};
 ghost use Rattle.col_model.specs.Codes.{bool_code};
+ghost use Rattle.col_model.specs.Facets.{facet_of};
 ghost use Rattle.col_numbers.specs.NumValues.{num_values_of};
-ghost use Rattle.col_facet.specs.Facets.{facets_of, facets_at, are_ascending};
+ghost use Rattle.col_facet.specs.Facets.{facets_of, counted_as, are_ascending};
 ghost use Rattle.col_facet.specs.Tables.{term_at, flag_cell};
 ghost use Rattle.col_facet.specs.Values.{values_in_rows};
 
@@ -16,7 +17,7 @@ use crate::facet_value::FacetValue;
 use crate::runs::facets_of_values;
 use crate::table::counted_facets;
 use col_column::{Column, NumColumn};
-use col_common::{DocId, RowId};
+use col_common::DocId;
 use col_dynamic::DynamicColumn;
 use col_text::BytesColumn;
 use col_values::ColumnValues;
@@ -31,7 +32,7 @@ pub fn facet(
     requires rising { is_rising docs.now ≡ true }
     requires below { AreBelow (length (content_of column.now).rows) docs.now }
     ensures ok { IfOk result (λ facets. facets.items
-        ≡ facets_at (type_of column.now) (content_of column.now) docs.now) }
+        ≡ counted_as (type_of column.now) (facet_of (content_of column.now) docs.now)) }
     ensures ascending { IfOk result (λ facets. are_ascending facets.items ≡ true) }
 {
     match column {
@@ -42,21 +43,6 @@ pub fn facet(
         DynamicColumn::DateTime(column) => value_facets(alloc, column, docs),
         DynamicColumn::Bytes(column) => term_facets(alloc, column, docs),
         DynamicColumn::Str(column) => term_facets(alloc, column.bytes_column(), docs),
-    }
-}
-
-/// How many rows a column has, below which documents of a facet are.
-pub fn num_rows(column: &DynamicColumn) -> RowId
-    ensures { result ≡ length (content_of column.now).rows }
-{
-    match column {
-        DynamicColumn::Bool(column) => column.num_docs(),
-        DynamicColumn::I64(column) => column.num_docs(),
-        DynamicColumn::U64(column) => column.num_docs(),
-        DynamicColumn::IpAddr(column) => column.num_docs(),
-        DynamicColumn::DateTime(column) => column.num_docs(),
-        DynamicColumn::Bytes(column) => column.num_rows(),
-        DynamicColumn::Str(column) => column.bytes_column().num_rows(),
     }
 }
 

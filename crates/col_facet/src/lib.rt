@@ -11,11 +11,11 @@ mod merge;
 mod place_cells;
 mod runs;
 mod table;
-mod term_bytes;
 mod top;
+mod whole;
 
 pub use facet_cell::{FacetCell, FacetCount};
-pub use facets::{facet, num_rows};
-pub use merge::merge_facets;
-pub use term_bytes::TermBytes;
+pub use facets::facet;
+pub use merge::{merge_facets, totals_are_sums_of_counts};
 pub use top::top_facets;
+pub use whole::facet_all;

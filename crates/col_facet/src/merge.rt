@@ -1,7 +1,7 @@
 //! Sums of facets.
 ghost use Rattle.std.specs.Prelude.{◌≡◌, ◌+◌, ◌<◌, ◌≤◌, true, ◌∷◌, [], ◌++◌, drop, length, IfOk, IfErr, OnOk};
 ghost use Rattle.col_common.specs.declared.error.ColumnarError.TheVariants as refusals;
-ghost use Rattle.col_facet.specs.Facets.{totals_of, are_ascending, are_counted, RefusesSums};
+ghost use Rattle.col_facet.specs.Facets.{totals_of, are_ascending, are_counted, RefusesSums, TotalsAreSums};
 
 use crate::facet_cell::{FacetCell, FacetCount};
 use col_common::ColumnarError;
@@ -34,6 +34,11 @@ pub fn merge_facets(
     push_all(alloc, &right[j..], &mut sums)?;
     Ok(sums)
 }
+
+/// Totals of facets of columns of one type are the sums of the counts that these facets are of.
+pub fn totals_are_sums_of_counts()
+    ensures { TotalsAreSums }
+{}
 
 // Adds the count of the least cell, and says of how many counts of each list it is.
 fn push_next(

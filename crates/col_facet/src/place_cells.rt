@@ -1,11 +1,11 @@
 //! Cells by their places: terms by ordinals, numbers from a least one on.
-ghost use Rattle.std.specs.Prelude.{◌≡◌, ℕ, pos, ◌+◌, ◌+ℤ◌, IfOk};
+ghost use Rattle.std.specs.Prelude.{◌≡◌, ℕ, pos, ◌+◌, IfOk};
 ghost use Rattle.col_facet.specs.Tables.{term_at};
 ghost use Rattle.col_facet.specs.declared.facet_cell.FacetCell.{FacetCell};
 ghost use Rattle.col_facet.specs.declared.facet_cell.FacetCell.TheVariants as cells;
 
 use crate::facet_cell::FacetCell;
-use crate::term_bytes::TermBytes;
+use col_dynamic::TermBytes;
 use col_terms::Dictionary;
 use std::alloc::{AllocError, Global};
 
@@ -33,14 +33,6 @@ impl PlaceCells for Dictionary {
 
 impl PlaceCells for u64 {
     ghost cells = { λ least n. cells.Num (pos (least + n)) };
-
-    fn cell_at(&self, _alloc: Global, place: u64) -> Result<FacetCell, AllocError> {
-        Ok(FacetCell::Num(i128::from(*self) + i128::from(place)))
-    }
-}
-
-impl PlaceCells for i64 {
-    ghost cells = { λ least n. cells.Num (least +ℤ pos n) };
 
     fn cell_at(&self, _alloc: Global, place: u64) -> Result<FacetCell, AllocError> {
         Ok(FacetCell::Num(i128::from(*self) + i128::from(place)))

@@ -1,7 +1,8 @@
 //! The most frequent cells.
 ghost use Rattle.std.specs.Prelude.{◌≡◌, map, IfOk, OnOk, ◌++◌};
 ghost use Rattle.col_facet.specs.Facets.{top_of};
-ghost use Rattle.col_facet.specs.Ranked.{ranked_counts};
+ghost use Rattle.std.specs.List.Sorted.{IsPermutation, IsSorted};
+ghost use Rattle.col_facet.specs.Ranked.{ranked_counts, ranked_cmp};
 
 use crate::facet_cell::{FacetCell, FacetCount};
 use crate::merge::push_count;
@@ -20,7 +21,7 @@ pub fn top_facets(
     ensures { IfOk result (λ top. top.items ≡ top_of k facets.now) }
 {
     let mut ranked = ranked_facets(alloc, facets)?;
-    ranked.sort_unstable();
+    sort_ranked(&mut ranked);
     ranked.truncate(k);
     let mut top = Vec::new(alloc);
     for (count, cell) in &ranked {
@@ -38,4 +39,12 @@ fn ranked_facets<'a>(alloc: Global, facets: &'a [FacetCount]) -> Result<Vec<Rank
         ranked.push((Reverse(facet.count), &facet.cell))?;
     }
     Ok(ranked)
+}
+
+// Puts the greater counts first, and of equal ones the lesser cells.
+fn sort_ranked(ranked: &mut Vec<Ranked<'_>>)
+    ensures moved { IsPermutation ranked.old.items ranked.new.items }
+    ensures sorted { IsSorted ranked_cmp ranked.new.items }
+{
+    ranked.sort_unstable();
 }

@@ -2,9 +2,9 @@
 use Rattle.std.proofs.Common.{◌≡◌, ◌∙◌, ℕ, suc, ◌+◌, ◌%◌, List, [], ◌∷◌, ◌++◌, Result, OnOk, refl, ap, ap₂, subst}
 use Rattle.std.proofs.lemmas.Bool.{ne_eqb}
 use Rattle.serde_json.specs.Data.{Data}
-use Rattle.col_model.specs.Report.{Prints}
-use Rattle.col_model.specs.GenScript.{Drawn, drawn, draw_of, with_lines, value_data, size_line, city_lines, delta_line, on_line, addr_lines, delta_lines, doc_lines, docs_lines, segment_lines, find_data, lookup_lines, gen_script}
-use Rattle.col_model.proofs.ReportLaws.{Prints-none, Prints-then}
+use Rattle.col_program.specs.Report.{Prints}
+use Rattle.col_program.specs.GenScript.{Drawn, drawn, draw_of, with_lines, value_data, size_line, city_lines, delta_line, on_line, addr_lines, delta_lines, doc_lines, docs_lines, segment_lines, find_data, lookup_lines, gen_script}
+use Rattle.col_program.proofs.ReportLaws.{Prints-none, Prints-then}
 use Rattle.col_gen.specs.Generated.{segment_line, Adds, IsSized}
 
 -- lines, and the state behind them

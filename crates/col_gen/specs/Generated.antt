@@ -2,8 +2,8 @@
 use Rattle.std.specs.Prelude.{◌≡◌, ℕ, pos, ◌-ℤ◌, List, [], ◌∷◌, ◌++◌, codes}
 use Rattle.serde_json.specs.Data.{Data, number, string}
 use Rattle.serde_json.specs.Find.{of_integer}
-use Rattle.col_model.specs.Report.{lines_text, list_data, count_data}
-use Rattle.col_model.specs.GenScript.{Drawn, address_data, find_data, sized_script}
+use Rattle.col_program.specs.Report.{lines_text, list_data, count_data}
+use Rattle.col_program.specs.GenScript.{Drawn, address_data, find_data, sized_script}
 
 -- ["segment",n]
 abbrev pub segment_line : ℕ → Data

@@ -1,6 +1,6 @@
 //! Appends documents, and segments of them.
 ghost use Rattle.std.specs.Prelude.{OnOk};
-ghost use Rattle.col_model.specs.GenScript.{delta_lines, doc_lines, docs_lines, segment_lines};
+ghost use Rattle.col_program.specs.GenScript.{delta_lines, doc_lines, docs_lines, segment_lines};
 ghost use Rattle.col_gen.specs.Generated.{Adds};
 
 use crate::draws::Draws;

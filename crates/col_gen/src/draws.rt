@@ -1,6 +1,6 @@
 //! Draws from a linear congruential generator.
 ghost use Rattle.std.specs.Prelude.{◌≡◌};
-ghost use Rattle.col_model.specs.GenScript.{drawn, draw_of};
+ghost use Rattle.col_program.specs.GenScript.{drawn, draw_of};
 
 use std::marker::Model;
 

@@ -1,6 +1,6 @@
 //! The script that a number makes.
 ghost use Rattle.std.specs.Prelude.{◌≡◌, IfOk};
-ghost use Rattle.col_model.specs.GenScript.{gen_script};
+ghost use Rattle.col_program.specs.GenScript.{gen_script};
 ghost use Rattle.col_gen.specs.Generated.{IsSized};
 
 use crate::documents::push_segments;

@@ -2,8 +2,8 @@
 ghost use Rattle.std.specs.Prelude.{◌≡◌, ◌∷◌, ◌-ℤ◌, ◌%◌, [], pos, false, IfOk, OnOk};
 ghost use Rattle.serde_json.specs.View.{view};
 ghost use Rattle.serde_json.specs.Written.{has_float};
-ghost use Rattle.col_model.specs.GenScript.{value_data, size_line, city_lines, delta_line, on_line, addr_lines};
-ghost use Rattle.col_model.specs.Report.{Prints};
+ghost use Rattle.col_program.specs.GenScript.{value_data, size_line, city_lines, delta_line, on_line, addr_lines};
+ghost use Rattle.col_program.specs.Report.{Prints};
 ghost use Rattle.col_gen.specs.Generated.{segment_line};
 
 use crate::text::{address_digits, city_name};

@@ -2,8 +2,8 @@
 ghost use Rattle.std.specs.Prelude.{◌≡◌, ◌∷◌, [], false, IfOk, OnOk};
 ghost use Rattle.serde_json.specs.View.{view};
 ghost use Rattle.serde_json.specs.Written.{has_float};
-ghost use Rattle.col_model.specs.GenScript.{find_data, lookup_lines};
-ghost use Rattle.col_model.specs.Report.{Prints};
+ghost use Rattle.col_program.specs.GenScript.{find_data, lookup_lines};
+ghost use Rattle.col_program.specs.Report.{Prints};
 ghost use Rattle.col_gen.specs.Generated.{size_find, city_find, delta_find, addr_find};
 
 use crate::text::address_digits;

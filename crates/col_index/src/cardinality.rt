@@ -2,8 +2,7 @@
 ghost use Rattle.std.specs.Prelude.{◌≡◌, ◌==◌, ◌∷◌, [], Some, None, IfOk, IfErr};
 ghost use Rattle.col_common.specs.Decoding.{TakesFront};
 ghost use Rattle.col_common.specs.Serializing.{Serializes};
-ghost use Rattle.col_model.specs.Report.{cardinality_name};
-ghost use Rattle.col_model.specs.Table.{cardinality_code, cardinality_of_code};
+ghost use Rattle.col_model.specs.Table.{cardinality_code, cardinality_name, cardinality_of_code};
 
 use col_common::{ColumnarError, InvalidData, Sink, serialize_bytes};
 use std::fmt;

@@ -1,10 +1,10 @@
 -- Files in brackets, computed: one that is made of three, and what happens without a premise.
 use Rattle.std.specs.Prelude.{◌≡◌, ℕ, ◌^◌, List, [], ◌∷◌, map, codes, pos, Ok, Err, refl}
-use Rattle.col_model.proofs.OnLiterals.{col_model_on_literals}
+use Rattle.col_program.proofs.OnLiterals.{col_program_on_literals}
 use Rattle.col_model.specs.ColumnType as types
 use Rattle.col_model.specs.Table.{number, full, Table}
 use Rattle.col_model.specs.Recording.{Call, recorded}
-use Rattle.col_model.specs.Outcome.{segment_table}
+use Rattle.col_program.specs.Outcome.{segment_table}
 use Rattle.col_model.specs.Refusal.{doc_order}
 use Rattle.col_model.specs.Stacking.{nothing, item, bracket}
 use Rattle.col_laws.specs.SegmentFiles.{file_table, stacked_files, HasTable, IsFileOf, none, of_item, of_bracket, IsMadeBy}
@@ -39,19 +39,19 @@ table_with n numbers = record {
 }
 
 has_rows : HasTable (file_table ten_and_twenty) ten_and_twenty
-unfolding col_model_on_literals
+unfolding col_program_on_literals
 has_rows = record { table = table_with 2 (10 ∷ 20 ∷ []); is = refl; content = refl }
 
 has_none : HasTable (file_table no_rows) no_rows
-unfolding col_model_on_literals
+unfolding col_program_on_literals
 has_none = record { table = record { row_count = 0; columns = [] }; is = refl; content = refl }
 
 inner : IsFileOf (stacked_files (ten_and_twenty ∷ no_rows ∷ [])) ten_and_twenty
-unfolding col_model_on_literals
+unfolding col_program_on_literals
 inner = record { table = table_with 2 (10 ∷ 20 ∷ []); is = refl; stands = record { content = refl; version = refl } }
 
 outer : IsFileOf (stacked_files (ten_and_twenty ∷ ten_and_twenty ∷ [])) twice
-unfolding col_model_on_literals
+unfolding col_program_on_literals
 outer = record { table = table_with 4 (10 ∷ 20 ∷ 10 ∷ 20 ∷ []); is = refl; stands = record { content = refl; version = refl } }
 
 -- (a b) a, of which b has no rows
@@ -70,11 +70,11 @@ late = recorded 1 (codes "a") types.u64 (number (pos (2 ^ 63))) ∷ recorded 0 (
 
 -- one segment refuses the second call, ..
 late_at_once : segment_table (segment_with 2 late) ≡ Err doc_order
-unfolding col_model_on_literals
+unfolding col_program_on_literals
 late_at_once = refl
 
 -- .. which stands in a segment of its own
 late_in_segments : map segment_table (cut_segments late 0 (1 ∷ 1 ∷ []))
     ≡ Ok (table_with 1 (2 ^ 63 ∷ [])) ∷ Ok (table_with 1 (2 ^ 63 ∷ [])) ∷ []
-unfolding col_model_on_literals
+unfolding col_program_on_literals
 late_in_segments = refl

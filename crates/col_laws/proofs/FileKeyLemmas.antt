@@ -1,10 +1,9 @@
 -- The columns of a file are of different slots.
-use Rattle.std.proofs.Common.{◌≡◌, ℕ, ◌==◌, true, false, cond, List, [], ◌∷◌, map, find, Some, sym, ap, ◌∙◌, subst}
+use Rattle.std.proofs.Common.{◌≡◌, ℕ, true, false, cond, List, [], ◌∷◌, map, find, Some, sym, ap, ◌∙◌, subst}
 use Rattle.std.specs.List.{AllByRecursion}
 use Rattle.std.specs.Ordering.{is_eq}
 use Rattle.std.proofs.lemmas.Bool.{and_parts}
 use Rattle.std.proofs.lemmas.Cmp.{tied_itself}
-use Rattle.col_common.specs.Reading.{◌>>=◌}
 use Rattle.col_common.specs.Ascending.{is_ascending}
 use Rattle.col_model.specs.Category.{same_slot}
 use Rattle.col_model.specs.File.{Part, PartColumn, part_column, parts_of}

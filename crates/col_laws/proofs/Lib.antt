@@ -6,3 +6,5 @@ mod FileKeyLemmas
 mod WholeLemmas
 mod SegmentLemmas
 mod ScriptLemmas
+mod CountLemmas
+mod FacetLemmas

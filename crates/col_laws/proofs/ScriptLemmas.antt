@@ -5,10 +5,10 @@ use Rattle.std.specs.List.{AllByRecursion, list_all}
 use Rattle.std.proofs.lemmas.List.{map-append}
 use Rattle.col_model.specs.File.{Part, part_of_table}
 use Rattle.col_model.specs.Merge.{Required, merged, row_counts}
-use Rattle.col_model.specs.Outcome.{segment_table, order_over}
+use Rattle.col_program.specs.Outcome.{segment_table, order_over}
 use Rattle.col_model.specs.Recording.{Call, content_after_all}
 use Rattle.col_model.specs.Refusal.{Refusal, ◌>>=◌, each_ok}
-use Rattle.col_model.specs.Script.{Segment}
+use Rattle.col_program.specs.Script.{Segment}
 use Rattle.col_model.specs.Segmentation.{is_value_below, call_in_run, run_of, runs_of, run_table, IsRecorded}
 use Rattle.col_model.specs.Stacking.{stacked, Bracketing, nothing, item, bracket, unbracketed, tables_in, stacked_by}
 use Rattle.col_model.specs.Table.{Table}

@@ -10,10 +10,7 @@ use Rattle.col_model.specs.Written.{written}
 use Rattle.col_model.proofs.BracketLaws.{IsLeaf, sound-leaf, shaped-leaves, bracketing}
 use Rattle.col_model.proofs.DecodedTables.{decoded-is-sound}
 use Rattle.col_model.proofs.RunLaws.{segmentation-does-not-matter}
-use Rattle.col_model.proofs.SeenLaws.{column_at}
-use Rattle.col_model.proofs.StackSeen.{IsShaped}
-use Rattle.col_model.proofs.StackTables.{stack-gist, stacked-is}
-use Rattle.col_model.proofs.WholeLaws.{CanStack, bracketing-ok, writing-at-once-is-enough, can-stack}
+use Rattle.col_model.proofs.WholeLaws.{bracketing-ok, writing-at-once-is-enough, can-stack}
 use Rattle.col_laws.specs.SegmentFiles.{file_table, parts_in, stacked_files}
 use Rattle.col_laws.specs.FileLaws.{FilesOfRunsMergeToOne, FilesOfRunsAreMade, FilesMergeInAnyBracketing, MergingAtOnceIsEnough}
 use Rattle.col_laws.proofs.PartLemmas.{has-table}

@@ -1,5 +1,5 @@
 pub use Rattle.col_model.specs.File
-pub use Rattle.col_model.specs.Outcome
+pub use Rattle.col_program.specs.Outcome
 pub use Rattle.col_model.specs.Recording
 pub use Rattle.col_model.specs.Refusal
 pub use Rattle.col_model.specs.Stacking
@@ -7,3 +7,4 @@ pub use Rattle.col_model.specs.Segmentation
 pub mod SegmentFiles
 pub mod FileLaws
 pub mod ScriptFiles
+pub mod FacetLaws

@@ -2,8 +2,8 @@
 use Rattle.std.specs.Prelude.{◌≡◌, ℕ, ◌+◌, ◌^◌, ◌<◌, IsTrue, List, [], ◌∷◌, ◌++◌, filter_map, sum, None, IsOk}
 use Rattle.std.specs.List.{list_all, AllZip}
 use Rattle.col_model.specs.Recording.{Call, content_after_all}
-use Rattle.col_model.specs.Script.{Segment, Script}
-use Rattle.col_model.specs.Outcome.{segment_table, script_table}
+use Rattle.col_program.specs.Script.{Segment, Script}
+use Rattle.col_program.specs.Outcome.{segment_table, script_table}
 use Rattle.col_model.specs.Segmentation.{is_value_below, call_in_run}
 use Rattle.col_model.specs.Stacking.{Bracketing, unbracketed}
 use Rattle.col_laws.specs.SegmentFiles.{stacked_files, HasTable, IsFileOf, IsMadeBy, RefusesNothing}

@@ -1,4 +1,6 @@
-//! Laws about files that are merged in brackets, each the contract of a call that does nothing.
+//! Laws about files that are merged in brackets and facets of stacks, each the contract of a call
+//! that does nothing.
+ghost use Rattle.col_laws.specs.FacetLaws.{FacetsOfStacksAreSummed};
 ghost use Rattle.col_laws.specs.FileLaws.{
   FilesMergeInAnyBracketing,
   FilesOfRunsAreMade,
@@ -57,4 +59,11 @@ pub fn segments_are_made()
 /// A script without required columns and an order merges the inputs and its segments' files.
 pub fn scripts_stack_files()
     ensures { ScriptsStackFiles }
+{}
+
+// ---- Facets of stacks.
+
+/// The facets of each column of a stack are the sums of those of the tables' columns.
+pub fn facets_of_stacks_are_summed()
+    ensures { FacetsOfStacksAreSummed }
 {}

@@ -1,11 +1,11 @@
 //! Laws about files that are merged in brackets: of segments that were written apart, and of any
-//! files. Definitions and laws stand in `specs/`.
+//! files; and about the facets of stacks. Definitions and laws stand in `specs/`.
 #![tactic(auto)]
 
 mod laws;
 
 pub use laws::{
-    files_merge_in_any_bracketing, files_of_runs_are_made, files_of_runs_merge_to_one,
-    merged_files_are_whole, merging_at_once_is_enough, scripts_stack_files, segments_are_made,
-    segments_merge_to_one,
+    facets_of_stacks_are_summed, files_merge_in_any_bracketing, files_of_runs_are_made,
+    files_of_runs_merge_to_one, merged_files_are_whole, merging_at_once_is_enough,
+    scripts_stack_files, segments_are_made, segments_merge_to_one,
 };

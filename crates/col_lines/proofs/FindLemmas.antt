@@ -5,7 +5,7 @@ use Rattle.serde_json.specs.Find.{as_str}
 use Rattle.col_common.specs.Reading.{◌>>=◌}
 use Rattle.col_model.specs.ColumnType.{ColumnType}
 use Rattle.col_model.specs.Table.{Cell}
-use Rattle.col_model.specs.Script.{Line, lookup, as_u32, as_type, as_cell, find_line}
+use Rattle.col_program.specs.Script.{Line, lookup, as_u32, as_type, as_cell, find_line}
 use Rattle.col_lines.specs.Values.{ends_as}
 
 none_of : {A B : Type 0} (o : Option A) (f : A → Option B) → ((x : A) → f x ≡ None) → (o >>= f) ≡ None

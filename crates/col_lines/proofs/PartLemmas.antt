@@ -16,7 +16,7 @@ use Rattle.col_common.specs.Reading.{◌>>=◌, only_if}
 use Rattle.col_common.specs.declared.row.RowAddr.{RowAddr}
 use Rattle.col_model.specs.ColumnType as types
 use Rattle.col_model.specs.File.{for_each}
-use Rattle.col_model.specs.Script.{items_list, as_address, as_cell}
+use Rattle.col_program.specs.Script.{items_list, as_address, as_cell}
 use Rattle.col_model.specs.Table.{Cell, number}
 use Rattle.col_order.specs.Orders.{address_of}
 

@@ -7,7 +7,7 @@ use Rattle.serde_json.specs.Find.{as_str}
 use Rattle.col_common.specs.Reading.{◌>>=◌}
 use Rattle.col_model.specs.ColumnType.{ColumnType, type_name}
 use Rattle.col_model.specs.ColumnType as types
-use Rattle.col_model.specs.Script.{Line, as_type, type_named, all_types, shapes, line_among, value_line, segment_line, type_line, sorted_line, tie_line, require_line, order_line, find_line}
+use Rattle.col_program.specs.Script.{Line, as_type, type_named, all_types, shapes, line_among, value_line, segment_line, type_line, sorted_line, tie_line, require_line, order_line, find_line}
 use Rattle.col_lines.specs.Lines.{control_shapes}
 
 -- another word

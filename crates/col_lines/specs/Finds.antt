@@ -3,7 +3,7 @@ use Rattle.std.specs.Prelude.{string_bytes}
 use Rattle.col_model.specs.ColumnType.{ColumnType}
 use Rattle.col_model.specs.ColumnType as types
 use Rattle.col_model.specs.Table.{Cell, number, text}
-use Rattle.col_model.specs.Script as script
+use Rattle.col_program.specs.Script as script
 use Rattle.col_types.specs.Cells.{unsigned_cell, bool_cell}
 use Rattle.col_lines.specs.declared.lookup.Ends.{Ends}
 use Rattle.col_lines.specs.declared.lookup.Ends.TheVariants as ends

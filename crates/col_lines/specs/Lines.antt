@@ -6,8 +6,8 @@ use Rattle.col_model.specs.ColumnType as types
 use Rattle.col_model.specs.Merge.{Required}
 use Rattle.col_model.specs.Recording.{recorded, typed, tied}
 use Rattle.col_model.specs.Recording as recording
-use Rattle.col_model.specs.Script as script
-use Rattle.col_model.specs.Script.{Shapes, segment_line, type_line, sorted_line, tie_line, require_line, order_line, find_line}
+use Rattle.col_program.specs.Script as script
+use Rattle.col_program.specs.Script.{Shapes, segment_line, type_line, sorted_line, tie_line, require_line, order_line, find_line}
 use Rattle.col_types.specs.Kinds.{kind_of}
 use Rattle.col_types.specs.declared.column_type.ColumnType as declared_types
 use Rattle.col_lines.specs.Finds.{find_of}

@@ -6,7 +6,7 @@ use Rattle.serde_json.specs.Data.{Data, boolean, number, string}
 use Rattle.serde_json.specs.Read.{number_of}
 use Rattle.col_common.specs.Reading.{◌>>=◌}
 use Rattle.col_model.specs.Recording.{recorded}
-use Rattle.col_model.specs.Script.{Line, call, type_named, as_u32}
+use Rattle.col_program.specs.Script.{Line, call, type_named, as_u32}
 use Rattle.col_lines.specs.Values.{typed_as}
 
 -- the tokens of an array of four

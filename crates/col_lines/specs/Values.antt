@@ -5,7 +5,7 @@ use Rattle.col_common.specs.Reading.{◌>>=◌}
 use Rattle.col_model.specs.ColumnType.{ColumnType}
 use Rattle.col_model.specs.ColumnType as types
 use Rattle.col_model.specs.Table.{Cell, number, text}
-use Rattle.col_model.specs.Script.{as_cell}
+use Rattle.col_program.specs.Script.{as_cell}
 use Rattle.col_types.specs.Cells.{unsigned_cell, bool_cell}
 use Rattle.col_lines.specs.Finds.{ends_type, low_of, high_of}
 use Rattle.col_lines.specs.declared.lookup.Ends.{Ends}

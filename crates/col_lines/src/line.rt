@@ -5,7 +5,7 @@ ghost use Rattle.serde_json.specs.Read.{read};
 ghost use Rattle.serde_json.specs.View.{view};
 ghost use Rattle.col_common.specs.Reading.{only_if};
 ghost use Rattle.col_model.specs.ColumnType.{has_terms};
-ghost use Rattle.col_model.specs.Script.{as_list, line_among, line_spelled, shapes, segment_line, type_line, sorted_line, tie_line, value_line, require_line, order_line, find_line};
+ghost use Rattle.col_program.specs.Script.{as_list, line_among, line_spelled, shapes, segment_line, type_line, sorted_line, tie_line, value_line, require_line, order_line, find_line};
 ghost use Rattle.col_types.specs.Kinds.{kind_of};
 ghost use Rattle.col_lines.specs.Lines.{script_line_of, terms_type, control_shapes};
 
@@ -96,7 +96,7 @@ pub fn read_line(
 }
 
 // The line, by way of its JSON value.
-#[tactic(auto, unfolding(col_model::specs::Script::line_spelled_by))]
+#[tactic(auto, unfolding(col_program::specs::Script::line_spelled_by))]
 fn parse_any(alloc: Global, piece: &[u8]) -> Result<Option<Line>, AllocError>
     ensures { IfOk result (λ line. option_map script_line_of line ≡ line_spelled piece.now) }
 {

@@ -5,7 +5,7 @@ ghost use Rattle.serde_json.specs.Find.{as_str};
 ghost use Rattle.serde_json.specs.View.{view};
 ghost use Rattle.col_model.specs.ColumnType as types;
 ghost use Rattle.col_model.specs.File.{for_each};
-ghost use Rattle.col_model.specs.Script.{as_u32, as_type, type_named, hex_bytes, as_cell, as_address};
+ghost use Rattle.col_program.specs.Script.{as_u32, as_type, type_named, hex_bytes, as_cell, as_address};
 ghost use Rattle.col_types.specs.Cells.{unsigned_cell};
 ghost use Rattle.col_types.specs.Kinds.{kind_of};
 ghost use Rattle.col_order.specs.Orders.{address_of};

@@ -6,7 +6,7 @@ ghost use Rattle.serde_json.specs.Data.{string, boolean};
 ghost use Rattle.serde_json.specs.Read.{number_of, number_from};
 ghost use Rattle.serde_json.specs.View.{number_view};
 ghost use Rattle.col_model.specs.ColumnType as types;
-ghost use Rattle.col_model.specs.Script.{as_u32, line_spelled};
+ghost use Rattle.col_program.specs.Script.{as_u32, line_spelled};
 ghost use Rattle.col_types.specs.Kinds.{kind_of};
 ghost use Rattle.col_lines.specs.Lines.{script_line_of};
 ghost use Rattle.col_lines.specs.Plain.{tokens_of, data_of, plain_line};

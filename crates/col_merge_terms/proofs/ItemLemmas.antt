@@ -13,7 +13,7 @@ use Rattle.std.proofs.Math.ListN.{length-set}
 use Rattle.col_merge_texts.specs.Items.{lists_of, item_at, IsAmong}
 use Rattle.col_merge_texts.proofs.AmongLemmas.{all-in, some-same, get-set-same, get-set-other}
 use Rattle.col_merge_terms.specs.Numbering.{Numbers, AreGiven}
-use Rattle.col_merge_terms.proofs.PermutationLemmas.{along, all-moved}
+use Rattle.col_model.proofs.PermutationLaws.{along, all-moved}
 
 -- ---- one of the items
 

@@ -1,5 +1,3 @@
-pub mod PermutationLemmas
-pub mod SortLemmas
 pub mod KeyLemmas
 pub mod StreamLemmas
 pub mod StepLemmas

@@ -21,8 +21,8 @@ use Rattle.col_merge_terms.specs.Keys.{key_at, here_of, from_here}
 use Rattle.col_merge_terms.specs.Places.{AllStand, places_at}
 use Rattle.col_merge_terms.specs.Merging.{SegmentTerm, term_cmp, in_segment, in_order, has_key, terms_left, terms_here, terms_ahead, merged_step, key_of, places_of, is_on_key, TermsAscend, LeftAscends}
 use Rattle.col_merge_terms.specs.Moves.{StandsAscending, AreReady, AreTaken, AreLater, StandTogether, StandIf, IsLeast, first_key, walk_segments, merging_by}
-use Rattle.col_merge_terms.proofs.PermutationLemmas.{all-moved, all-parts, all-flat}
-use Rattle.col_merge_terms.proofs.SortLemmas.{sorted-moved, sorted-joined, moved-sorted, all-sorted}
+use Rattle.col_model.proofs.PermutationLaws.{all-moved, all-parts, all-flat}
+use Rattle.col_model.proofs.SortLaws.{sorted-moved, sorted-joined, moved-sorted, all-sorted}
 use Rattle.col_merge_terms.proofs.KeyLemmas.{term_cmp-total, term_cmp-apart, by_bytes, before-term, other-key, own-key}
 use Rattle.col_merge_terms.proofs.StreamLemmas.{left-behind, ahead-split}
 use Rattle.col_merge_terms.proofs.StepLemmas.{ahead-moved, top-key}

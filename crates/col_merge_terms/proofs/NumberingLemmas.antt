@@ -18,8 +18,8 @@ use Rattle.col_text.specs.Texts.{Texts}
 use Rattle.col_merge_terms.specs.Merging.{SegmentTerm, term_cmp, has_key, in_segment, in_order, terms_left, Merging, merged_step, is_on_key, places_of}
 use Rattle.col_merge_texts.specs.Items.{terms_of, item_at, IsAmong}
 use Rattle.col_merge_terms.specs.Numbering.{term_count, terms_from, terms_in_order, kept_terms, keys_of, Numbers, AreNumbered, merged_places, places_among}
-use Rattle.col_merge_terms.proofs.SortLemmas.{moved-sorted}
-use Rattle.col_merge_terms.proofs.PermutationLemmas.{all-moved}
+use Rattle.col_model.proofs.SortLaws.{moved-sorted}
+use Rattle.col_model.proofs.PermutationLaws.{all-moved}
 use Rattle.col_merge_texts.proofs.AmongLemmas.{in-all, in-map, some-same}
 use Rattle.col_merge_terms.proofs.ItemLemmas.{in-filter, in-moved, item-map, same-lists}
 use Rattle.col_merge_terms.proofs.PlaceLemmas.{genuine-all, in-all-terms, keys-ordered, never_fall-ordered, never_fall-filtered, keys-step, is_other, others-first, rising-terms, rising-filtered, place-dropped, drop-next, length-joined, length-distinct}

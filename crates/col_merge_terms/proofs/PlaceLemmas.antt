@@ -27,7 +27,7 @@ use Rattle.col_terms.proofs.WalkLemmas.{numbered-terms}
 use Rattle.col_merge_terms.specs.Merging.{SegmentTerm, term_cmp, has_key, in_segment, in_order}
 use Rattle.col_merge_texts.specs.Items.{item_at, IsAmong}
 use Rattle.col_merge_terms.specs.Numbering.{terms_from, terms_in_order, keys_of, KeysNeverFall}
-use Rattle.col_merge_terms.proofs.SortLemmas.{all-inserted, moved-sorted}
+use Rattle.col_model.proofs.SortLaws.{all-inserted, moved-sorted}
 use Rattle.col_merge_texts.proofs.AmongLemmas.{in-left, in-right, in-map}
 use Rattle.col_merge_terms.proofs.KeyLemmas.{by_bytes, own-key, key-behind, key-further, key-tied}
 

@@ -18,8 +18,8 @@ use Rattle.col_merge_terms.specs.declared.terms_with_segment_ord.TermsWithSegmen
 use Rattle.col_merge_terms.specs.Keys.{key_at, from_here}
 use Rattle.col_merge_terms.specs.Merging.{SegmentTerm, term_cmp, in_segment, in_order, terms_left, terms_ahead, TermsAscend, LeftAscends}
 use Rattle.col_merge_terms.specs.Moves.{StandsAscending, AreReady, AreTaken, IsBehind, IsFirstAt, first_key, walk_segments, stream_cmp}
-use Rattle.col_merge_terms.proofs.PermutationLemmas.{all-moved, flat-moved}
-use Rattle.col_merge_terms.proofs.SortLemmas.{sorted-moved, sorted-behind}
+use Rattle.col_model.proofs.PermutationLaws.{all-moved, flat-moved}
+use Rattle.col_model.proofs.SortLaws.{sorted-moved, sorted-behind}
 use Rattle.col_merge_terms.proofs.KeyLemmas.{term_cmp-total, term_cmp-apart, by_bytes, behind-key, behind-segment, key-behind, key-further}
 use Rattle.col_merge_terms.proofs.StreamLemmas.{stepped-ahead}
 

@@ -15,7 +15,6 @@ use Rattle.col_model.specs.Index.{RowSet, row_set, runs_of, are_in_runs, counts,
 use Rattle.col_model.specs.Version.{version_of, version_bytes}
 use Rattle.col_model.specs.Images.{images64, is_image_of_bool, is_image_of_u32}
 use Rattle.col_model.specs.U64List.{bitpacked_bytes}
-use Rattle.col_model.specs.Outcome.{refused, number_word, gen_number, outcome_of_merge}
 use Rattle.col_model.specs.Positions.{value_positions, index_range, range_positions, rows_at, starts_of, rows_with_value, next_row}
 use Rattle.col_model.specs.Order.{stack, shuffle, picks}
 use Rattle.col_common.specs.Ascending.{differences}
@@ -200,7 +199,7 @@ old_row_count : counts (2 ∷ bitpacked_bytes (0 ∷ 2 ∷ 2 ∷ 3 ∷ [])) 1 4 
 unfolding col_model_on_literals
 old_row_count = refl
 
--- ---- values and words
+-- ---- values
 
 as_bools : map (λ xs. images64 is_image_of_bool (bitpacked_bytes xs)) ((0 ∷ 1 ∷ []) ∷ (1 ∷ 5 ∷ 10 ∷ []) ∷ [])
     ≡ Some (0 ∷ 1 ∷ []) ∷ None ∷ []
@@ -211,15 +210,3 @@ as_u32s : map (λ xs. images64 is_image_of_u32 (bitpacked_bytes xs)) (((2 ^ 32 -
     ≡ Some ((2 ^ 32 - 1) ∷ []) ∷ None ∷ []
 unfolding col_model_on_literals
 as_u32s = refl
-
-number_words : map number_word (codes "0" ∷ codes "07" ∷ codes "70" ∷ [] ∷ codes "-1" ∷ codes "18446744073709551615"
-    ∷ codes "18446744073709551616" ∷ []) ≡ Some 0 ∷ None ∷ Some 70 ∷ None ∷ None ∷ Some (2 ^ 64 - 1) ∷ None ∷ []
-number_words = refl
-
-gen_words : map (gen_number (codes "gen" ∷ codes "out" ∷ codes "7" ∷ [])) (0 ∷ 1 ∷ []) ≡ Some 7 ∷ None ∷ []
-gen_words = refl
-
--- while `merge` is the only command
-gen_refused : outcome_of_merge (codes "gen" ∷ codes "out" ∷ codes "7" ∷ []) [] [] ≡ refused 2
-unfolding col_model_on_literals
-gen_refused = refl

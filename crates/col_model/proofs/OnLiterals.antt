@@ -19,19 +19,12 @@ use Rattle.col_model.specs.Column.{number_rows, term_column, column}
 use Rattle.col_model.specs.Keys.{key_of, keyed_length, key_table, file_footer, keys}
 use Rattle.col_model.specs.File.{parts_of}
 use Rattle.col_model.specs.Lookup.{docs_between}
-use Rattle.hex.specs.Hex.{encode_with, decode_pairs}
-use Rattle.serde_json.proofs.OnLiterals.{serde_json_on_literals}
 use Rattle.col_model.specs.NumericalType.{numerical_type}
 use Rattle.col_model.specs.Limits.{is_too_large}
 use Rattle.col_model.specs.Written.{written}
 use Rattle.col_model.specs.Recording.{content_after}
 use Rattle.col_model.specs.Order.{picks}
 use Rattle.col_model.specs.Merge.{joined_column, merged}
-use Rattle.col_model.specs.Script.{line_spelled_by, script_of}
-use Rattle.col_model.specs.Report.{report_of}
-use Rattle.col_model.specs.Check.{check_report}
-use Rattle.col_model.specs.Outcome.{outcome_of_merge, outcome_of_script, outcome}
-use Rattle.col_model.specs.GenScript.{gen_script}
 use Rattle.col_model.specs.CodeHits.{hit_from}
 use Rattle.col_model.specs.SortOrder.{sort_order}
 use Rattle.col_model.specs.Spelling.{column_bytes, keyed_length_bytes, key_table_bytes, footer_bytes, file_bytes}
@@ -45,7 +38,6 @@ unfolding is_utf8 chars encode digits parts_by_first parts_by_second items group
     ranges_at address_footer_at coded_values values128 sorted_items distinct_items cut terms
     listed_set runs_of run_set formed_set row_set row_offsets offset_counts_v1 shape counts number_rows
     term_column column key_of keyed_length key_table file_footer keys parts_of docs_between
-    encode_with decode_pairs serde_json_on_literals numerical_type is_too_large written
-    content_after picks joined_column merged line_spelled_by script_of report_of check_report outcome_of_merge
-    outcome_of_script outcome gen_script hit_from sort_order column_bytes keyed_length_bytes key_table_bytes footer_bytes file_bytes
+    numerical_type is_too_large written
+    content_after picks joined_column merged hit_from sort_order column_bytes keyed_length_bytes key_table_bytes footer_bytes file_bytes
 col_model_on_literals = tt

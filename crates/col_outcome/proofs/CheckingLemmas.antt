@@ -7,7 +7,7 @@ use Rattle.col_common.specs.declared.error.ColumnarError.TheVariants.{OutOfMemor
 use Rattle.col_file.specs.Files.{ReadsFile, IsExpected, RefusesFile, AnswersForHandle}
 use Rattle.col_file.specs.Readers.{SeenReader}
 use Rattle.col_file.proofs.ReadLemmas.{rose-later}
-use Rattle.col_model.specs.Check.{check_report}
+use Rattle.col_program.specs.Check.{check_report}
 use Rattle.col_model.specs.File.{Part, part_column, parts_of}
 use Rattle.col_model.specs.Keys.{FileKeys, keys}
 use Rattle.col_outcome.specs.Checking.{Report, ChecksFile, whole_reads}

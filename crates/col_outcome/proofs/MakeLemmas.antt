@@ -14,10 +14,10 @@ use Rattle.col_merge.specs.Parts.{told_part, told_parts}
 use Rattle.col_merge.specs.Turns.{refusal_of}
 use Rattle.col_model.specs.File.{Part, StandsFor, parts_of, part_of_table}
 use Rattle.col_model.specs.Merge.{Required, merged, row_counts}
-use Rattle.col_model.specs.Outcome.{segment_table, script_table, order_over}
+use Rattle.col_program.specs.Outcome.{segment_table, script_table, order_over}
 use Rattle.col_model.specs.Refusal.{Refusal, or_refuse, each_ok, invalid_data}
 use Rattle.col_model.specs.Refusal as refusals
-use Rattle.col_model.specs.Script.{Script, Find}
+use Rattle.col_program.specs.Script.{Script, Find}
 use Rattle.col_model.specs.Table.{Table}
 use Rattle.col_writer_columns.specs.Answers.{MayRefuse, answer_of}
 use Rattle.col_common.proofs.OnOkLemmas.{same-error}

@@ -15,10 +15,10 @@ use Rattle.col_model.specs.File.{Part, parts_of, part_column, StandsFor, table_o
 use Rattle.col_model.specs.Keys.{FileKeys, keys}
 use Rattle.col_model.specs.Merge.{Required, merged, row_counts}
 use Rattle.col_model.specs.Order.{Order, picks}
-use Rattle.col_model.specs.Outcome.{order_over}
+use Rattle.col_program.specs.Outcome.{order_over}
 use Rattle.col_model.specs.Refusal.{bad_order, too_large}
-use Rattle.col_model.specs.Report.{report_of}
-use Rattle.col_model.specs.Script.{Find}
+use Rattle.col_program.specs.Report.{report_of}
+use Rattle.col_program.specs.Script.{Find}
 use Rattle.col_model.specs.Table.{Table}
 use Rattle.col_writer_columns.specs.Answers.{MayRefuse}
 use Rattle.col_merge.proofs.MergedLemmas.{merged-bad_order}

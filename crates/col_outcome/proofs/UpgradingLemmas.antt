@@ -9,7 +9,7 @@ use Rattle.col_file.specs.Files.{ReadsFile, RefusesFile, AnswersForHandle, IsExp
 use Rattle.col_file.specs.Readers.{SeenReader}
 use Rattle.col_model.specs.File.{StandsFor, parts_of, table_of, table_of_part}
 use Rattle.col_model.specs.Keys.{keys}
-use Rattle.col_model.specs.Report.{report_of}
+use Rattle.col_program.specs.Report.{report_of}
 use Rattle.col_model.specs.Table.{Table}
 use Rattle.col_outcome.specs.Making.{IsMade}
 use Rattle.col_outcome.specs.Upgrading.{UpgradesOne}

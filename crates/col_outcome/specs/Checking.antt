@@ -5,7 +5,7 @@ use Rattle.std.specs.declared.vec.Vec.{Vec}
 use Rattle.col_common.specs.declared.error.ColumnarError.{ColumnarError}
 use Rattle.col_common.specs.Outside.{SeenFile}
 use Rattle.col_file.specs.Files.{AnswersForHandle}
-use Rattle.col_model.specs.Check.{check_report}
+use Rattle.col_program.specs.Check.{check_report}
 use Rattle.col_model.specs.File.{Part, parts_of}
 use Rattle.col_outcome.specs.Parts.{KeepsFile}
 

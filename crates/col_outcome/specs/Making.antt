@@ -5,10 +5,10 @@ use Rattle.col_common.specs.declared.error.ColumnarError.{ColumnarError}
 use Rattle.col_common.specs.declared.error.ColumnarError.TheVariants.{OutOfMemory, ReadFault}
 use Rattle.col_model.specs.File.{Part, StandsFor, part_of_table, parts_of}
 use Rattle.col_model.specs.Merge.{Required, merged, row_counts}
-use Rattle.col_model.specs.Outcome.{order_over}
+use Rattle.col_program.specs.Outcome.{order_over}
 use Rattle.col_model.specs.Refusal.{Refusal, ◌>>=◌, or_refuse, each_ok, invalid_data}
-use Rattle.col_model.specs.Report.{report_of}
-use Rattle.col_model.specs.Script.{Find}
+use Rattle.col_program.specs.Report.{report_of}
+use Rattle.col_program.specs.Script.{Find}
 use Rattle.col_model.specs.Table.{Table}
 use Rattle.col_writer_columns.specs.Answers.{answer_of, MayRefuse}
 use Rattle.col_common.specs.Outside.{SeenFile}

@@ -3,7 +3,7 @@ use Rattle.std.specs.Prelude.{◌≡◌, ◌⊎◌, ◌≤◌, ◌^◌, ℕ, Lis
 use Rattle.col_common.specs.declared.error.ColumnarError.{ColumnarError}
 use Rattle.col_common.specs.declared.error.ColumnarError.TheVariants.{OutOfMemory, BadOrder, TooLarge}
 use Rattle.col_model.specs.Order.{picks}
-use Rattle.col_model.specs.Outcome.{order_over}
+use Rattle.col_program.specs.Outcome.{order_over}
 use Rattle.col_order.specs.RowOrders.{order_of}
 use Rattle.col_order.specs.declared.merge_row_order.MergeRowOrder.{MergeRowOrder}
 

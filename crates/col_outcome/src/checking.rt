@@ -1,7 +1,7 @@
 //! A check of an input.
 ghost use Rattle.std.specs.Prelude.{◌≡◌, length, map, vec_len};
 ghost use Rattle.col_file.specs.Files.{AnswersForHandle, ReadsFile};
-ghost use Rattle.col_model.specs.Check.{check_report};
+ghost use Rattle.col_program.specs.Check.{check_report};
 ghost use Rattle.col_model.specs.File.{parts_of};
 ghost use Rattle.col_outcome.specs.Checking.{ChecksFile, ChecksInput};
 

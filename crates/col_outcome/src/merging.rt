@@ -3,10 +3,10 @@ ghost use Rattle.std.specs.Prelude.{◌≡◌, ◌≤◌, ◌+◌, [], map, leng
 ghost use Rattle.std.specs.List.{AllByRecursion};
 ghost use Rattle.col_model.specs.File.{StandsFor, table_of};
 ghost use Rattle.col_model.specs.Merge.{merged, row_counts};
-ghost use Rattle.col_model.specs.Outcome.{order_over, script_table, segment_table};
+ghost use Rattle.col_program.specs.Outcome.{order_over, script_table, segment_table};
 ghost use Rattle.col_model.specs.Refusal.{each_ok};
-ghost use Rattle.col_model.specs.Report.{report_of};
-ghost use Rattle.col_model.specs.Script as model;
+ghost use Rattle.col_program.specs.Report.{report_of};
+ghost use Rattle.col_program.specs.Script as model;
 ghost use Rattle.col_lines.specs.Finds.{find_of};
 ghost use Rattle.col_merge_plan.specs.Slots.{required_of};
 ghost use Rattle.col_model.specs.Table.{Table};

@@ -2,9 +2,9 @@
 ghost use Rattle.std.specs.Prelude.{◌≡◌, map, List, None};
 ghost use Rattle.std.specs.List.{AllZip};
 ghost use Rattle.col_model.specs.File.{StandsFor};
-ghost use Rattle.col_model.specs.Outcome.{segment_table};
+ghost use Rattle.col_program.specs.Outcome.{segment_table};
 ghost use Rattle.col_model.specs.Refusal.{each_ok};
-ghost use Rattle.col_model.specs.Script as model;
+ghost use Rattle.col_program.specs.Script as model;
 ghost use Rattle.col_model.specs.Written.{written};
 ghost use Rattle.col_script.specs.Segments.{filled, segment_of};
 ghost use Rattle.col_outcome.specs.Making.{Makes};

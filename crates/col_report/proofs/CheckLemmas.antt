@@ -1,12 +1,12 @@
 -- The lines of entries of which it is told whether they are columns.
 use Rattle.std.proofs.Common.{◌≡◌, ◌∙◌, ℕ, zero, suc, ◌+◌, ◌<◌, Bool, List, [], ◌∷◌, ◌++◌, map, length, take, get_or, Option, Some, None, IfSome, refl, sym, ap, subst, arith}
 use Rattle.serde_json.specs.Data.{Data}
-use Rattle.col_model.specs.Check.{entry_line, check_report}
+use Rattle.col_program.specs.Check.{entry_line, check_report}
 use Rattle.col_model.specs.File.{part_column, parts_of}
 use Rattle.col_model.specs.Keys.{Entry, FileKeys, keys}
-use Rattle.col_model.specs.Report.{rows_line, lines_text, Prints}
+use Rattle.col_program.specs.Report.{rows_line, lines_text, Prints}
 use Rattle.col_model.proofs.FileLaws.{parts_of-keys}
-use Rattle.col_model.proofs.ReportLaws.{Prints-then}
+use Rattle.col_program.proofs.ReportLaws.{Prints-then}
 use Rattle.col_file.specs.Checks.{is_column}
 use Rattle.col_file.specs.Files.{IsExpected}
 use Rattle.col_file.specs.Handles.{Handle, listed}

@@ -5,8 +5,8 @@ use Rattle.json.specs.Print.{quoted, escape_byte}
 use Rattle.serde_json.specs.Data.{Data, null}
 use Rattle.serde_json.specs.Written.{compact_text}
 use Rattle.col_model.specs.ColumnType.{ColumnType, type_name}
-use Rattle.col_model.specs.Report.{lines_text, count_data, list_data, Prints}
-use Rattle.col_model.specs.Script as script
+use Rattle.col_program.specs.Report.{lines_text, count_data, list_data, Prints}
+use Rattle.col_program.specs.Script as script
 use Rattle.col_report.specs.Printed.{Spells, more_text}
 use Rattle.col_report.specs.Reported.{found_line, find_head}
 use Rattle.col_report.proofs.RowLemmas.{items-more, more-value, more-none}

@@ -5,12 +5,12 @@ use Rattle.serde_json.specs.Data.{Data}
 use Rattle.col_model.specs.Dictionary.{cut}
 use Rattle.col_model.specs.Index.{Shape, empty_shape, full_shape, optional_shape, multivalued_shape}
 use Rattle.col_model.specs.Limits.{cell_count}
-use Rattle.col_model.specs.Report.{column_line, column_lines, row_lines, Prints}
+use Rattle.col_program.specs.Report.{column_line, column_lines, row_lines, Prints}
 use Rattle.col_model.specs.Table.{Cell, Column}
 use Rattle.col_model.proofs.ListLaws.{sum-cons, cell_count-cons}
 use Rattle.col_column.specs.Columns.{IsCounted, rows_by}
 use Rattle.col_report.specs.Printed.{filled_lines}
-use Rattle.col_model.proofs.ReportLaws.{Prints-then}
+use Rattle.col_program.proofs.ReportLaws.{Prints-then}
 
 length-cells : {T : Type 0} (cell : T → Cell) (xs : List T) → length (map cell xs) ≡ length xs
 length-cells cell [] = refl

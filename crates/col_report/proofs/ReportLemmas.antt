@@ -10,8 +10,8 @@ use Rattle.col_lines.specs.Finds as finds
 use Rattle.col_lines.specs.declared.lookup.Find.{Find}
 use Rattle.col_model.specs.File.{for_each, table_of}
 use Rattle.col_model.specs.Keys.{FileKeys, keys}
-use Rattle.col_model.specs.Report.{lines_text, rows_line, column_lines, found_data, find_line, report_of, Prints}
-use Rattle.col_model.specs.Script as script
+use Rattle.col_program.specs.Report.{lines_text, rows_line, column_lines, found_data, find_line, report_of, Prints}
+use Rattle.col_program.specs.Script as script
 use Rattle.col_model.specs.Table.{Content, Column, Table}
 use Rattle.col_common.specs.Outside.{SeenFile}
 use Rattle.col_file.specs.Files.{IsExpected, RefusesFile}
@@ -19,7 +19,7 @@ use Rattle.col_report.specs.Opened.{opened, whole_entry, table_opened, ColumnsAr
 use Rattle.col_report.specs.Reported.{found_in, found_line}
 use Rattle.col_report.specs.declared.open.OpenColumn.{OpenColumn}
 use Rattle.col_report.proofs.ReadLemmas.{is_typed, table-is, table-none}
-use Rattle.col_model.proofs.ReportLaws.{Prints-then}
+use Rattle.col_program.proofs.ReportLaws.{Prints-then}
 
 -- ---- lines of lists
 

@@ -9,8 +9,8 @@ use Rattle.serde_json.specs.Data.{Data, string}
 use Rattle.serde_json.specs.Written.{compact_text, items_text}
 use Rattle.serde_json.specs.View.{items_of}
 use Rattle.col_model.specs.ColumnType.{ColumnType}
-use Rattle.col_model.proofs.ReportLaws.{Prints-none, Prints-then}
-use Rattle.col_model.specs.Report.{lines_text, row_line, count_data, list_data, cell_data, Prints}
+use Rattle.col_program.proofs.ReportLaws.{Prints-none, Prints-then}
+use Rattle.col_program.specs.Report.{lines_text, row_line, count_data, list_data, cell_data, Prints}
 use Rattle.col_model.specs.Table.{Cell}
 use Rattle.col_model.specs.Index.{Shape}
 use Rattle.col_index.specs.Offsets.{positions_if_any}

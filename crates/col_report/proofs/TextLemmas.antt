@@ -12,7 +12,7 @@ use Rattle.serde_json.specs.Written.{number_text}
 use Rattle.serde_json.specs.Find.{of_integer}
 use Rattle.serde_json.specs.Data.{number, string}
 use Rattle.col_model.specs.ColumnType as types
-use Rattle.col_model.specs.Report.{cell_data, text_data}
+use Rattle.col_program.specs.Report.{cell_data, text_data}
 use Rattle.col_types.specs.Cells.{unsigned_cell, bool_cell}
 use Rattle.col_report.specs.Printed.{Spells, digits_data}
 

@@ -5,7 +5,7 @@ use Rattle.serde_json.specs.Data.{Data, boolean, string}
 use Rattle.col_file.specs.Handles.{Handle, listed}
 use Rattle.col_model.specs.ColumnType.{type_name}
 use Rattle.col_model.specs.Keys.{FileKeys}
-use Rattle.col_model.specs.Report.{list_data, rows_line}
+use Rattle.col_program.specs.Report.{list_data, rows_line}
 
 -- a name with its handle, as a list of columns has it
 abbrev pub listed_name : String Global × Handle → List ℕ × Handle

@@ -4,7 +4,7 @@ use Rattle.hex.specs.Hex.{encode_lower}
 use Rattle.serde_json.specs.Data.{Data, string}
 use Rattle.serde_json.specs.Written.{compact_text}
 use Rattle.col_model.specs.ColumnType.{ColumnType}
-use Rattle.col_model.specs.Report.{list_data, row_line}
+use Rattle.col_program.specs.Report.{list_data, row_line}
 use Rattle.col_model.specs.Table.{Cell}
 
 -- the bytes grew by the text of a value

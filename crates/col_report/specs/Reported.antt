@@ -4,8 +4,8 @@ use Rattle.json.specs.Print.{quoted}
 use Rattle.serde_json.specs.Data.{Data, string, null}
 use Rattle.col_model.specs.ColumnType.{ColumnType, type_name}
 use Rattle.col_model.specs.Lookup.{docs_between}
-use Rattle.col_model.specs.Report.{count_data, list_data}
-use Rattle.col_model.specs.Script as script
+use Rattle.col_program.specs.Report.{count_data, list_data}
+use Rattle.col_program.specs.Script as script
 use Rattle.col_model.specs.Table.{Content, Column}
 use Rattle.col_dynamic.specs.Dynamic.{type_of, content_of}
 use Rattle.col_dynamic.specs.declared.dynamic_column.DynamicColumn.{DynamicColumn}

@@ -2,7 +2,7 @@
 ghost use Rattle.std.specs.Prelude.{OnOk};
 ghost use Rattle.col_model.specs.ColumnType.{ColumnType};
 ghost use Rattle.col_model.specs.ColumnType as types;
-ghost use Rattle.col_model.specs.Report.{cell_data};
+ghost use Rattle.col_program.specs.Report.{cell_data};
 ghost use Rattle.col_model.specs.Table.{Cell, number};
 ghost use Rattle.col_types.specs.Cells.{unsigned_cell, bool_cell};
 ghost use Rattle.col_report.specs.Printed.{Spells};

@@ -3,9 +3,9 @@ ghost use Rattle.std.specs.Prelude.{◌≡◌, ◌⊎◌, ◌∷◌, [], length,
 ghost use Rattle.serde_json.specs.View.{view};
 ghost use Rattle.col_file.specs.Files.{AnswersForHandle};
 ghost use Rattle.col_file.specs.Readers.{Reads};
-ghost use Rattle.col_model.specs.Check.{check_report};
+ghost use Rattle.col_program.specs.Check.{check_report};
 ghost use Rattle.col_model.specs.File.{parts_of};
-ghost use Rattle.col_model.specs.Report.{Prints};
+ghost use Rattle.col_program.specs.Report.{Prints};
 ghost use Rattle.col_report.specs.Checked.{listed_name, lines_told, told_line, told_lines};
 
 use crate::report::rows_value;

@@ -3,7 +3,7 @@ ghost use Rattle.std.specs.Prelude.{◌≡◌, ◌∷◌, ◌++◌, [], map, str
 ghost use Rattle.serde_json.specs.Data.{null};
 ghost use Rattle.col_dynamic.specs.Dynamic.{type_of, content_of};
 ghost use Rattle.col_lines.specs.Finds as finds;
-ghost use Rattle.col_model.specs.Report.{count_data, list_data, Prints};
+ghost use Rattle.col_program.specs.Report.{count_data, list_data, Prints};
 ghost use Rattle.col_report.specs.Printed.{Spells, more_text};
 ghost use Rattle.col_report.specs.Reported.{docs_data, found_in, found_line, find_head};
 

@@ -6,7 +6,7 @@ ghost use Rattle.col_column.specs.Columns.{rows_of_values};
 ghost use Rattle.col_dynamic.specs.Dynamic.{type_of, content_of};
 ghost use Rattle.col_model.specs.ColumnType as types;
 ghost use Rattle.col_model.specs.Limits.{cell_count};
-ghost use Rattle.col_model.specs.Report.{column_line, column_lines, Prints};
+ghost use Rattle.col_program.specs.Report.{column_line, column_lines, Prints};
 ghost use Rattle.col_model.specs.Table.{Cell};
 ghost use Rattle.col_text.specs.Texts.{texts_content};
 ghost use Rattle.col_report.specs.Printed.{filled_lines};

@@ -6,7 +6,7 @@ ghost use Rattle.col_file.specs.Files.{AnswersForHandle};
 ghost use Rattle.col_file.specs.Readers.{Reads};
 ghost use Rattle.col_lines.specs.Finds as wanted;
 ghost use Rattle.col_model.specs.File.{table_of};
-ghost use Rattle.col_model.specs.Report.{rows_line, column_lines, find_line, report_of, Prints};
+ghost use Rattle.col_program.specs.Report.{rows_line, column_lines, find_line, report_of, Prints};
 ghost use Rattle.col_report.specs.Opened.{opened, column_typed, table_opened, ColumnsAreRead};
 
 use crate::found::{push_absent, push_find};

@@ -2,7 +2,7 @@
 ghost use Rattle.std.specs.Prelude.{◌≡◌, ◌<◌, ◌≤◌, ◌∷◌, ◌++◌, [], length, map, slice_range, OnOk};
 ghost use Rattle.std.specs.List.{enumerate_from};
 ghost use Rattle.col_column.specs.Columns.{AreOf, num_docs_in, row_at, rows_of_values};
-ghost use Rattle.col_model.specs.Report.{cell_data, row_line, Prints};
+ghost use Rattle.col_program.specs.Report.{cell_data, row_line, Prints};
 ghost use Rattle.col_report.specs.Printed.{filled_lines, more_text};
 
 use crate::cells::PrintCells;

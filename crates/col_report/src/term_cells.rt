@@ -2,7 +2,7 @@
 ghost use Rattle.std.specs.Prelude.{OnOk};
 ghost use Rattle.col_model.specs.Column.{term_cell};
 ghost use Rattle.col_model.specs.ColumnType as types;
-ghost use Rattle.col_model.specs.Report.{text_data};
+ghost use Rattle.col_program.specs.Report.{text_data};
 ghost use Rattle.col_report.specs.Printed.{Spells, digits_data};
 
 use crate::cells::PrintCells;

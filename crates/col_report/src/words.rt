@@ -1,7 +1,7 @@
 //! The words for cardinalities.
 ghost use Rattle.std.specs.Prelude.{◌≡◌};
 ghost use Rattle.col_index.specs.Versions.{cardinality_of};
-ghost use Rattle.col_model.specs.Report.{cardinality_name};
+ghost use Rattle.col_model.specs.Table.{cardinality_name};
 
 use col_index::Cardinality;
 

@@ -8,7 +8,7 @@ use Rattle.col_model.specs.Merge.{Required}
 use Rattle.col_model.specs.Recording.{Call, content_after, content_after_all}
 use Rattle.col_model.specs.Refusal.{Refusal, ◌>>=◌}
 use Rattle.col_model.specs.Written.{Recorded}
-use Rattle.col_model.specs.Script.{Find, Line, segment, call, require, order, lookup, segments_in, required_in, order_in, find_in}
+use Rattle.col_program.specs.Script.{Find, Line, segment, call, require, order, lookup, segments_in, required_in, order_in, find_in}
 use Rattle.col_script.specs.Segments.{RecordedContent, Filled, filled, answered, content_behind, content_behind_all, after_call, after_calls}
 use Rattle.col_script.specs.Scripts.{summary_with, summary_from, has_segment, last_with}
 

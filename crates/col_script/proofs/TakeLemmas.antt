@@ -9,8 +9,8 @@ use Rattle.col_common.specs.Reading.{◌>>=◌, only_if}
 use Rattle.col_common.specs.declared.row.RowAddr.{RowAddr}
 use Rattle.col_model.specs.File.{for_each}
 use Rattle.col_model.specs.Recording.{Call}
-use Rattle.col_model.specs.Script.{Line, segment, call, require, order, lookup, line_spelled, pieces_of, script_of, script_of_lines, segments_in, required_in, order_in, find_in}
-use Rattle.col_model.specs.Script as model
+use Rattle.col_program.specs.Script.{Line, segment, call, require, order, lookup, line_spelled, pieces_of, script_of, script_of_lines, segments_in, required_in, order_in, find_in}
+use Rattle.col_program.specs.Script as model
 use Rattle.col_types.specs.declared.column_type.ColumnType as declared_types
 use Rattle.col_lines.specs.Finds.{find_of}
 use Rattle.col_lines.specs.declared.lookup.Find.{Find}

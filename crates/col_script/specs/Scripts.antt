@@ -7,8 +7,8 @@ use Rattle.col_common.specs.Reading.{◌>>=◌, only_if}
 use Rattle.col_model.specs.File.{for_each}
 use Rattle.col_model.specs.Merge.{Required}
 use Rattle.col_model.specs.Recording.{Call}
-use Rattle.col_model.specs.Script.{Find, Line, segments_in, required_in, order_in, find_in, line_spelled}
-use Rattle.col_model.specs.Script as script
+use Rattle.col_program.specs.Script.{Find, Line, segments_in, required_in, order_in, find_in, line_spelled}
+use Rattle.col_program.specs.Script as script
 use Rattle.col_lines.specs.Finds.{find_of}
 use Rattle.col_lines.specs.Lines.{required_column_of}
 use Rattle.col_order.specs.Orders.{address_of}

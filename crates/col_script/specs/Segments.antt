@@ -3,7 +3,7 @@ use Rattle.std.specs.Prelude.{ℕ, List, [], Option, Some, None, Result, Ok, Err
 use Rattle.col_common.specs.declared.error.ColumnarError.{ColumnarError}
 use Rattle.col_model.specs.Recording.{Call, content_after, content_after_all}
 use Rattle.col_model.specs.Refusal.{Refusal}
-use Rattle.col_model.specs.Script as script
+use Rattle.col_program.specs.Script as script
 use Rattle.col_model.specs.Written.{Recorded}
 use Rattle.col_writer_columns.specs.Answers.{answer_of}
 use Rattle.col_script.specs.declared.segment.Segment.{Segment}

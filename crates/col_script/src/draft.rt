@@ -1,7 +1,7 @@
 //! What the lines of a script say so far.
 ghost use Rattle.std.specs.Prelude.{◌≡◌, ◌++◌, Some, IfOk, OnOk, map, [], ◌∷◌};
 ghost use Rattle.std.specs.Option.{option_to_list};
-ghost use Rattle.col_model.specs.Script as model;
+ghost use Rattle.col_program.specs.Script as model;
 ghost use Rattle.col_lines.specs.Finds.{find_of};
 ghost use Rattle.col_lines.specs.Lines.{script_line_of, call_of, required_column_of};
 ghost use Rattle.col_order.specs.Orders.{address_of};

@@ -1,7 +1,7 @@
 //! Scripts: segments with what was recorded, required columns, an order and lookups.
 ghost use Rattle.std.specs.Prelude.{◌≡◌, ◌==◌, ◌<◌, ℕ, List, [], ◌∷◌, length, position, IfOk, IfSome};
 ghost use Rattle.std.specs.List.{slice_split};
-ghost use Rattle.col_model.specs.Script.{script_of};
+ghost use Rattle.col_program.specs.Script.{script_of};
 ghost use Rattle.col_script.specs.Scripts.{IsScriptOf, pieces_left};
 
 use crate::draft::Draft;

@@ -2,10 +2,10 @@
 use Rattle.std.proofs.Common.{◌≡◌, ◌==◌, ◌∙◌, ℕ, Option, Some, None, Ok, Err, IfSome, List, [], ◌∷◌, Result, IfErr, true, false, Contains, refl, sym, zero, suc, arith}
 use Rattle.std.specs.Prelude.{◌||◌}
 use Rattle.col_common.specs.Outside.{Told, SeenFile, SeenSink}
-use Rattle.col_model.specs.GenScript.{gen_script}
-use Rattle.col_model.specs.Outcome.{Outcome, script_outcome}
-use Rattle.col_model.specs.Script as scripts
-use Rattle.col_model.specs.Script.{script_of}
+use Rattle.col_program.specs.GenScript.{gen_script}
+use Rattle.col_program.specs.Outcome.{Outcome, script_outcome}
+use Rattle.col_program.specs.Script as scripts
+use Rattle.col_program.specs.Script.{script_of}
 use Rattle.col_script.specs.Scripts.{IsScript, IsScriptOf}
 use Rattle.col_script.specs.declared.script.Script.{Script}
 use Rattle.col_outcome.specs.Parts.{all_told, SomeFileRose}

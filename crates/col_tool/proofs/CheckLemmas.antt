@@ -6,9 +6,9 @@ use Rattle.std.specs.declared.vec.Vec.{Vec}
 use Rattle.col_common.specs.Outside.{SeenFile, SeenSink, Appends}
 use Rattle.col_common.specs.Refused.{code_of}
 use Rattle.col_common.specs.declared.error.ColumnarError.{ColumnarError}
-use Rattle.col_model.specs.Check.{check_report}
+use Rattle.col_program.specs.Check.{check_report}
 use Rattle.col_model.specs.File.{parts_of}
-use Rattle.col_model.specs.Outcome.{checked, outcome_of_check}
+use Rattle.col_program.specs.Outcome.{checked, outcome_of_check}
 use Rattle.col_outcome.specs.Checking.{Report, IsReadOnce, ChecksInput}
 use Rattle.col_outcome.specs.Parts.{all_told, AllKeep, SomeFileRose}
 use Rattle.col_tool.specs.Answer.{Leaves, KeepsOutputs, Delivers}

@@ -6,9 +6,9 @@ use Rattle.col_common.specs.Outside.{Told, Takes, IsAtEnd}
 use Rattle.col_common.specs.Refused.{code_of}
 use Rattle.col_common.specs.declared.error.ColumnarError.{ColumnarError}
 use Rattle.col_common.specs.declared.error.ColumnarError.TheVariants.{OutOfMemory, ReadFault, WriteFault, InvalidData, BadOrder, BadName, RequiredConflict, CannotCoerce, NumericalConflict, TooLarge, NoCodec, ForcedType, DocOrder, DocOutOfRange, TieBreakerStart, NotUtf8}
-use Rattle.col_model.specs.Outcome.{max_script_length}
+use Rattle.col_program.specs.Outcome.{max_script_length}
 use Rattle.col_model.specs.Refusal.{Refusal}
-use Rattle.col_model.specs.Script.{script_of}
+use Rattle.col_program.specs.Script.{script_of}
 use Rattle.col_outcome.specs.Making.{SegmentsDecide, refusal_of}
 use Rattle.col_outcome.specs.declared.merging.FileAndReport.{FileAndReport}
 use Rattle.col_tool.specs.Answer.{ScriptDecidesFirst}

@@ -6,7 +6,7 @@ use Rattle.col_common.specs.Refused.{code_of}
 use Rattle.col_common.specs.declared.error.ColumnarError.{ColumnarError}
 use Rattle.col_common.specs.declared.error.ColumnarError.TheVariants.{OutOfMemory, ReadFault, InvalidData}
 use Rattle.col_file.specs.Files.{RefusesFile, IsExpected}
-use Rattle.col_model.specs.Outcome.{Outcome, IsDone, IsOutput, refused}
+use Rattle.col_program.specs.Outcome.{Outcome, IsDone, IsOutput, refused}
 use Rattle.col_outcome.specs.Parts.{all_told, SomeFileRose}
 use Rattle.col_tool.specs.Answer.{refusals, IsAnswer, Leaves, Delivers}
 use Rattle.col_tool.specs.Statuses.{check_statuses}

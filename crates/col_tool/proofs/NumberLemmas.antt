@@ -9,7 +9,7 @@ use Rattle.std.specs.Str.Parse.{digits_value, ParsesUnsigned}
 use Rattle.std.proofs.lemmas.Bool.{lt-ltb, ltb-true}
 use Rattle.std.proofs.lemmas.Str.Parse.{numerals_by_value, tells_all_ascii_digits, parse_digits}
 use Rattle.col_common.specs.Reading.{only_if}
-use Rattle.col_model.specs.Outcome.{number_word}
+use Rattle.col_program.specs.Outcome.{number_word}
 
 digits-all : (s : List ℕ) → list_all is_ascii_digit s ≡ all_ascii_digits s
 digits-all [] = refl

@@ -1,7 +1,7 @@
 -- Worked runs of upgrades, computed: the report on the file's table, or the status.
 use Rattle.std.specs.Prelude.{◌≡◌, ℕ, List, [], ◌∷◌, ◌++◌, codes, flat_map, refl}
-use Rattle.col_model.proofs.OnLiterals.{col_model_on_literals}
-use Rattle.col_model.specs.Outcome.{Outcome, done, refused, outcome}
+use Rattle.col_program.proofs.OnLiterals.{col_program_on_literals}
+use Rattle.col_program.specs.Outcome.{Outcome, done, refused, outcome}
 use Rattle.col_tool.specs.Upgrades.{outcome_of_words}
 
 -- the status, or the report's bytes
@@ -41,34 +41,34 @@ broken_bytes = 0x05 ∷ 0x81 ∷ 0x83 ∷ 0x61 ∷ 0x00 ∷ 0x01 ∷ 0x81 ∷ 0x
 
 several_values : answer_of (outcome_of_words upgrade_words (old_bytes ∷ []) [])
     ≡ [] ∷ lines (codes "[\"rows\",3]" ∷ codes "[\"column\",\"a\",\"u64\",\"mult\",3]" ∷ []) ∷ []
-unfolding outcome_of_words col_model_on_literals
+unfolding outcome_of_words col_program_on_literals
 several_values = refl
 
 without_values : answer_of (outcome_of_words upgrade_words (without_bytes ∷ []) [])
     ≡ [] ∷ lines (codes "[\"rows\",3]" ∷ codes "[\"column\",\"s\",\"str\",\"opt\",0]" ∷ []) ∷ []
-unfolding outcome_of_words col_model_on_literals
+unfolding outcome_of_words col_program_on_literals
 without_values = refl
 
 -- a script is not read
 other_script : outcome_of_words upgrade_words (old_bytes ∷ []) (codes "[") ≡ outcome_of_words upgrade_words (old_bytes ∷ []) []
-unfolding outcome_of_words col_model_on_literals
+unfolding outcome_of_words col_program_on_literals
 other_script = refl
 
 no_column : answer_of (outcome_of_words upgrade_words (broken_bytes ∷ []) []) ≡ (6 ∷ []) ∷ []
-unfolding outcome_of_words col_model_on_literals
+unfolding outcome_of_words col_program_on_literals
 no_column = refl
 
 no_key_table : answer_of (outcome_of_words upgrade_words (cut_bytes ∷ []) []) ≡ (6 ∷ []) ∷ []
-unfolding outcome_of_words col_model_on_literals
+unfolding outcome_of_words col_program_on_literals
 no_key_table = refl
 
 no_input : answer_of (outcome_of_words upgrade_words [] []) ≡ (2 ∷ []) ∷ []
-unfolding outcome_of_words col_model_on_literals
+unfolding outcome_of_words col_program_on_literals
 no_input = refl
 
 two_inputs : answer_of (outcome_of_words (codes "upgrade" ∷ codes "out" ∷ codes "in" ∷ codes "in" ∷ []) (old_bytes ∷ old_bytes ∷ []) [])
     ≡ (2 ∷ []) ∷ []
-unfolding outcome_of_words col_model_on_literals
+unfolding outcome_of_words col_program_on_literals
 two_inputs = refl
 
 -- other words come to what they come to without an upgrade

@@ -16,10 +16,10 @@ use Rattle.col_model.specs.File.{part_of_table}
 use Rattle.col_model.specs.Limits.{is_too_large, is_of_type}
 use Rattle.col_model.specs.Order.{Order, picks}
 use Rattle.col_model.specs.Merge.{Required, kept_columns, all_cells, shared_type, required_type, joined_type, joined_content, has_bad_column, joined_column, all_slots, contradicts, required_refusal, row_counts, merged}
-use Rattle.col_model.specs.Outcome.{order_over, segment_table, script_table}
+use Rattle.col_program.specs.Outcome.{order_over, segment_table, script_table}
 use Rattle.col_model.specs.Recording.{Call, recorded, typed, tied, entry_of, forces_other, is_late, denies, content_after, content_after_all}
 use Rattle.col_model.specs.Refusal.{Refusal, status_of, ◌>>=◌, refuse_if, or_refuse, each_ok, invalid_data, bad_order, bad_name, required_conflict, cannot_coerce, numerical_conflict, too_large, forced_type, doc_order, doc_out_of_range, tie_breaker_start}
-use Rattle.col_model.specs.Script.{Script, Segment}
+use Rattle.col_program.specs.Script.{Script, Segment}
 use Rattle.col_model.specs.Written.{Entry, Recorded, entry_content, entry_type, is_past_docs, is_past_ties, is_permutation, has_zero, written, written_column}
 use Rattle.col_model.proofs.ConflictLaws.{same_Err, ok_not_err}
 use Rattle.col_model.proofs.StackSeen.{none-bad}

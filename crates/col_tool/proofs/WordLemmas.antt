@@ -2,7 +2,7 @@
 use Rattle.std.proofs.Common.{◌≡◌, ◌≤◌, ◌<◌, ◌==◌, ℕ, Option, None, List, [], ◌∷◌, length, String, string_bytes, bytes_eq, codes, slice_index_or, arith, refl, ap, ◌∙◌}
 use Rattle.std.specs.Prelude.{◌&&◌}
 use Rattle.std.specs.declared.alloc.Global.{Global}
-use Rattle.col_model.specs.Outcome.{gen_number}
+use Rattle.col_program.specs.Outcome.{gen_number}
 use Rattle.col_tool.specs.Expected.{texts, number_if}
 
 -- three words

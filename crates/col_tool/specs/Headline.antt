@@ -1,7 +1,7 @@
 -- What a run leaves in its two sinks, the output and the report.
 use Rattle.std.specs.Prelude.{◌≡◌, ◌<◌, ℕ, List, length, take}
 use Rattle.col_common.specs.Outside.{SeenSink, Appends}
-use Rattle.col_model.specs.Outcome.{Output, IsOutput}
+use Rattle.col_program.specs.Outcome.{Output, IsOutput}
 
 -- The output grew by what goes to it, as a file that stands for the table, and the report by these
 -- lines.

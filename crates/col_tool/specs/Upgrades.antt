@@ -2,8 +2,8 @@
 -- docs/RULES.md, The command line, Upgraded files and Statuses.
 use Rattle.std.specs.Prelude.{ℕ, ◌==◌, ◌&&◌, Bool, true, false, List, [], ◌∷◌, length, codes, bytes_eq, if◌then◌else◌, Option, Some, None}
 use Rattle.col_model.specs.File.{table_of}
-use Rattle.col_model.specs.Outcome.{Outcome, done, refused, as_file, outcome}
-use Rattle.col_model.specs.Report.{report_of}
+use Rattle.col_program.specs.Outcome.{Outcome, done, refused, as_file, outcome}
+use Rattle.col_program.specs.Report.{report_of}
 use Rattle.col_model.specs.Table.{Table}
 
 -- `upgrade OUT IN`, with one input

@@ -1,4 +1,4 @@
-//! The types of columns, and single values of them. Contracts see a type as the definitions have
+//! The types of columns, and single values of them, terms by their bytes among these. Contracts see a type as the definitions have
 //! it, and a value as the cell that stands in a table.
 #![tactic(auto)]
 
@@ -10,6 +10,7 @@ mod numerical_type;
 mod numerical_value;
 mod space_usage;
 mod stored;
+mod term_bytes;
 
 pub use coerce::Coerce;
 pub use column_type::ColumnType;
@@ -23,3 +24,4 @@ pub use numerical_type::NumericalType;
 pub use numerical_value::NumericalValue;
 pub use space_usage::ColumnSpaceUsage;
 pub use stored::{StoredAsU64, StoredAsU128};
+pub use term_bytes::TermBytes;

@@ -26,7 +26,6 @@ pub use Rattle.col_model.specs.Order
 pub use Rattle.col_model.specs.Positions
 pub use Rattle.col_model.specs.Recording
 pub use Rattle.col_model.specs.Refusal
-pub use Rattle.col_model.specs.Report
 pub use Rattle.col_model.specs.SortOrder
 pub use Rattle.col_model.specs.Sorted
 pub use Rattle.col_model.specs.Sound

@@ -1,3 +1,4 @@
 //! Facets: how often each cell of a column stands in the rows of some documents.
 
-pub use col_facet::{FacetCell, FacetCount, TermBytes, facet, merge_facets, num_rows, top_facets};
+pub use col_dynamic::TermBytes;
+pub use col_facet::{FacetCell, FacetCount, facet, facet_all, merge_facets, top_facets};

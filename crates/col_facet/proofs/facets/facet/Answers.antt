@@ -9,7 +9,7 @@ use Rattle.col_column.specs.IpValues.{ip_values_of}
 use Rattle.col_dynamic.specs.declared.dynamic_column.DynamicColumn.TheVariants as columns
 use Rattle.col_numbers.specs.NumValues.{num_values_of}
 use Rattle.col_text.specs.Texts.{Texts}
-use Rattle.col_facet.specs.Facets.{facets_of, facet_cell}
+use Rattle.col_facet.specs.Facets.{facets_of}
 use Rattle.col_facet.specs.Tables.{term_at}
 use Rattle.col_facet.specs.Values.{values_in_rows}
 use Rattle.col_facet.proofs.facets.facet.Goals as goal
@@ -22,7 +22,7 @@ flag_facets-requires-clause-below c = docs-of c.args.column.now
 pub returns-in-Bool-clause-ok : goal.returns-in-Bool-clause-ok
 returns-in-Bool-clause-ok c =
     facets-of c.flag_facets.result c.args.column.now (columns.Bool c.in-Bool.column) c.args.docs.now c.in-Bool.is
-    (found-cells c.flag_facets.result (facet_cell types.bool) [] bool_cell c.in-Bool.column.shape (num_values_of c.in-Bool.column.values)
+    (found-cells c.flag_facets.result types.bool [] bool_cell c.in-Bool.column.shape (num_values_of c.in-Bool.column.values)
     c.args.docs.now c.flag_facets.ensures)
 
 pub returns-in-Bool-clause-ascending : goal.returns-in-Bool-clause-ascending
@@ -35,7 +35,7 @@ value_facets-requires-clause-below c = docs-of c.args.column.now
 pub returns-in-I64-clause-ok : goal.returns-in-I64-clause-ok
 returns-in-I64-clause-ok c =
     facets-of c.value_facets.result c.args.column.now (columns.I64 c.in-I64.column) c.args.docs.now c.in-I64.is
-    (found-cells c.value_facets.result (facet_cell types.i64) [] number c.in-I64.column.shape (num_values_of c.in-I64.column.values)
+    (found-cells c.value_facets.result types.i64 [] number c.in-I64.column.shape (num_values_of c.in-I64.column.values)
     c.args.docs.now c.value_facets.ensures)
 
 pub returns-in-I64-clause-ascending : goal.returns-in-I64-clause-ascending
@@ -48,7 +48,7 @@ value_facets-requires-in-U64-clause-below c = docs-of c.args.column.now
 pub returns-in-U64-clause-ok : goal.returns-in-U64-clause-ok
 returns-in-U64-clause-ok c =
     facets-of c.value_facets-in-U64.result c.args.column.now (columns.U64 c.in-U64.column) c.args.docs.now c.in-U64.is
-    (found-cells c.value_facets-in-U64.result (facet_cell types.u64) [] unsigned_cell c.in-U64.column.shape
+    (found-cells c.value_facets-in-U64.result types.u64 [] unsigned_cell c.in-U64.column.shape
     (num_values_of c.in-U64.column.values)
     c.args.docs.now c.value_facets-in-U64.ensures)
 
@@ -62,7 +62,7 @@ value_facets-requires-in-IpAddr-clause-below c = docs-of c.args.column.now
 pub returns-in-IpAddr-clause-ok : goal.returns-in-IpAddr-clause-ok
 returns-in-IpAddr-clause-ok c =
     facets-of c.value_facets-in-IpAddr.result c.args.column.now (columns.IpAddr c.in-IpAddr.column) c.args.docs.now c.in-IpAddr.is
-    (found-cells c.value_facets-in-IpAddr.result (facet_cell types.ip) [] unsigned_cell c.in-IpAddr.column.shape
+    (found-cells c.value_facets-in-IpAddr.result types.ip [] unsigned_cell c.in-IpAddr.column.shape
     (ip_values_of c.in-IpAddr.column.values)
     c.args.docs.now c.value_facets-in-IpAddr.ensures)
 
@@ -76,7 +76,7 @@ value_facets-requires-in-DateTime-clause-below c = docs-of c.args.column.now
 pub returns-in-DateTime-clause-ok : goal.returns-in-DateTime-clause-ok
 returns-in-DateTime-clause-ok c =
     facets-of c.value_facets-in-DateTime.result c.args.column.now (columns.DateTime c.in-DateTime.column) c.args.docs.now c.in-DateTime.is
-    (found-cells c.value_facets-in-DateTime.result (facet_cell types.datetime) [] number c.in-DateTime.column.shape
+    (found-cells c.value_facets-in-DateTime.result types.datetime [] number c.in-DateTime.column.shape
     (num_values_of c.in-DateTime.column.values)
     c.args.docs.now c.value_facets-in-DateTime.ensures)
 
@@ -90,7 +90,7 @@ term_facets-requires-clause-below c = docs-of c.args.column.now
 pub returns-in-Bytes-clause-ok : goal.returns-in-Bytes-clause-ok
 returns-in-Bytes-clause-ok c =
     facets-of c.term_facets.result c.args.column.now (columns.Bytes c.in-Bytes.column) c.args.docs.now c.in-Bytes.is
-    (found-cells c.term_facets.result (facet_cell types.bytes) c.in-Bytes.column.terms
+    (found-cells c.term_facets.result types.bytes c.in-Bytes.column.terms
     (term_cell c.in-Bytes.column.terms) c.in-Bytes.column.ords.shape
     (num_values_of c.in-Bytes.column.ords.values) c.args.docs.now c.term_facets.ensures)
 
@@ -105,7 +105,7 @@ term_facets-requires-in-Str-clause-below c =
 pub returns-in-Str-clause-ok : goal.returns-in-Str-clause-ok
 returns-in-Str-clause-ok c =
     facets-of c.term_facets-in-Str.result c.args.column.now (columns.Str c.in-Str.column) c.args.docs.now c.in-Str.is
-    (found-cells c.term_facets-in-Str.result (facet_cell types.str) c.in-Str.column.terms
+    (found-cells c.term_facets-in-Str.result types.str c.in-Str.column.terms
     (term_cell c.in-Str.column.terms) c.in-Str.column.ords.shape
     (num_values_of c.in-Str.column.ords.values) c.args.docs.now
     (subst (λ (t : Texts). IfOk c.term_facets-in-Str.result

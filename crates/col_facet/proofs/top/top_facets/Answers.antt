@@ -7,5 +7,5 @@ pub returns : goal.returns
 returns c =
     c.loop-count.invariant ∙ all-ranked _ _ (omega arith)
     ∙ ap ranked_counts (c.deref-count-items.ensures.value ∙ c.truncate.ensures.items)
-    ∙ top-is c.args.facets.now c.args.k c.in_ok-ranked.ranked.items c.sort_unstable.new.self.items c.in_ok-ranked.ensures
-    c.sort_unstable.ensures.permutation c.sort_unstable.ensures.sorted
+    ∙ top-is c.args.facets.now c.args.k c.in_ok-ranked.ranked.items c.sort_ranked.new.ranked.items c.in_ok-ranked.ensures
+    c.sort_ranked.ensures.moved c.sort_ranked.ensures.sorted

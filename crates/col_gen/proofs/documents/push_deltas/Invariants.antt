@@ -1,5 +1,5 @@
 use Rattle.std.proofs.Common.{◌-◌}
-use Rattle.col_model.specs.GenScript.{delta_lines}
+use Rattle.col_program.specs.GenScript.{delta_lines}
 use Rattle.col_gen.proofs.AddedLemmas.{Rest}
 use Rattle.col_gen.proofs.documents.push_deltas.Given as goal
 

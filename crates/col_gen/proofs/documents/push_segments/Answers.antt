@@ -1,5 +1,5 @@
 use Rattle.std.proofs.Common.{arith, ◌-◌, ◌+◌}
-use Rattle.col_model.specs.GenScript.{docs_lines}
+use Rattle.col_program.specs.GenScript.{docs_lines}
 use Rattle.col_gen.proofs.AddedLemmas.{segment-added, segments-start, segments-more, segments-none}
 use Rattle.col_gen.proofs.documents.push_segments.Goals as goal
 

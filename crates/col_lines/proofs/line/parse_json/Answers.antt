@@ -1,7 +1,7 @@
 use Rattle.std.proofs.Common.{sym}
 use Rattle.std.proofs.lemmas.Bool.{iff_false}
 use Rattle.serde_json.specs.View.{view}
-use Rattle.col_model.proofs.ScriptLaws.{read-some, read-none}
+use Rattle.col_program.proofs.ScriptLaws.{read-some, read-none}
 use Rattle.col_lines.proofs.line.parse_json.Goals as goal
 
 pub returns-in-Ok : goal.returns-in-Ok

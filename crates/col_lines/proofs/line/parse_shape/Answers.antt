@@ -1,7 +1,7 @@
 use Rattle.std.proofs.Common.{Option, ◌≡◌, sym, subst, map, option_map}
 use Rattle.std.specs.Prelude.{IfOk}
 use Rattle.serde_json.specs.View.{view}
-use Rattle.col_model.specs.Script.{Line}
+use Rattle.col_program.specs.Script.{Line}
 use Rattle.col_types.specs.Kinds.{kind_of}
 use Rattle.col_lines.specs.Lines.{script_line_of}
 use Rattle.col_lines.proofs.WordLemmas.{line_of_value, line_of_control}

@@ -4,7 +4,7 @@ use Rattle.serde_json.specs.View.{view}
 use Rattle.serde_json.specs.declared.value.Value.{Value}
 use Rattle.serde_json.proofs.Views.{view-Array}
 use Rattle.col_model.specs.File.{for_each}
-use Rattle.col_model.specs.Script.{as_address}
+use Rattle.col_program.specs.Script.{as_address}
 use Rattle.col_order.specs.Orders.{address_of}
 use Rattle.col_lines.specs.Parts.{rows_as}
 use Rattle.col_lines.proofs.PartLemmas.{items_same}

@@ -3,7 +3,7 @@ use Rattle.std.proofs.lemmas.List.{drop_more}
 use Rattle.serde_json.specs.View.{view}
 use Rattle.serde_json.specs.declared.value.Value.{Value}
 use Rattle.col_model.specs.File.{for_each}
-use Rattle.col_model.specs.Script.{as_address}
+use Rattle.col_program.specs.Script.{as_address}
 use Rattle.col_lines.proofs.PartLemmas.{more_rows}
 use Rattle.col_lines.proofs.parts.rows_of.Goals as goal
 

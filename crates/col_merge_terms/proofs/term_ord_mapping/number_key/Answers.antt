@@ -1,6 +1,6 @@
 use Rattle.col_merge_terms.specs.Merging.{places_of}
 use Rattle.col_merge_texts.specs.Items.{lists_of}
-use Rattle.col_merge_terms.proofs.PermutationLemmas.{all-moved}
+use Rattle.col_model.proofs.PermutationLaws.{all-moved}
 use Rattle.col_merge_terms.proofs.ItemLemmas.{numbers-moved}
 use Rattle.col_merge_terms.proofs.term_ord_mapping.number_key.Goals as goal
 

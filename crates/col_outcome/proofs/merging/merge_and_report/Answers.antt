@@ -6,7 +6,7 @@ use Rattle.col_script.specs.Segments.{segment_of}
 use Rattle.col_merge_plan.specs.Slots.{required_of}
 use Rattle.col_common.proofs.OnOkLemmas.{same-error}
 use Rattle.col_outcome.specs.Parts.{handed_in}
-use Rattle.col_model.specs.Outcome.{segment_table}
+use Rattle.col_program.specs.Outcome.{segment_table}
 use Rattle.col_model.specs.Refusal.{each_ok}
 use Rattle.col_outcome.specs.declared.merging.FileAndReport.{FileAndReport}
 use Rattle.col_outcome.proofs.DecidedLemmas.{merge-known, segments-merged, segments-stopped}

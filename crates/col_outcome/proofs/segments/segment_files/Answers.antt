@@ -1,7 +1,7 @@
 use Rattle.std.proofs.Common.{[], ◌∙◌, ap, sym, arith, length, get_or, ◌<◌}
 use Rattle.std.proofs.lemmas.Result.{err_from_is_err_and}
-use Rattle.col_model.specs.Outcome.{segment_table}
-use Rattle.col_model.specs.Script.{Segment}
+use Rattle.col_program.specs.Outcome.{segment_table}
+use Rattle.col_program.specs.Script.{Segment}
 use Rattle.col_script.specs.Segments.{filled, segment_of}
 use Rattle.col_outcome.proofs.MadeFileLemmas.{made-none, made-more, made-refused, made-all}
 use Rattle.col_outcome.proofs.TableLemmas.{same-at}

@@ -1,6 +1,6 @@
 use Rattle.std.proofs.Common.{◌≡◌, map, List}
-use Rattle.col_model.specs.Outcome.{segment_table}
-use Rattle.col_model.specs.Script.{Segment}
+use Rattle.col_program.specs.Outcome.{segment_table}
+use Rattle.col_program.specs.Script.{Segment}
 use Rattle.col_script.specs.Segments.{filled, segment_of}
 use Rattle.col_outcome.proofs.MadeFileLemmas.{HaveMade}
 use Rattle.col_model.specs.File.{StandsFor}

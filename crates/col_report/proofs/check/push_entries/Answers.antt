@@ -1,6 +1,6 @@
 use Rattle.std.proofs.Common.{map, false, arith}
 use Rattle.std.proofs.lemmas.List.{length-map}
-use Rattle.col_model.proofs.ReportLaws.{Prints-none}
+use Rattle.col_program.proofs.ReportLaws.{Prints-none}
 use Rattle.col_report.specs.Checked.{listed_name}
 use Rattle.col_report.proofs.CheckLemmas.{mapped-at, told-more}
 use Rattle.col_report.proofs.check.push_entries.Goals as goal

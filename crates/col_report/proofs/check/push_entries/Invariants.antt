@@ -1,5 +1,5 @@
 use Rattle.std.proofs.Common.{map, take}
-use Rattle.col_model.specs.Report.{Prints}
+use Rattle.col_program.specs.Report.{Prints}
 use Rattle.col_report.specs.Checked.{listed_name, told_lines}
 use Rattle.col_report.proofs.check.push_entries.Given as goal
 

@@ -1,6 +1,6 @@
 use Rattle.std.proofs.Common.{map, ap, ◌∙◌}
 use Rattle.col_file.specs.Handles.{listed}
-use Rattle.col_model.specs.Report.{rows_line}
+use Rattle.col_program.specs.Report.{rows_line}
 use Rattle.col_report.specs.Checked.{listed_name}
 use Rattle.col_report.proofs.CheckLemmas.{entries-printed}
 use Rattle.col_report.proofs.check.report_of_entries.Goals as goal

@@ -1,5 +1,5 @@
 use Rattle.std.proofs.Common.{◌≡◌, ◌++◌, map, drop}
-use Rattle.col_model.specs.Report.{count_data}
+use Rattle.col_program.specs.Report.{count_data}
 use Rattle.col_report.specs.Printed.{more_text}
 use Rattle.col_report.proofs.found.push_others.Given as goal
 

@@ -1,8 +1,8 @@
 use Rattle.std.proofs.Common.{arith}
-use Rattle.col_model.specs.Report.{column_lines}
+use Rattle.col_program.specs.Report.{column_lines}
 use Rattle.col_report.specs.Opened.{opened}
 use Rattle.col_report.proofs.ReportLemmas.{lines-more, lines-all}
-use Rattle.col_model.proofs.ReportLaws.{Prints-none}
+use Rattle.col_program.proofs.ReportLaws.{Prints-none}
 use Rattle.col_report.proofs.report.push_columns.Goals as goal
 
 pub loop-named-init : goal.loop-named-init

@@ -1,5 +1,5 @@
 use Rattle.std.proofs.Common.{flat_map, take}
-use Rattle.col_model.specs.Report.{column_lines, Prints}
+use Rattle.col_program.specs.Report.{column_lines, Prints}
 use Rattle.col_report.specs.Opened.{opened}
 use Rattle.col_report.proofs.report.push_columns.Given as goal
 

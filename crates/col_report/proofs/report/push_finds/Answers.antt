@@ -1,9 +1,9 @@
 use Rattle.std.proofs.Common.{arith}
 use Rattle.col_lines.specs.Finds as finds
-use Rattle.col_model.specs.Report.{find_line}
+use Rattle.col_program.specs.Report.{find_line}
 use Rattle.col_report.specs.Opened.{table_opened}
 use Rattle.col_report.proofs.ReportLemmas.{line-more, line-all}
-use Rattle.col_model.proofs.ReportLaws.{Prints-none}
+use Rattle.col_program.proofs.ReportLaws.{Prints-none}
 use Rattle.col_report.proofs.report.push_finds.Goals as goal
 
 pub loop-find-init : goal.loop-find-init

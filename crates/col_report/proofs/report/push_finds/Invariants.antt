@@ -1,6 +1,6 @@
 use Rattle.std.proofs.Common.{ℕ, List, map, take}
 use Rattle.col_lines.specs.Finds as finds
-use Rattle.col_model.specs.Report.{find_line, Prints}
+use Rattle.col_program.specs.Report.{find_line, Prints}
 use Rattle.col_report.specs.Opened.{table_opened, ColumnsAreRead}
 use Rattle.col_report.proofs.report.push_finds.Given as goal
 

@@ -3,7 +3,7 @@ use Rattle.std.proofs.lemmas.Result.{on_ok_weaker}
 use Rattle.col_dynamic.specs.Dynamic.{content_of}
 use Rattle.col_lines.specs.Finds as finds
 use Rattle.col_report.specs.Opened.{table_opened}
-use Rattle.col_model.specs.Report.{Prints}
+use Rattle.col_program.specs.Report.{Prints}
 use Rattle.col_report.proofs.ReportLemmas.{line-found}
 use Rattle.col_report.proofs.report.push_found_line.Goals as goal
 

@@ -1,6 +1,6 @@
 use Rattle.std.proofs.Common.{ap, ◌∙◌}
 use Rattle.std.proofs.lemmas.Result.{on_ok_weaker}
-use Rattle.col_model.specs.Report.{rows_line}
+use Rattle.col_program.specs.Report.{rows_line}
 use Rattle.col_report.proofs.ReportLemmas.{report-printed}
 use Rattle.col_report.proofs.report.push_report.Goals as goal
 

@@ -1,7 +1,7 @@
 use Rattle.std.proofs.Common.{◌≡◌, ℕ, List, ◌++◌, map}
 use Rattle.std.proofs.lemmas.Result.{err_from_is_err_and}
 use Rattle.col_lines.specs.Finds as wanted
-use Rattle.col_model.specs.Report.{report_of}
+use Rattle.col_program.specs.Report.{report_of}
 use Rattle.col_model.specs.Table.{Table}
 use Rattle.col_report.specs.Opened.{table_opened}
 use Rattle.col_report.proofs.ReportLemmas.{report-refused, report-answered, report-appended, pushed-as}

@@ -1,5 +1,5 @@
 use Rattle.std.proofs.Common.{◌≡◌, ℕ, ◌++◌, map, slice_range}
-use Rattle.col_model.specs.Report.{cell_data}
+use Rattle.col_program.specs.Report.{cell_data}
 use Rattle.col_report.specs.Printed.{more_text}
 use Rattle.col_report.proofs.rows.push_others.Given as goal
 

@@ -1,7 +1,7 @@
 use Rattle.std.proofs.Common.{map, take}
 use Rattle.std.specs.List.{enumerate_from}
 use Rattle.col_column.specs.Columns.{rows_of_values}
-use Rattle.col_model.specs.Report.{Prints}
+use Rattle.col_program.specs.Report.{Prints}
 use Rattle.col_report.specs.Printed.{filled_lines}
 use Rattle.col_report.proofs.rows.push_rows.Given as goal
 

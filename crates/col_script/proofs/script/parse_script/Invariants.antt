@@ -1,6 +1,6 @@
 use Rattle.std.proofs.Common.{◌≡◌, ◌+◌, length, option_map}
 use Rattle.std.specs.Option.{option_map_or}
-use Rattle.col_model.specs.Script.{script_of}
+use Rattle.col_program.specs.Script.{script_of}
 use Rattle.col_script.specs.Scripts.{draft_parts, summary, summary_behind, pieces_left}
 use Rattle.col_script.proofs.script.parse_script.Given as goal
 

@@ -1,8 +1,8 @@
 use Rattle.std.proofs.Common.{◌≡◌, Err, None, map, inl, refl, ap, arith}
 use Rattle.std.proofs.lemmas.Result.{err_from_is_err_and}
-use Rattle.col_model.specs.Outcome.{segment_table}
+use Rattle.col_program.specs.Outcome.{segment_table}
 use Rattle.col_model.specs.Refusal.{each_ok}
-use Rattle.col_model.specs.Script.{script_of}
+use Rattle.col_program.specs.Script.{script_of}
 use Rattle.col_outcome.specs.declared.merging.FileAndReport.{FileAndReport}
 use Rattle.col_outcome.proofs.PartLemmas.{all_keep-none}
 use Rattle.col_tool.specs.Expected.{script_refusal}

@@ -3,7 +3,7 @@ use Rattle.std.proofs.Common.{◌∙◌, ℕ, List, [], ◌∷◌, ◌++◌, sym
 use Rattle.std.proofs.lemmas.Grind.{flat_map-append}
 use Rattle.serde_json.specs.Data.{Data}
 use Rattle.serde_json.specs.Written.{compact_text}
-use Rattle.col_model.specs.Report.{lines_text, Prints}
+use Rattle.col_program.specs.Report.{lines_text, Prints}
 
 -- no lines
 pub Prints-none : (a : List ℕ) → Prints a a []

@@ -4,16 +4,16 @@ use Rattle.std.specs.Prelude.{◌≡◌, ℕ, ◌^◌, ◌==◌, ◌&&◌, ◌||
 use Rattle.std.specs.Str.{all_ascii_digits}
 use Rattle.std.specs.Str.Parse.{digits_value}
 use Rattle.col_common.specs.Reading.{only_if}
-use Rattle.col_model.specs.Check.{check_report}
-use Rattle.col_model.specs.GenScript.{gen_script}
+use Rattle.col_program.specs.Check.{check_report}
+use Rattle.col_program.specs.GenScript.{gen_script}
 use Rattle.col_model.specs.Table.{Table}
 use Rattle.col_model.specs.File.{Part, StandsFor, parts_of, part_of_table}
 use Rattle.col_model.specs.Written.{written}
 use Rattle.col_model.specs.Recording.{content_after_all}
 use Rattle.col_model.specs.Order.{Order, stack, shuffle}
 use Rattle.col_model.specs.Merge.{merged, row_counts}
-use Rattle.col_model.specs.Script.{Script, Segment, script_of}
-use Rattle.col_model.specs.Report.{report_of}
+use Rattle.col_program.specs.Script.{Script, Segment, script_of}
+use Rattle.col_program.specs.Report.{report_of}
 use Rattle.col_model.specs.Refusal.{Refusal, ◌>>=◌, or_refuse, each_ok, invalid_data, status_of}
 
 -- what goes to the output: a file that stands for a table, or nothing

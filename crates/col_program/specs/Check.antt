@@ -3,7 +3,7 @@ use Rattle.std.specs.Prelude.{ℕ, Bool, List, [], ◌∷◌, map, codes, is_som
 use Rattle.serde_json.specs.Data.{Data, boolean, string}
 use Rattle.col_model.specs.ColumnType.{type_name}
 use Rattle.col_model.specs.File.{Part, PartColumn}
-use Rattle.col_model.specs.Report.{list_data, rows_line, lines_text}
+use Rattle.col_program.specs.Report.{list_data, rows_line, lines_text}
 
 -- whether an entry's bytes are a column
 abbrev pub is_whole : PartColumn → Bool

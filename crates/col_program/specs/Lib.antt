@@ -1,0 +1,5 @@
+pub mod Script
+pub mod Report
+pub mod Check
+pub mod GenScript
+pub mod Outcome

@@ -1,0 +1,5 @@
+//! Tests of facets.
+#![tactic(auto)]
+
+#[cfg(test)]
+mod facets;
