@@ -7,6 +7,7 @@ use Rattle.std.specs.declared.cmp.Ordering.TheVariants.{Less, Equal, Greater}
 use Rattle.std.specs.Ordering.{eq_by_cmp, is_eq, int_cmp, nat_cmp, match_ordering, ordering_then}
 use Rattle.std.proofs.lemmas.List.{map-append}
 use Rattle.std.proofs.lemmas.List.Sums.{sum_by-cons}
+use Rattle.col_common.proofs.OctetLemmas.{then_nothing}
 use Rattle.col_model.specs.ColumnType.{ColumnType, same_type}
 use Rattle.col_model.specs.ColumnType as types
 use Rattle.col_model.specs.Facets.{cell_order, are_one, counts_of_cells, sum_of_counts, sums_of_counts}
@@ -50,23 +51,17 @@ module _ {A B : Type 0} (f : A → B) (cmp : A → A → Ordering) (dmp : B → 
 
 -- ---- the order of cells
 
--- an order that ends with a tie
-then-tie : (r : Ordering) → ordering_then r Equal ≡ r
-then-tie Less = refl
-then-tie Equal = refl
-then-tie Greater = refl
-
 -- numbers that aren't negative compare as they do
 unsigned-order : (m n : ℕ) → nat_cmp m n ≡ int_cmp (pos m) (pos n)
 unsigned-order m n = grind (arith, ints)
 
 numbers-keep : (b : Bool) (y z : ℤ)
     → cell_cmp (cond b (address_cell y) (Num y)) (cond b (address_cell z) (Num z)) ≡ int_cmp y z
-numbers-keep false y z = then-tie (int_cmp y z)
-numbers-keep true (pos m) (pos n) = then-tie (nat_cmp m n) ∙ unsigned-order m n
+numbers-keep false y z = then_nothing (int_cmp y z)
+numbers-keep true (pos m) (pos n) = then_nothing (nat_cmp m n) ∙ unsigned-order m n
 numbers-keep true (pos m) (negsuc n) = refl
 numbers-keep true (negsuc m) (pos n) = refl
-numbers-keep true (negsuc m) (negsuc n) = then-tie (int_cmp (negsuc m) (negsuc n))
+numbers-keep true (negsuc m) (negsuc n) = then_nothing (int_cmp (negsuc m) (negsuc n))
 
 number-first : (b : Bool) (z : ℤ) (t : List ℕ) → cell_cmp (cond b (address_cell z) (Num z)) (Term t) ≡ Less
 number-first false z t = refl

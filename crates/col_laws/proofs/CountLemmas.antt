@@ -4,7 +4,7 @@ use Rattle.std.specs.List.{AllByRecursion, count_by, sum_by}
 use Rattle.std.specs.List.Sorted.{IsStrictlySortedBy}
 use Rattle.std.specs.declared.cmp.Ordering.{Ordering}
 use Rattle.std.specs.declared.cmp.Ordering.TheVariants.{Less, Equal, Greater}
-use Rattle.std.specs.Ordering.{eq_by_cmp, is_eq, int_cmp, nat_cmp, on, then_cmp, ordering_then}
+use Rattle.std.specs.Ordering.{eq_by_cmp, is_eq, int_cmp, nat_cmp, on, then_cmp}
 use Rattle.std.specs.Cmp.{IsTotalOrder}
 use Rattle.std.specs.Cmp.Lexicographic.{slice_cmp}
 use Rattle.std.specs.FinMap.{IsAntisymmetric, nat_cmp-IsAntisymmetric, int_cmp-IsAntisymmetric, slice_cmp-IsAntisymmetric}
@@ -13,6 +13,7 @@ use Rattle.std.proofs.lemmas.Cmp.{then_total, on_total, nat_cmp_total, int_cmp_t
 use Rattle.std.proofs.lemmas.List.{map-append}
 use Rattle.std.proofs.lemmas.List.Folds.{list_any-append}
 use Rattle.std.proofs.lemmas.List.Sums.{sum_by-cons, sum_by-append}
+use Rattle.col_common.proofs.OctetLemmas.{then_nothing}
 use Rattle.col_model.specs.Facets.{cell_order, are_one, counts_of_cells, sum_of_counts, sums_of_counts}
 use Rattle.col_model.specs.Sorted.{distinct_items}
 use Rattle.col_model.specs.Table.{Cell, number, text}
@@ -36,14 +37,9 @@ text_of_cell (text s) = s
 abbrev by_parts : Cell → Cell → Ordering
 by_parts = then_cmp (on kind_of_cell nat_cmp) (then_cmp (on number_of_cell int_cmp) (on text_of_cell (slice_cmp nat_cmp)))
 
-then-tie : (r : Ordering) → ordering_then r Equal ≡ r
-then-tie Less = refl
-then-tie Equal = refl
-then-tie Greater = refl
-
 parts-order : (a b : Cell) → by_parts a b ≡ cell_order a b
 unfolding kind_of_cell number_of_cell text_of_cell
-parts-order (number y) (number z) = then-tie (int_cmp y z)
+parts-order (number y) (number z) = then_nothing (int_cmp y z)
 parts-order (number y) (text t) = refl
 parts-order (text s) (number z) = refl
 parts-order (text s) (text t) = refl
