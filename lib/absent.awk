@@ -1,4 +1,4 @@
-# Of a report: each lookup whose column isn't there, beside the types that its name has.
+# Of a report: each lookup and facet whose column isn't there, beside the types that its name has.
 /^\["column",/ {
     line = $0
     sub(/,"[a-z]+",[0-9]+\]$/, "", line)
@@ -7,12 +7,14 @@
     type = substr(line, RSTART + 2, RLENGTH - 3)
     types[name] = types[name] (types[name] == "" ? "" : " and ") type
 }
-/^\["find",.*,null\]$/ {
+/^\["(find|facet)",.*,null\]$/ {
+    what = /^\["find",/ ? "a lookup found nothing" : "a facet counted nothing"
     line = $0
     sub(/,null\]$/, "", line)
+    sub(/^\["[a-z]+",/, "", line)
     match(line, /,"[a-z0-9]+"$/)
-    name = substr(line, 9, RSTART - 9)
+    name = substr(line, 1, RSTART - 1)
     type = substr(line, RSTART + 2, RLENGTH - 3)
-    if (name in types) print "a lookup found nothing: there is no column " name " of type " type ", it is " types[name]
-    else print "a lookup found nothing: there is no column " name
+    if (name in types) print what ": there is no column " name " of type " type ", it is " types[name]
+    else print what ": there is no column " name
 }

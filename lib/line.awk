@@ -52,6 +52,8 @@ BEGIN {
     shapes["require"] = "[\"require\",name,t]"
     shapes["order"] = "[\"order\",[[s,r],..]]"
     shapes["find"] = "[\"find\",name,t,lo,hi,from,to]"
+    shapes["facet"] = "[\"facet\",name,t]"
+    shapes["query"] = "[\"query\",q]"
     for (type in types) shapes[type] = "[\"" type "\",d,name,v]"
     for (word in shapes) sizes[word] = split(shapes[word], unused, ",")
     sizes["order"] = 2
@@ -145,6 +147,7 @@ function wrong_parts(word,   why) {
     else if (word == "order")
         why = kinds[2] != "list" ? "the second part is a list of pairs, as [[0,1],[0,0]]" : pairs()
     else if (word == "find") why = wrong_find()
+    else if (word == "query") why = wrong_query()
     else if (word in types) why = wrong_value(word)
     else {
         why = text_part(2, "a column's name")
@@ -172,12 +175,14 @@ function meant(word,   small) {
     small = tolower(word)
     if (small != word && small in shapes) return ": words are in small letters, \"" small "\""
     if (small ~ /^(segments?|seg|docs?|documents?|rows|begin|table|batch)$/) return ": did you mean \"segment\"?"
-    if (small ~ /^(find|search|query|select|lookup|range|get|filter)$/) return ": did you mean \"find\"?"
+    if (small ~ /^(find|search|select|lookup|range|get|filter)$/) return ": did you mean \"find\"?"
+    if (small ~ /^(facets|counts?|histogram|terms|group)$/) return ": did you mean \"facet\"?"
+    if (small ~ /^(queries|where|has|and|or|not|all)$/) return ": did you mean \"query\"?"
     if (small ~ /^(sort|sorted)$/) return ": did you mean \"sorted\"?"
     if (small ~ /^(required?|column)$/) return ": did you mean \"require\"?"
     if (small ~ /^(orders|permutation|rowid)$/) return ": did you mean \"order\"?"
     return type_meant(small) == "" ? ": segment, a type (i64, u64, bool, datetime, ip, str, bytes), type, sorted, " \
-        "tie, require, order or find" : type_meant(small)
+        "tie, require, order, find, facet or query" : type_meant(small)
 }
 
 function type_meant(word) {
@@ -232,6 +237,12 @@ function wrong_find(   why) {
     if (why == "") why = whole(6, "the first row", "4294967295")
     if (why == "") why = whole(7, "the row behind the last one", "4294967295")
     return why
+}
+
+# The line is bad, and of all its parts just the query can be.
+function wrong_query() {
+    return "no query: one is [\"all\"], [\"has\",name,t], [\"range\",name,t,lo,hi], [\"not\",q], [\"and\",[q,..]] " \
+        "or [\"or\",[q,..]], with values of t as other lines have them"
 }
 
 function pairs(   rest) {

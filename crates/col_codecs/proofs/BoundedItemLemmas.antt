@@ -9,19 +9,13 @@ use mir.Val.{bool_byte}
 use Rattle.col_common.specs.Ascending.{is_rising}
 use Rattle.col_common.proofs.OrderingLemmas.{filtered_rises}
 use Rattle.col_bits.proofs.ItemLemmas.{range_parts}
-use Rattle.col_values.proofs.HitLemmas.{rows_same}
+use Rattle.col_values.proofs.HitLemmas.{rows_same, rows_none}
 use Rattle.col_common.proofs.KeptLemmas.{kept_more}
 use Rattle.col_codecs.specs.declared.block_bounds.Bounds.{Bounds}
 use Rattle.col_codecs.specs.BlockBounds.{LiesIn, Enclose}
 use Rattle.col_codecs.specs.BoundedItems.{ids_by}
 
 -- ---- ids
-
-filter_none : (p : ℕ → Bool) (a n : ℕ) → ((k : ℕ) → a ≤ k → k < a + n → p k ≡ false) → filter p (range_with_len a n) ≡ []
-filter_none p a zero never = refl
-filter_none p a (suc n) never =
-    rw (never a (omega arith) (omega arith))
-    (filter_none p (a + 1) n (λ k h l. never k (omega arith) (omega arith)))
 
 filter_all : (p : ℕ → Bool) (a n : ℕ) → ((k : ℕ) → a ≤ k → k < a + n → p k ≡ true) → filter p (range_with_len a n) ≡ range_with_len a n
 filter_all p a zero always = refl
@@ -92,7 +86,7 @@ module _ (bs : List Bounds) (f : ℕ → ℕ) (low high a n to block : ℕ) (at 
   unfolding ids_by
   block_skipped misses =
       sym (append-nil old)
-      ∙ ap (λ r. old ++ r) (sym (filter_none (λ id. is_in_range low high (f id)) a n
+      ∙ ap (λ r. old ++ r) (sym (rows_none (λ id. is_in_range low high (f id)) a n
       (λ k above below. misses (f k) (block_lies bs f a n to block k at within one enclosed above below))))
 
   -- one that lies inside adds all

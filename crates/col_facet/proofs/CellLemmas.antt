@@ -1,10 +1,10 @@
 -- Cells of the model as those of facets: their order is kept, and so are counts.
 use Rattle.std.proofs.Common.{◌≡◌, ℕ, ℤ, pos, negsuc, ◌+◌, Bool, true, false, cond, List, [], ◌∷◌, ◌++◌, map, refl, sym, ◌∙◌, ap, ap₂, arith}
-use Rattle.std.specs.List.{count_by, sum_by}
+use Rattle.std.specs.List.{count_by}
 use Rattle.std.proofs.lemmas.Int.{ints}
 use Rattle.std.specs.declared.cmp.Ordering.{Ordering}
 use Rattle.std.specs.declared.cmp.Ordering.TheVariants.{Less, Equal, Greater}
-use Rattle.std.specs.Ordering.{eq_by_cmp, is_eq, int_cmp, nat_cmp, match_ordering, ordering_then}
+use Rattle.std.specs.Ordering.{eq_by_cmp, is_eq, int_cmp, nat_cmp, match_ordering}
 use Rattle.std.proofs.lemmas.List.{map-append}
 use Rattle.std.proofs.lemmas.List.Sums.{sum_by-cons}
 use Rattle.col_common.proofs.OctetLemmas.{then_nothing}
@@ -17,7 +17,7 @@ use Rattle.col_model.proofs.ListLaws.{map-map}
 use Rattle.col_facet.specs.Cells.{cell_cmp}
 use Rattle.col_facet.specs.Facets.{facets_of, totals_of, copies, same_cell, summed_count, counted_cells, facet_cell, address_cell, counted_as}
 use Rattle.col_facet.specs.declared.facet_cell.FacetCell.{FacetCell}
-use Rattle.col_facet.specs.declared.facet_cell.FacetCell.TheVariants.{Num, Addr, Term}
+use Rattle.col_facet.specs.declared.facet_cell.FacetCell.TheVariants.{Num, Term}
 use Rattle.col_facet.specs.declared.facet_cell.FacetCount.{FacetCount}
 
 module _ {A B : Type 0} (f : A → B) (cmp : A → A → Ordering) (dmp : B → B → Ordering)

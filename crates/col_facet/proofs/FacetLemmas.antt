@@ -1,26 +1,22 @@
--- Facets of terms and flags, by tables of their numbers.
-use Rattle.std.proofs.Common.{◌≡◌, ℕ, zero, suc, pos, ◌+◌, ◌<◌, ◌==◌, Bool, true, false, cond, List, [], ◌∷◌, map, length, get_or, slice_get, unwrap_or, refl, sym, ◌∙◌, ap, ap₂, subst, arith}
+-- Facets of terms by tables of their ordinals, and of columns.
+use Rattle.std.proofs.Common.{◌≡◌, ℕ, zero, suc, ◌+◌, ◌-◌, ◌<◌, ◌==◌, true, List, [], ◌∷◌, map, take, drop, length, get_or, slice_get, unwrap_or, refl, sym, ◌∙◌, ap, subst, arith}
 use Rattle.std.specs.List.{AllByRecursion, count_by, range_with_len}
 use Rattle.std.specs.declared.cmp.Ordering.TheVariants.{Less}
 use Rattle.std.specs.Ordering.{nat_cmp}
 use Rattle.std.specs.Cmp.Lexicographic.{slice_cmp}
 use Rattle.std.proofs.lemmas.Bool.{and_parts}
-use Rattle.std.proofs.lemmas.Bool.Decides.{nat_tests}
-use Rattle.std.proofs.lemmas.Int.{ints}
 use Rattle.std.proofs.lemmas.Cmp.{nat_list_cmp_total}
-use Rattle.std.proofs.lemmas.List.Sums.{sum_by-cons}
 use Rattle.col_common.specs.Ascending.{AreBelow, is_ascending, is_before}
-use Rattle.col_model.specs.Codes.{bool_code}
 use Rattle.col_model.specs.Index.{Shape}
-use Rattle.col_model.proofs.ListLaws.{map-map, all_taken, all_dropped, all-two}
+use Rattle.col_model.specs.Positions.{count_in, start_in}
+use Rattle.col_model.proofs.ListLaws.{all-two}
 use Rattle.col_model.proofs.OrderingLaws.{less_where}
 use Rattle.col_model.proofs.StatsLaws.{all_by}
 use Rattle.col_column.specs.Columns.{Seen, rows_by, row_at, row_count, rows_of_values, content_seen, IsCounted}
 use Rattle.col_facet.specs.Facets.{facets_of, copies, are_ascending, facet_cell, counted_as}
-use Rattle.col_facet.specs.Tables.{counted_from, term_at, flag_cell}
+use Rattle.col_facet.specs.Tables.{AreRising, counted_from, term_at}
 use Rattle.col_facet.specs.Values.{values_in_rows}
 use Rattle.col_facet.specs.declared.facet_cell.FacetCell.{FacetCell}
-use Rattle.col_facet.specs.declared.facet_cell.FacetCell.TheVariants.{Num}
 use Rattle.col_facet.specs.declared.facet_cell.FacetCount.{FacetCount}
 use Rattle.std.specs.Prelude.{Result, Ok, Err, IfOk, Vec, flat_map}
 use Rattle.std.specs.declared.alloc.AllocError.{AllocError}
@@ -38,32 +34,7 @@ use Rattle.col_text.specs.Texts.{AreOrdinals}
 use Rattle.col_facet.proofs.MergeLemmas.{ascending-distinct}
 use Rattle.col_facet.proofs.CellLemmas.{counts-of-cells}
 use Rattle.col_facet.proofs.DocLemmas.{row-taken, rows-length, seen-cells, values-whole}
-use Rattle.col_facet.proofs.TableLemmas.{AreRising, table-facets}
-
--- how often a number stands, from 0 on, among the numbers of values
-numbers-counted : {T : Type 0} (code : T → ℕ) (xs : List T) (i : ℕ)
-    → count_by (λ x. code x == 0 + i) xs ≡ count_by (λ o. o == i) (map code xs)
-numbers-counted code [] i = refl
-numbers-counted {T = T} code (x ∷ xs) i =
-    let from_zero : 0 + i ≡ i = omega arith in
-    sum_by-cons (λ (y : T). cond (code y == 0 + i) 1 0) x xs
-    ∙ ap₂ (λ k n. cond (code x == k) 1 0 + n) from_zero (numbers-counted code xs i)
-    ∙ sym (sum_by-cons (λ (o : ℕ). cond (o == i) 1 0) (code x) (map code xs))
-
-all-map : {T : Type 0} (P : ℕ → Type 0) (code : T → ℕ) (xs : List T) → AllByRecursion (λ x. P (code x)) xs
-    → AllByRecursion P (map code xs)
-all-map P code [] all = tt
-all-map P code (x ∷ xs) all = (all.0, all-map P code xs all.1)
-
--- a table of the numbers of values gives the facets of their cells
-pub table-values : {T : Type 0} (code : T → ℕ) (cell : ℕ → FacetCell) (xs : List T) (counts : List ℕ)
-    → AreRising cell (length counts) → AllByRecursion (λ x. code x < length counts) xs
-    → ((i : ℕ) → i < length counts → get_or counts i 0 ≡ count_by (λ x. code x == 0 + i) xs)
-    → counted_from cell 0 counts ≡ facets_of (map (λ x. cell (code x)) xs)
-table-values code cell xs counts up below told =
-    table-facets cell (map code xs) counts up (all-map (λ o. o < length counts) code xs below)
-    (λ i h. told i h ∙ numbers-counted code xs i)
-    ∙ ap facets_of (map-map cell code xs)
+use Rattle.col_facet.proofs.PlaceLemmas.{table-placed}
 
 -- ---- terms
 
@@ -90,43 +61,23 @@ terms-rise (t ∷ ts) e zero (suc j) h l =
 terms-rise (t ∷ ts) e (suc i) zero h l = absurd (omega (arith, h))
 terms-rise (t ∷ ts) e (suc i) (suc j) h l = terms-rise ts ((terms-behind t ts e).1) i j (omega (arith, h)) (omega (arith, l))
 
--- what all numbers keep, those in the rows of documents keep
-pub all-values : (P : ℕ → Type 0) (s : Shape) (xs : List ℕ) (docs : List ℕ) → AllByRecursion P xs
+all-part : {T : Type 0} (P : T → Type 0) (m n : ℕ) (xs : List T) → AllByRecursion P xs → AllByRecursion P (take n (drop m xs))
+all-part P zero zero xs all = tt
+all-part P zero (suc n) [] all = tt
+all-part P zero (suc n) (x ∷ xs) all = (all.0, all-part P zero n xs all.1)
+all-part P (suc m) zero [] all = tt
+all-part P (suc m) (suc n) [] all = tt
+all-part P (suc m) n (x ∷ xs) all = all-part P m n xs all.1
+
+-- what all values keep, those in the rows of documents keep
+pub all-values : {T : Type 0} (P : T → Type 0) (s : Shape) (xs : List T) (docs : List ℕ) → AllByRecursion P xs
     → AllByRecursion P (values_in_rows (rows_by s xs) docs)
 unfolding values_in_rows
 all-values P s xs [] all = tt
 all-values P s xs (d ∷ docs) all =
     all-two P (row_at (rows_by s xs) d) _
-    (subst (AllByRecursion P) (sym (row-taken s xs d)) (all_taken P _ _ (all_dropped P _ xs all)))
+    (subst (AllByRecursion P) (sym (row-taken s xs d)) (all-part P (start_in s d) (count_in s d) xs all))
     (all-values P s xs docs all)
-
--- ---- flags
-
--- the cells of numbers from 0 on ascend
-pub numbers-rise : (m : ℕ) → AreRising (λ n. Num (pos (0 + n))) m
-numbers-rise m i j h l = grind (arith, ints, nat_tests)
-
--- a flag is one of two numbers
-pub flags-below : (xs : List Bool) → AllByRecursion (λ x. bool_code x < 2) xs
-flags-below [] = tt
-flags-below (true ∷ xs) = (omega arith, flags-below xs)
-flags-below (false ∷ xs) = (omega arith, flags-below xs)
-
--- the cells of flags are those of their numbers
-pub flag-cells : (xs : List Bool) → map (λ x. Num (pos (0 + bool_code x))) xs ≡ map flag_cell xs
-flag-cells [] = refl
-flag-cells (true ∷ xs) = ap (λ r. Num (pos 1) ∷ r) (flag-cells xs)
-flag-cells (false ∷ xs) = ap (λ r. Num (pos 0) ∷ r) (flag-cells xs)
-
--- a table of the counts of flags gives their facets
-pub flag-table : (counts : List ℕ) (xs : List Bool) → length counts ≡ 2
-    → ((i : ℕ) → i < 2 → get_or counts i 0 ≡ count_by (λ x. bool_code x == 0 + i) xs)
-    → counted_from (λ n. Num (pos (0 + n))) 0 counts ≡ facets_of (map flag_cell xs)
-flag-table counts xs size told =
-    table-values bool_code (λ n. Num (pos (0 + n))) xs counts (numbers-rise (length counts))
-    (all_by (λ x h. omega (arith, h, size)) xs (flags-below xs))
-    (λ i h. told i (omega (arith, h, size)))
-    ∙ ap facets_of (flag-cells xs)
 
 -- a table of the counts of ordinals gives the facets of their terms
 pub term-table : (terms : List (List ℕ)) (counts xs : List ℕ) → is_ascending terms ≡ true → length counts ≡ length terms
@@ -134,10 +85,12 @@ pub term-table : (terms : List (List ℕ)) (counts xs : List ℕ) → is_ascendi
     → ((i : ℕ) → i < length terms → get_or counts i 0 ≡ count_by (λ x. x == 0 + i) xs)
     → counted_from (term_at terms) 0 counts ≡ facets_of (map (term_at terms) xs)
 term-table terms counts xs up size below told =
-    table-values (λ n. n) (term_at terms) xs counts
-    (λ i j h l. terms-rise terms up i j h (omega (arith, l, size)))
-    (all_by (λ x h. omega (arith, h, size)) xs below)
-    (λ i h. told i (omega (arith, h, size)))
+    table-placed (λ n. n) (term_at terms) (term_at terms) 0 (length terms) xs counts (terms-rise terms up)
+    (all_by (λ x h. record { from = omega arith; below = omega (arith, h); stands = ap (term_at terms) (alone x) }) xs below)
+    size told
+  where
+    alone : (x : ℕ) → x ≡ x - 0
+    alone x = omega arith
 
 -- the same of the ordinals in the rows of documents
 pub term-counted : (terms : List (List ℕ)) (ords seen : Seen (NumValues ℕ)) (docs counts : List ℕ) (n : ℕ) → AreOrdinals terms ords

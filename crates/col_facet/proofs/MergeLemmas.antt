@@ -9,7 +9,6 @@ use Rattle.std.proofs.Math.Seq.{take-length}
 use Rattle.std.proofs.Math.ListN.{drop_of_length-le}
 use Rattle.std.proofs.lemmas.List.Sorted.{IsPermutation-middle, IsPermutation-cons}
 use Rattle.col_model.specs.Sorted.{distinct_items}
-use Rattle.col_model.proofs.DistinctLaws.{sorted-with_item}
 use Rattle.col_model.proofs.OrderingLaws.{less_where}
 use Rattle.col_model.proofs.StatsLaws.{all_by}
 use Rattle.col_facet.specs.Cells.{cell_cmp, cells_total}
@@ -17,7 +16,7 @@ use Rattle.col_facet.specs.Facets.{totals_of, are_ascending, are_counted, counte
 use Rattle.col_facet.specs.declared.facet_cell.FacetCell.{FacetCell}
 use Rattle.col_facet.specs.declared.facet_cell.FacetCount.{FacetCount}
 use Rattle.col_facet.proofs.OrderLemmas.{cells-apart}
-use Rattle.col_facet.proofs.TotalLemmas.{IsFirst, totals-first, totals-moved, totals-joined}
+use Rattle.col_facet.proofs.TotalLemmas.{IsFirst, totals-first, totals-moved, totals-joined, sorted-distinct}
 
 -- what stands behind the first of ascending counts ascends, and the first stands before it
 pub ascending-parts : (f : FacetCount) (fs : List FacetCount) → are_ascending (f ∷ fs) ≡ true
@@ -37,16 +36,11 @@ ascending-cells (c ∷ []) count s = refl
 ascending-cells (c ∷ d ∷ cs) count s =
     and_from (is_lt (cell_cmp c d)) _ (ap is_lt s.0.0) (ascending-cells (d ∷ cs) count s.1)
 
-sorted-distinct : (cs : List FacetCell) → IsStrictlySortedBy cell_cmp (distinct_items cell_cmp cs)
-unfolding distinct_items IsStrictlySortedBy
-sorted-distinct [] = tt
-sorted-distinct (c ∷ cs) = sorted-with_item cell_cmp cells_total c (distinct_items cell_cmp cs) (sorted-distinct cs)
-
 -- what counts each of distinct cells ascends
 pub ascending-distinct : (cs : List FacetCell) (count : FacetCell → ℕ)
     → are_ascending (map (λ (c : FacetCell). let r : FacetCount = record { cell = c; count = count c } in r)
     (distinct_items cell_cmp cs)) ≡ true
-ascending-distinct cs count = ascending-cells (distinct_items cell_cmp cs) count (sorted-distinct cs)
+ascending-distinct cs count = ascending-cells (distinct_items cell_cmp cs) count (sorted-distinct cell_cmp cells_total cs)
 
 -- totals ascend
 pub ascending-totals : (fs : List FacetCount) → are_ascending (totals_of fs) ≡ true

@@ -69,7 +69,7 @@ module _ {T : Type 0} (cmp : T → T → Ordering) (o : IsTotalOrder cmp) where
   up-drop (suc i) (x ∷ xs) up = up-drop i xs up.1
 
   -- an item before one that is not below another
-  below-both : (x y z : T) → is_lt (cmp y x) ≡ false → is_lt (cmp z y) ≡ false → is_lt (cmp z x) ≡ false
+  pub below-both : (x y z : T) → is_lt (cmp y x) ≡ false → is_lt (cmp z y) ≡ false → is_lt (cmp z x) ≡ false
   below-both x y z h k = go (cmp z x) refl
     where
       -- z below x, which is at most y, is below y

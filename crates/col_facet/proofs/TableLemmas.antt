@@ -11,7 +11,7 @@ use Rattle.std.proofs.lemmas.List.Sums.{sum_by-cons}
 use Rattle.col_model.proofs.DistinctLaws.{has}
 use Rattle.col_facet.specs.Cells.{cell_cmp, cells_total}
 use Rattle.col_facet.specs.Facets.{totals_of, facets_of, counted_cells, summed_count, same_cell, are_ascending}
-use Rattle.col_facet.specs.Tables.{counted_from}
+use Rattle.col_facet.specs.Tables.{counted_from, AreRising}
 use Rattle.col_facet.specs.declared.facet_cell.FacetCell.{FacetCell}
 use Rattle.col_facet.specs.declared.facet_cell.FacetCount.{FacetCount}
 use Rattle.col_facet.proofs.OrderLemmas.{cells-apart}
@@ -212,10 +212,6 @@ unfolding totals_of
 totals-by_counts fs gs some more e =
     totals-same cell_cmp cells_total cells-apart fs gs
     (λ c. has-counts fs c some ∙ ap (λ n. not (n == 0)) (e c) ∙ sym (has-counts gs c more)) e
-
--- the cells of places ascend
-abbrev pub AreRising : (ℕ → FacetCell) → ℕ → Type 0
-AreRising cell m = (i j : ℕ) → i < j → j < m → cell_cmp (cell i) (cell j) ≡ Less
 
 first-counted : (cell : ℕ → FacetCell) (m i at : ℕ) (ns : List ℕ) → AreRising cell m → i < at → at + length ns ≤ m
     → IsFirst cell_cmp (cell i) (counted_cells (counted_from cell at ns))

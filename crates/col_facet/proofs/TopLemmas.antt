@@ -4,7 +4,7 @@ use Rattle.std.specs.List.Sorted.{IsSorted}
 use Rattle.std.specs.declared.cmp.Reverse.{Reverse}
 use Rattle.std.specs.Cmp.{IsTotalOrder}
 use Rattle.std.specs.FinMap.{IsAntisymmetric, nat_cmp-IsAntisymmetric}
-use Rattle.std.specs.Ordering.{nat_cmp, is_lt, is_gt, ordering_then}
+use Rattle.std.specs.Ordering.{nat_cmp, is_lt, is_gt}
 use Rattle.std.proofs.lemmas.Cmp.{then_total, on_total, back_total, nat_cmp_total}
 use Rattle.std.proofs.lemmas.List.{take-map, take_all}
 use Rattle.std.proofs.lemmas.List.Sorted.{IsPermutation-map}
@@ -20,7 +20,7 @@ use Rattle.col_facet.proofs.OrderLemmas.{cells-apart}
 use Rattle.col_facet.proofs.SortLemmas.{sorted-own, adjacent-sorted, adjacent-map}
 use Rattle.col_model.proofs.SortLaws.{sorted-moved}
 
-ranks_total : IsTotalOrder rank_cmp
+pub ranks_total : IsTotalOrder rank_cmp
 ranks_total =
     then_total (back_total (on_total (λ (f : FacetCount). f.count) nat_cmp_total))
     (on_total (λ (f : FacetCount). f.cell) cells_total)

@@ -1,6 +1,7 @@
 -- Counts of cells, summed up by cell.
 use Rattle.std.proofs.Common.{◌≡◌, ℕ, ◌+◌, Bool, true, false, cond, ◌||◌, List, [], ◌∷◌, map, refl, sym, ◌∙◌, ap, arith, IsPermutation}
 use Rattle.std.specs.List.{sum_by, AllByRecursion}
+use Rattle.std.specs.List.Sorted.{IsStrictlySortedBy}
 use Rattle.std.specs.declared.cmp.Ordering.{Ordering}
 use Rattle.std.specs.declared.cmp.Ordering.TheVariants.{Less, Equal, Greater}
 use Rattle.std.specs.Ordering.{eq_by_cmp, is_eq, match_ordering, ordering_reverse}
@@ -10,7 +11,7 @@ use Rattle.std.proofs.lemmas.Cmp.{tied_itself}
 use Rattle.std.proofs.lemmas.List.Sums.{sum_by-cons}
 use Rattle.std.proofs.lemmas.List.Sorted.{list_any-IsPermutation, sum_by-IsPermutation, IsPermutation-map}
 use Rattle.col_model.specs.Sorted.{with_item, distinct_items}
-use Rattle.col_model.proofs.DistinctLaws.{has, same_distinct}
+use Rattle.col_model.proofs.DistinctLaws.{has, same_distinct, sorted-with_item}
 use Rattle.col_facet.specs.declared.facet_cell.FacetCell.{FacetCell}
 use Rattle.col_facet.specs.declared.facet_cell.FacetCount.{FacetCount}
 
@@ -59,11 +60,18 @@ module _ (cmp : FacetCell → FacetCell → Ordering) where
   unfolding distinct_items
   distinct-first c ds h = with-first c (distinct_items cmp ds) (all-distinct (λ d. cmp c d ≡ Less) ds h)
 
-  counts-cons : (f : FacetCount) (fs : List FacetCount) (c : FacetCell)
+  -- the counts of a cell, from the front
+  pub counts-cons : (f : FacetCount) (fs : List FacetCount) (c : FacetCell)
       → counts (f ∷ fs) c ≡ cond (eq_by_cmp cmp c f.cell) f.count 0 + counts fs c
   counts-cons f fs c = sum_by-cons (λ (g : FacetCount). cond (eq_by_cmp cmp c g.cell) g.count 0) f fs
 
   module _ (o : IsTotalOrder cmp) where
+    -- distinct cells ascend
+    pub sorted-distinct : (cs : List FacetCell) → IsStrictlySortedBy cmp (distinct_items cmp cs)
+    unfolding distinct_items IsStrictlySortedBy
+    sorted-distinct [] = tt
+    sorted-distinct (c ∷ cs) = sorted-with_item cmp o c (distinct_items cmp cs) (sorted-distinct cs)
+
     apart-back : (c d : FacetCell) → cmp c d ≡ Less → eq_by_cmp cmp d c ≡ false
     apart-back c d e = ap is_eq (o.antisymm d c ∙ ap ordering_reverse e)
 
@@ -73,7 +81,8 @@ module _ (cmp : FacetCell → FacetCell → Ordering) where
         let apart = apart-back f.cell d e in
         counts-cons f fs d ∙ ap (λ b. cond b f.count 0 + counts fs d) apart ∙ omega arith
 
-    counts-none : (fs : List FacetCount) (c : FacetCell) → IsFirst c (cells fs) → counts fs c ≡ 0
+    -- a cell before all of these has no count
+    pub counts-none : (fs : List FacetCount) (c : FacetCell) → IsFirst c (cells fs) → counts fs c ≡ 0
     counts-none [] c h = refl
     counts-none (f ∷ fs) c h =
         let later = counts-none fs c h.1 in

@@ -1,6 +1,6 @@
 -- Facets: how often cells stand.
-use Rattle.std.specs.Prelude.{◌≡◌, ℕ, ℤ, pos, negsuc, ◌^◌, nat_lt, not, Bool, false, List, ◌++◌, map, take, count_by, if◌then◌else◌}
-use Rattle.std.specs.List.{list_all, sum_by}
+use Rattle.std.specs.Prelude.{◌≡◌, ℕ, ℤ, pos, negsuc, ◌^◌, nat_lt, not, Bool, false, List, ◌++◌, map, flat_map, take, count_by, if◌then◌else◌}
+use Rattle.std.specs.List.{list_all, sum_by, AllByRecursion}
 use Rattle.std.specs.Ordering.{eq_by_cmp, is_lt, is_gt, nat_cmp, ordering_then}
 use Rattle.std.specs.declared.cmp.Ordering.{Ordering}
 use Rattle.col_common.specs.Ascending.{all_adjacent}
@@ -56,10 +56,21 @@ facet_cell t (number z) = if same_type t types.ip then address_cell z else Num z
 abbrev pub counted_as : ColumnType → List (Cell × ℕ) → List FacetCount
 counted_as t counts = map (λ p. record { cell = facet_cell t p.0; count = p.1 }) counts
 
--- the totals of counts of cells are their sums
+-- both types are of addresses, or neither is, so that facets have the same cells for both
+abbrev pub IsOfKind : ColumnType → ColumnType → Type 0
+IsOfKind t u = same_type t types.ip ≡ same_type u types.ip
+
+-- the totals of counts of cells of two columns of a kind are their sums
 abbrev pub TotalsAreSums : Type 0
-TotalsAreSums = (t : ColumnType) (ps qs : List (Cell × ℕ))
-    → totals_of (counted_as t ps ++ counted_as t qs) ≡ counted_as t (sums_of_counts (ps ++ qs))
+TotalsAreSums = (t u v : ColumnType) (ps qs : List (Cell × ℕ)) → IsOfKind t u → IsOfKind t v
+    → totals_of (counted_as u ps ++ counted_as v qs) ≡ counted_as t (sums_of_counts (ps ++ qs))
+
+-- and so are those of any number of columns
+abbrev pub TotalsOfAllAreSums : Type 0
+TotalsOfAllAreSums = (t : ColumnType) (lists : List (ColumnType × List (Cell × ℕ)))
+    → AllByRecursion (λ l. IsOfKind t l.0) lists
+    → totals_of (flat_map (λ l. counted_as l.0 l.1) lists)
+    ≡ counted_as t (sums_of_counts (flat_map (λ l. l.1) lists))
 
 -- 64 bits count each cell
 abbrev pub are_counted : List FacetCount → Bool

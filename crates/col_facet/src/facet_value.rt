@@ -1,5 +1,6 @@
 //! Values of columns as cells of facets.
 ghost use Rattle.std.specs.Prelude.{◌≡◌, pos};
+ghost use Rattle.col_model.specs.Codes.{bool_code};
 ghost use Rattle.col_facet.specs.Cells.{KeepsOrder};
 ghost use Rattle.col_facet.specs.declared.facet_cell.FacetCell.{FacetCell};
 ghost use Rattle.col_facet.specs.declared.facet_cell.FacetCell.TheVariants as cells;
@@ -19,6 +20,16 @@ pub(crate) trait FacetValue: Ord + Copy {
     /// That cells compare as their values.
     fn cells_keep_order()
         ensures { KeepsOrder Self.cmp cell };
+}
+
+impl FacetValue for bool {
+    ghost cell = { λ b. cells.Num (pos (bool_code b)) };
+
+    fn to_cell(self) -> FacetCell {
+        FacetCell::Num(i128::from(u64::from(self)))
+    }
+
+    fn cells_keep_order() {}
 }
 
 impl FacetValue for i64 {

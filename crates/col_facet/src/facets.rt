@@ -1,26 +1,22 @@
 //! Facets of columns.
-ghost use Rattle.std.specs.Prelude.{◌≡◌, pos, true, length, map, IfOk};
+ghost use Rattle.std.specs.Prelude.{◌≡◌, true, length, map, IfOk};
 ghost use Rattle.col_common.specs.Ascending.{AreBelow, is_rising};
 ghost use Rattle.col_column.specs.Columns.{rows_of_values, num_docs_in};
 ghost use Rattle.col_dynamic.specs.Dynamic.{type_of, content_of};
-ghost use Rattle.col_model.specs.Codes.{bool_code};
 ghost use Rattle.col_model.specs.Facets.{facet_of};
 ghost use Rattle.col_numbers.specs.NumValues.{num_values_of};
 ghost use Rattle.col_facet.specs.Facets.{facets_of, counted_as, are_ascending};
-ghost use Rattle.col_facet.specs.Tables.{term_at, flag_cell};
+ghost use Rattle.col_facet.specs.Tables.{term_at};
 ghost use Rattle.col_facet.specs.Values.{values_in_rows};
 
-use crate::blocks::values_of_docs;
+use crate::addresses::address_facets;
 use crate::counting::counts_of_docs;
 use crate::facet_cell::FacetCount;
-use crate::facet_value::FacetValue;
-use crate::runs::facets_of_values;
+use crate::numbers::number_facets;
 use crate::table::counted_facets;
-use col_column::{Column, NumColumn};
 use col_common::DocId;
 use col_dynamic::DynamicColumn;
 use col_text::BytesColumn;
-use col_values::ColumnValues;
 use std::alloc::{AllocError, Global};
 
 /// How often each cell stands in the rows of documents that ascend: those that do, ascending.
@@ -36,47 +32,14 @@ pub fn facet(
     ensures ascending { IfOk result (λ facets. are_ascending facets.items ≡ true) }
 {
     match column {
-        DynamicColumn::Bool(column) => flag_facets(alloc, column, docs),
-        DynamicColumn::I64(column) => value_facets(alloc, column, docs),
-        DynamicColumn::U64(column) => value_facets(alloc, column, docs),
-        DynamicColumn::IpAddr(column) => value_facets(alloc, column, docs),
-        DynamicColumn::DateTime(column) => value_facets(alloc, column, docs),
+        DynamicColumn::Bool(column) => number_facets(alloc, column, docs),
+        DynamicColumn::I64(column) => number_facets(alloc, column, docs),
+        DynamicColumn::U64(column) => number_facets(alloc, column, docs),
+        DynamicColumn::IpAddr(column) => address_facets(alloc, column, docs),
+        DynamicColumn::DateTime(column) => number_facets(alloc, column, docs),
         DynamicColumn::Bytes(column) => term_facets(alloc, column, docs),
         DynamicColumn::Str(column) => term_facets(alloc, column.bytes_column(), docs),
     }
-}
-
-// Those of values, which are sorted.
-fn value_facets<T, V>(
-    alloc: Global,
-    column: &Column<T, V>,
-    docs: &[DocId],
-) -> Result<Vec<FacetCount>, AllocError>
-where
-    T: FacetValue,
-    V: ColumnValues<T>,
-    requires rising { is_rising docs.now ≡ true }
-    requires below { AreBelow (num_docs_in V.values column.now) docs.now }
-    ensures { IfOk result (λ facets. facets.items ≡ facets_of
-        (map T.cell (values_in_rows (rows_of_values V.values column.now) docs.now))) }
-{
-    let values = values_of_docs(alloc, column, docs)?;
-    facets_of_values(alloc, values)
-}
-
-// Those of flags, by a table of two counts.
-fn flag_facets(
-    alloc: Global,
-    column: &NumColumn<bool>,
-    docs: &[DocId],
-) -> Result<Vec<FacetCount>, AllocError>
-    requires rising { is_rising docs.now ≡ true }
-    requires below { AreBelow (num_docs_in num_values_of column.now) docs.now }
-    ensures { IfOk result (λ facets. facets.items ≡ facets_of
-        (map flag_cell (values_in_rows (rows_of_values num_values_of column.now) docs.now))) }
-{
-    let counts = counts_of_docs(alloc, column, docs, 0, 2)?;
-    counted_facets(alloc, &0u64, counts.as_slice())
 }
 
 // Those of terms, by a table of the counts of all ordinals.

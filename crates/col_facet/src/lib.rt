@@ -2,16 +2,20 @@
 //! counts as a list, ascending by cell.
 #![tactic(auto)]
 
+mod addresses;
 mod blocks;
 mod counting;
 mod facet_cell;
+mod facet_number;
 mod facet_value;
 mod facets;
 mod merge;
+mod numbers;
 mod place_cells;
 mod runs;
 mod table;
 mod top;
+mod totals;
 mod whole;
 
 pub use facet_cell::{FacetCell, FacetCount};

@@ -1,16 +1,61 @@
 //! Sums of facets.
 ghost use Rattle.std.specs.Prelude.{◌≡◌, ◌+◌, ◌<◌, ◌≤◌, true, ◌∷◌, [], ◌++◌, drop, length, IfOk, IfErr, OnOk};
 ghost use Rattle.col_common.specs.declared.error.ColumnarError.TheVariants as refusals;
-ghost use Rattle.col_facet.specs.Facets.{totals_of, are_ascending, are_counted, RefusesSums, TotalsAreSums};
+ghost use Rattle.col_facet.specs.Facets.{totals_of, are_ascending, are_counted, RefusesSums, TotalsAreSums, TotalsOfAllAreSums};
 
 use crate::facet_cell::{FacetCell, FacetCount};
+use crate::totals::{is_ascending, totals};
 use col_common::ColumnarError;
 use std::alloc::{AllocError, Global};
 use std::cmp::Ordering;
 
 /// For each cell the sum of its counts in both lists, ascending. It answers TooLarge where 64 bits
-/// don't count a cell.
+/// don't count a cell. Lists that ascend are merged as they stand; one that doesn't is first put in
+/// order, with the counts of each cell summed.
 pub fn merge_facets(
+    alloc: Global,
+    left: &[FacetCount],
+    right: &[FacetCount],
+) -> Result<Vec<FacetCount>, ColumnarError>
+    ensures ok { IfOk result (λ sums. sums.items ≡ totals_of (left.now ++ right.now)) }
+    ensures ascending { IfOk result (λ sums. are_ascending sums.items ≡ true) }
+    ensures counted { OnOk result (are_counted (totals_of (left.now ++ right.now)) ≡ true) }
+    ensures err { IfErr result (λ e. RefusesSums e (totals_of (left.now ++ right.now))) }
+{
+    if is_ascending(left) {
+        return merge_any_right(alloc, left, right);
+    }
+    let left = totals(alloc, left)?;
+    merge_any_right(alloc, &left, right)
+}
+
+/// Totals of facets of columns, all of addresses or none, are the sums of the counts that these
+/// facets are of.
+pub fn totals_are_sums_of_counts()
+    ensures two { TotalsAreSums }
+    ensures any { TotalsOfAllAreSums }
+{}
+
+// Merges lists of which the left one ascends.
+fn merge_any_right(
+    alloc: Global,
+    left: &[FacetCount],
+    right: &[FacetCount],
+) -> Result<Vec<FacetCount>, ColumnarError>
+    requires left { are_ascending left.now ≡ true }
+    ensures ok { IfOk result (λ sums. sums.items ≡ totals_of (left.now ++ right.now)) }
+    ensures counted { OnOk result (are_counted (totals_of (left.now ++ right.now)) ≡ true) }
+    ensures err { IfErr result (λ e. RefusesSums e (totals_of (left.now ++ right.now))) }
+{
+    if is_ascending(right) {
+        return merge_ascending(alloc, left, right);
+    }
+    let right = totals(alloc, right)?;
+    merge_ascending(alloc, left, &right)
+}
+
+// Merges lists that ascend.
+fn merge_ascending(
     alloc: Global,
     left: &[FacetCount],
     right: &[FacetCount],
@@ -18,7 +63,6 @@ pub fn merge_facets(
     requires left { are_ascending left.now ≡ true }
     requires right { are_ascending right.now ≡ true }
     ensures ok { IfOk result (λ sums. sums.items ≡ totals_of (left.now ++ right.now)) }
-    ensures ascending { IfOk result (λ sums. are_ascending sums.items ≡ true) }
     ensures counted { OnOk result (are_counted (totals_of (left.now ++ right.now)) ≡ true) }
     ensures err { IfErr result (λ e. RefusesSums e (totals_of (left.now ++ right.now))) }
 {
@@ -34,11 +78,6 @@ pub fn merge_facets(
     push_all(alloc, &right[j..], &mut sums)?;
     Ok(sums)
 }
-
-/// Totals of facets of columns of one type are the sums of the counts that these facets are of.
-pub fn totals_are_sums_of_counts()
-    ensures { TotalsAreSums }
-{}
 
 // Adds the count of the least cell, and says of how many counts of each list it is.
 fn push_next(

@@ -2,12 +2,19 @@
 ghost use Rattle.std.specs.Prelude.{◌≡◌, ◌<◌, ◌≤◌, true, length, map, IfOk};
 ghost use Rattle.std.specs.List.{All, prefix_len};
 ghost use Rattle.std.specs.List.Sorted.{IsSorted};
+ghost use Rattle.col_common.specs.Ascending.{AreBelow, is_rising};
+ghost use Rattle.col_column.specs.Columns.{rows_of_values, num_docs_in};
 ghost use Rattle.col_values.specs.Values.{IsAtMost};
+ghost use Rattle.col_facet.specs.Cells.{KeepsOrder};
 ghost use Rattle.col_facet.specs.Facets.{facets_of};
+ghost use Rattle.col_facet.specs.Values.{values_in_rows};
 
-use crate::blocks::push_range;
+use crate::blocks::{push_range, values_of_docs};
 use crate::facet_cell::FacetCount;
 use crate::facet_value::FacetValue;
+use crate::place_cells::{OwnCells, PlaceCells};
+use col_column::Column;
+use col_common::DocId;
 use col_values::ColumnValues;
 use std::alloc::{AllocError, Global};
 
@@ -55,35 +62,67 @@ fn facets_of_equal<T: FacetValue, V: ColumnValues<T>>(
     Ok(facets)
 }
 
-/// How often the cells of values stand among them.
-pub(crate) fn facets_of_values<T: FacetValue>(
+/// How often the cells of values in the rows of documents stand there.
+pub(crate) fn value_facets<T, V>(
+    alloc: Global,
+    column: &Column<T, V>,
+    docs: &[DocId],
+) -> Result<Vec<FacetCount>, AllocError>
+where
+    T: FacetValue,
+    V: ColumnValues<T>,
+    requires rising { is_rising docs.now ≡ true }
+    requires below { AreBelow (num_docs_in V.values column.now) docs.now }
+    ensures { IfOk result (λ facets. facets.items ≡ facets_of
+        (map T.cell (values_in_rows (rows_of_values V.values column.now) docs.now))) }
+{
+    let values = values_of_docs(alloc, column, docs)?;
+    facets_of_values(alloc, values)
+}
+
+// How often the cells of values stand among them.
+fn facets_of_values<T: FacetValue>(
     alloc: Global,
     values: Vec<T>,
 ) -> Result<Vec<FacetCount>, AllocError>
     ensures { IfOk result (λ facets. facets.items ≡ facets_of (map T.cell values.items)) }
 {
     T::cells_keep_order();
-    let mut sorted = values;
-    sorted.sort_unstable();
-    facets_of_sorted(alloc, sorted.as_slice())
+    facets_of_places(alloc, &OwnCells, values)
 }
 
-// The same of values in order.
-fn facets_of_sorted<T: FacetValue>(
+/// How often the cells of places stand among them, which are sorted.
+pub(crate) fn facets_of_places<T: Ord + Copy, P: PlaceCells<T>>(
     alloc: Global,
-    values: &[T],
+    cells: &P,
+    places: Vec<T>,
 ) -> Result<Vec<FacetCount>, AllocError>
-    requires { IsSorted T.cmp values.now }
-    ensures { IfOk result (λ facets. facets.items ≡ facets_of (map T.cell values.now)) }
+    requires { KeepsOrder T.cmp (P.cells cells.now) }
+    ensures { IfOk result (λ facets. facets.items ≡ facets_of (map (P.cells cells.now) places.items)) }
 {
-    T::cells_keep_order();
-    let mut facets = Vec::new(alloc);
+    let mut sorted = places;
+    sorted.sort_unstable();
+    facets_of_sorted(alloc, cells, sorted.as_slice())
+}
+
+// The same of places in order.
+fn facets_of_sorted<T: Ord + Copy, P: PlaceCells<T>>(
+    alloc: Global,
+    cells: &P,
+    places: &[T],
+) -> Result<Vec<FacetCount>, AllocError>
+    requires keeps { KeepsOrder T.cmp (P.cells cells.now) }
+    requires sorted { IsSorted T.cmp places.now }
+    ensures { IfOk result (λ facets. facets.items ≡ facets_of (map (P.cells cells.now) places.now)) }
+{
+    let mut facets = Vec::with_capacity(alloc, count_runs(places))?;
     let mut at = 0;
-    while at < values.len() {
-        let first = values[at];
-        let run = front_run(first, &values[at..]);
+    while at < places.len() {
+        let first = places[at];
+        let run = front_run(first, &places[at..]);
+        let cell = cells.cell_at(alloc, first)?;
         facets.push(FacetCount {
-            cell: first.to_cell(),
+            cell,
             count: run as u64,
         })?;
         at += run;
@@ -91,8 +130,17 @@ fn facets_of_sorted<T: FacetValue>(
     Ok(facets)
 }
 
+// How many runs of equal values there are, for the room that their cells take.
+fn count_runs<T: Ord + Copy>(values: &[T]) -> usize {
+    let mut runs = 1usize;
+    for at in 1..values.len() {
+        runs = runs.wrapping_add((values[at - 1] != values[at]) as usize);
+    }
+    runs
+}
+
 // How many values at the front are this one.
-fn front_run<T: FacetValue>(first: T, values: &[T]) -> usize
+fn front_run<T: Ord + Copy>(first: T, values: &[T]) -> usize
     ensures run { result ≡ prefix_len (λ v. T.eq v first) values.now }
     ensures within { result ≤ length values.now }
 {

@@ -35,7 +35,7 @@ fn count_number(number: u64, base: u64, counts: &mut [u64])
 }
 
 /// How often the cells of places stand, where they do, by a table of counts.
-pub(crate) fn counted_facets<P: PlaceCells>(
+pub(crate) fn counted_facets<P: PlaceCells<u64>>(
     alloc: Global,
     places: &P,
     counts: &[u64],
@@ -51,7 +51,7 @@ pub(crate) fn counted_facets<P: PlaceCells>(
 }
 
 // Adds the cell of a place with its count, where that isn't 0.
-fn push_counted<P: PlaceCells>(
+fn push_counted<P: PlaceCells<u64>>(
     alloc: Global,
     places: &P,
     place: u64,

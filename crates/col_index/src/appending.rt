@@ -23,7 +23,7 @@ pub(crate) fn push_pair(
 }
 
 /// Appends a document once for each position of a range, and these, as far as memory reaches.
-#[inline]
+#[inline(always)]
 pub(crate) fn push_run(
     docs_out: &mut Vec<DocId>,
     rows_out: &mut Vec<RowId>,

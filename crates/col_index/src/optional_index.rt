@@ -306,7 +306,8 @@ impl OptionalIndex {
         }
     }
 
-    /// The runs of the rows with a value, where the index has them in runs.
+    /// The runs of the rows with a value, where the index has them in runs. They are a shorter way
+    /// alone: an answer of none costs time, and promises nothing of the rows.
     pub fn runs(&self) -> Option<IndexRuns<'_>>
         ensures { IfSome result (λ runs. runs ≡ self.now) }
     {

@@ -1,11 +1,8 @@
 -- Keys that ascend are of different slots.
-use Rattle.std.proofs.Common.{◌≡◌, ℕ, Bool, true, false, cond, List, [], ◌∷◌, map, filter, refl, sym, ap, ◌∙◌, subst, T}
+use Rattle.std.proofs.Common.{◌≡◌, ℕ, Bool, true, false, cond, List, [], ◌∷◌, map, filter, refl, sym, ap, ◌∙◌}
 use Rattle.std.specs.Prelude.{is_none}
 use Rattle.std.specs.List.{AllByRecursion}
-use Rattle.std.specs.Ordering.{nat_cmp, is_lt}
-use Rattle.std.specs.Cmp.Lexicographic.{slice_cmp}
 use Rattle.std.proofs.lemmas.Bool.{and_parts, false≢true}
-use Rattle.std.proofs.lemmas.Cmp.{tied_itself, nat_list_cmp_total}
 use Rattle.col_common.specs.Ascending.{is_before, is_ascending}
 use Rattle.col_model.specs.Category.{category_of, only_type, Slot, slot_of, same_slot}
 use Rattle.col_model.specs.ColumnType.{ColumnType, is_numerical}
@@ -13,25 +10,11 @@ use Rattle.col_model.specs.ColumnType as types
 use Rattle.col_model.specs.Keys.{Key, key_bytes}
 use Rattle.col_model.proofs.ListLaws.{ascending-tail}
 use Rattle.col_model.proofs.OrderedColumns.{same-slots}
-use Rattle.col_model.proofs.OrderingLaws.{less_of}
+use Rattle.col_model.proofs.OrderingLaws.{before-trans, not-before}
 use Rattle.col_model.proofs.SharedTypes.{only-type, own-type}
-use Rattle.col_model.proofs.StatsLaws.{all_by, all_mapped, all_both}
-
--- ---- lists
-
-any : {A : Type 0} {P : A → Type 0} → ((x : A) → P x) → (xs : List A) → AllByRecursion P xs
-any f [] = tt
-any f (x ∷ xs) = (f x, any f xs)
+use Rattle.col_model.proofs.StatsLaws.{all_items, all_by, all_mapped, all_both}
 
 -- ---- byte lists that ascend
-
-before-trans : (a b c : List ℕ) → is_before a b ≡ true → is_before b c ≡ true → is_before a c ≡ true
-before-trans a b c e f =
-    ap is_lt (nat_list_cmp_total.trans a b c (less_of (slice_cmp nat_cmp a b) (subst T (sym e) tt))
-    (less_of (slice_cmp nat_cmp b c) (subst T (sym f) tt)))
-
-not-before : (a : List ℕ) → is_before a a ≡ true → ⊥
-not-before a e = false≢true (sym (ap is_lt (tied_itself nat_list_cmp_total a)) ∙ e)
 
 behind : (a : List ℕ) (others : List (List ℕ)) → is_ascending (a ∷ others) ≡ true → AllByRecursion (λ b. is_before a b ≡ true) others
 behind a [] e = tt
@@ -118,7 +101,7 @@ module _ (k : Key) (ks : List Key) (before : is_ascending (map key_bytes (k ∷ 
       → AllByRecursion (λ (l : Key). is_numerical k.column_type ≡ true → is_numerical l.column_type ≡ true
       → is_before k.name l.name ≡ true) ks
   by-name true e = all_by (λ l f _. f) ks (names-behind k.name ks (behind k.name (names ks) (named-as true e)))
-  by-name false e = any (λ l n. absurd (false≢true (sym e ∙ n))) ks
+  by-name false e = all_items (λ l n. absurd (false≢true (sym e ∙ n))) ks
 
   all-behind : AllByRecursion (IsBehind k) ks
   all-behind = all_by (λ l p. record { before = p.0; numerical = p.1 }) ks

@@ -7,4 +7,6 @@ mod WholeLemmas
 mod SegmentLemmas
 mod ScriptLemmas
 mod CountLemmas
+mod MergeLemmas
+mod StackLemmas
 mod FacetLemmas

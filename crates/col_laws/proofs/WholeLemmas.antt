@@ -1,6 +1,6 @@
 -- A merge takes files alone that stand for tables.
-use Rattle.std.proofs.Common.{◌≡◌, ℕ, ◌^◌, nat_le, ◌&&◌, ◌||◌, Bool, true, false, List, [], ◌∷◌, ◌++◌, map, filter_map, length, Some, None, Ok, is_ok, refl, sym, ap, ◌∙◌, subst}
-use Rattle.std.specs.Prelude.{Option, Result, is_some, is_none, option_and_then}
+use Rattle.std.proofs.Common.{◌≡◌, ℕ, ◌&&◌, ◌||◌, Bool, true, false, List, [], ◌∷◌, ◌++◌, map, Some, None, Ok, is_ok, refl, sym, ap, ◌∙◌, subst}
+use Rattle.std.specs.Prelude.{Option, is_some, is_none, option_and_then}
 use Rattle.std.specs.List.{AllByRecursion}
 use Rattle.std.specs.Ordering.{eq_by_cmp, is_eq}
 use Rattle.std.proofs.lemmas.Bool.{or_parts, or_right, false≢true, true≢false}
@@ -9,15 +9,15 @@ use Rattle.std.proofs.lemmas.List.Folds.{list_any-append}
 use Rattle.col_common.specs.Reading.{◌>>=◌}
 use Rattle.col_model.specs.Category.{Slot, slot_cmp}
 use Rattle.col_model.specs.File.{Part, PartColumn, parts_of, whole_column, for_each, table_of_part}
-use Rattle.col_model.specs.Merge.{Required, required_slot, part_slot, column_in, whole_column_in, has_bad_column, joined_column, required_refusal, all_slots, row_counts, merged}
-use Rattle.col_model.specs.Order.{Order, picks}
-use Rattle.col_model.specs.Refusal.{Refusal, refuse_if, or_refuse, each_ok, invalid_data, bad_order, too_large}
+use Rattle.col_model.specs.Merge.{Required, required_slot, part_slot, column_in, whole_column_in, has_bad_column, joined_column, all_slots, merged}
+use Rattle.col_model.specs.Order.{Order}
+use Rattle.col_model.specs.Refusal.{or_refuse, invalid_data}
 use Rattle.col_model.specs.Refusal as refusals
 use Rattle.col_model.specs.Table.{Column, Table}
 use Rattle.col_model.specs.U64List.{joined_lists}
 use Rattle.col_model.proofs.DistinctLaws.{has, has-distinct}
-use Rattle.col_model.proofs.OrderedColumns.{EachIs, each-is, same-slots}
-use Rattle.col_model.proofs.RefusalLaws.{bind-ok, same_Ok, refuse_if-ok}
+use Rattle.col_model.proofs.OrderedColumns.{EachIs, same-slots}
+use Rattle.col_model.proofs.RefusalLaws.{bind-ok, same_Ok}
 use Rattle.col_model.proofs.SlotLaws.{slots_total}
 use Rattle.col_model.proofs.StackTables.{not-refused}
 use Rattle.col_model.proofs.StatsLaws.{all_by, all_both}
@@ -25,6 +25,7 @@ use Rattle.col_laws.specs.SegmentFiles.{file_table, parts_in}
 use Rattle.col_laws.specs.FileLaws.{MergedFilesAreWhole}
 use Rattle.col_laws.proofs.KeyLemmas.{AreApart}
 use Rattle.col_laws.proofs.FileKeyLemmas.{part_key, file-apart, found-own}
+use Rattle.col_laws.proofs.MergeLemmas.{merged-made}
 use Rattle.col_laws.proofs.MadeLemmas.{part_in, ok-value}
 
 -- ---- a part whose columns are whole
@@ -122,23 +123,10 @@ module _ (order : Order) (picked : List (ℕ × ℕ)) (parts : List Part) (requi
 merged-good : (parts : List Part) (required : List Required) (order : Order) (t : Table)
     → merged parts required order ≡ Ok t → (q : Slot) → has slot_cmp q (slots_of parts) ≡ true
     → has_bad_column q parts ≡ false
-unfolding merged
 merged-good parts required order t e q h =
-    let make : List (ℕ × ℕ) → List (Option Column) → Result Table Refusal =
-    λ picked columns. Ok (record { row_count = length picked; columns = filter_map (λ c. c) columns }) in
-    let join : List (ℕ × ℕ) → Result (List (Option Column)) Refusal =
-    λ picked. each_ok (joined_column order picked parts required) (all_slots parts required) in
-    let a = bind-ok (or_refuse (picks order (row_counts parts)) bad_order) (λ picked. refusals.◌>>=◌
-    (refuse_if (nat_le (2 ^ 32) (length picked)) too_large)
-    (λ _. refusals.◌>>=◌ (required_refusal [] required) (λ _. refusals.◌>>=◌ (join picked) (make picked)))) t
-    e in
-    let b = refuse_if-ok (nat_le (2 ^ 32) (length a.0)) too_large
-    (λ _. refusals.◌>>=◌ (required_refusal [] required) (λ _. refusals.◌>>=◌ (join a.0) (make a.0))) t a.2 in
-    let c = bind-ok (required_refusal [] required) (λ _. refusals.◌>>=◌ (join a.0) (make a.0)) t b in
-    let d = bind-ok (join a.0) (make a.0) t c.2 in
-    each-good order a.0 parts required (all_slots parts required) d.0
-    (each-is (joined_column order a.0 parts required) (all_slots parts required) d.0 d.1) q
-    (slots-all order a.0 parts required q h)
+    let is = merged-made parts required order t e in
+    each-good order is.picked parts required (all_slots parts required) is.made is.each q
+    (slots-all order is.picked parts required q h)
 
 -- ---- files
 

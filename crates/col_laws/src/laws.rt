@@ -63,7 +63,8 @@ pub fn scripts_stack_files()
 
 // ---- Facets of stacks.
 
-/// The facets of each column of a stack are the sums of those of the tables' columns.
+/// The facets of each column of a stack, also of one with required columns, are the sums of those
+/// of the tables' columns.
 pub fn facets_of_stacks_are_summed()
     ensures { FacetsOfStacksAreSummed }
 {}

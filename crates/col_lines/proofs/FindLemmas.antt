@@ -5,8 +5,9 @@ use Rattle.serde_json.specs.Find.{as_str}
 use Rattle.col_common.specs.Reading.{◌>>=◌}
 use Rattle.col_model.specs.ColumnType.{ColumnType}
 use Rattle.col_model.specs.Table.{Cell}
-use Rattle.col_program.specs.Script.{Line, lookup, as_u32, as_type, as_cell, find_line}
-use Rattle.col_lines.specs.Values.{ends_as}
+use Rattle.col_program.specs.Script.{Line, ask, lookup, find_line}
+use Rattle.col_program.specs.Values.{as_u32, as_type, as_cell}
+use Rattle.col_questions.specs.Values.{ends_as}
 
 none_of : {A B : Type 0} (o : Option A) (f : A → Option B) → ((x : A) → f x ≡ None) → (o >>= f) ≡ None
 none_of None f h = refl
@@ -14,7 +15,7 @@ none_of (Some x) f h = h x
 
 -- the lookup of these parts
 abbrev lookup_of : List ℕ → ℕ → ℕ → ColumnType × Cell × Cell → Line
-lookup_of name f g e = lookup (record { name = name; column_type = e.0; lo = e.1; hi = e.2; from = f; to = g })
+lookup_of name f g e = ask (lookup (record { name = name; column_type = e.0; lo = e.1; hi = e.2; from = f; to = g }))
 
 module _ (lo hi : Data) where
   -- what the parts come to

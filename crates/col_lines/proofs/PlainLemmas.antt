@@ -11,10 +11,11 @@ use Rattle.col_common.specs.Reading.{◌>>=◌}
 use Rattle.col_model.specs.ColumnType.{ColumnType}
 use Rattle.col_model.specs.Table.{Cell}
 use Rattle.col_model.specs.Recording.{recorded}
-use Rattle.col_program.specs.Script.{Line, call, line_spelled, line_spelled_by, shapes, value_line, line_among, type_named, as_u32, as_cell, as_list}
+use Rattle.col_program.specs.Script.{Line, call, line_spelled, line_spelled_by, shapes, value_line, line_among}
+use Rattle.col_program.specs.Values.{type_named, as_u32, as_cell, as_list}
 use Rattle.col_program.proofs.ScriptLaws.{read-some}
+use Rattle.col_questions.specs.Values.{typed_as}
 use Rattle.col_lines.specs.Plain.{tokens_of, data_of, plain_line}
-use Rattle.col_lines.specs.Values.{typed_as}
 use Rattle.col_lines.proofs.WordLemmas.{line_of_value}
 
 -- what tokens are read as

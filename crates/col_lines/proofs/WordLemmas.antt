@@ -1,60 +1,39 @@
--- The words that lines begin with, and that name types.
-use Rattle.std.proofs.Common.{◌≡◌, ℕ, Bool, true, false, cond, List, [], ◌∷◌, ◌++◌, map, Option, Some, None, refl, sym, ◌∙◌, ap, subst, bytes_eq}
-use Rattle.std.specs.Prelude.{find, codes, unwrap_or}
+-- The words that lines begin with.
+use Rattle.std.proofs.Common.{◌≡◌, ℕ, Bool, true, false, cond, List, [], ◌∷◌, ◌++◌, map, Option, Some, None, refl, sym, ◌∙◌, ap, bytes_eq}
+use Rattle.std.specs.Prelude.{find, codes}
 use Rattle.std.proofs.lemmas.Slice.Eq.{bytes_eq-Decides}
 use Rattle.serde_json.specs.Data.{Data}
 use Rattle.serde_json.specs.Find.{as_str}
 use Rattle.col_common.specs.Reading.{◌>>=◌}
 use Rattle.col_model.specs.ColumnType.{ColumnType, type_name}
 use Rattle.col_model.specs.ColumnType as types
-use Rattle.col_program.specs.Script.{Line, as_type, type_named, all_types, shapes, line_among, value_line, segment_line, type_line, sorted_line, tie_line, require_line, order_line, find_line}
+use Rattle.col_model.proofs.ListLaws.{find-passes}
+use Rattle.col_program.specs.Script.{Line, shapes, line_among, value_line, segment_line, type_line, sorted_line, tie_line, require_line, order_line, find_line, facet_line, query_line}
+use Rattle.col_program.specs.Values.{as_type, type_named, all_types}
+use Rattle.col_questions.proofs.WordLemmas.{other, none_of_seven}
 use Rattle.col_lines.specs.Lines.{control_shapes}
 
--- another word
-other : (a b : List ℕ) → (b ≡ a → ⊥) → bytes_eq a b ≡ false
-other a b h = go (bytes_eq a b) refl
-  where
-    go : (t : Bool) → bytes_eq a b ≡ t → bytes_eq a b ≡ false
-    go true e = absurd (h (sym ((bytes_eq-Decides a b).0 e)))
-    go false e = e
-
--- none of seven
-none_of_seven : {A : Type 0} (p : A → Bool) (a b c d e f g : A) → p a ≡ false → p b ≡ false → p c ≡ false
-    → p d ≡ false → p e ≡ false → p f ≡ false → p g ≡ false
-    → find p (a ∷ b ∷ c ∷ d ∷ e ∷ f ∷ g ∷ []) ≡ None
-none_of_seven p a b c d e f g ha hb hc hd he hf hg = rw (ha, hb, hc, hd, he, hf, hg) refl
-
--- a word that names no type
-pub no_type : (word : List ℕ) → (word ≡ codes "i64" → ⊥) → (word ≡ codes "u64" → ⊥) → (word ≡ codes "bytes" → ⊥) → (word ≡ codes "str" → ⊥)
-    → (word ≡ codes "bool" → ⊥) → (word ≡ codes "ip" → ⊥) → (word ≡ codes "datetime" → ⊥) → type_named word ≡ None
-no_type word i u by st bo ip da =
-    none_of_seven (λ t. bytes_eq (type_name t) word) types.i64 types.u64 types.bytes types.str types.bool types.ip types.datetime
-    (other (codes "i64") word i) (other (codes "u64") word u) (other (codes "bytes") word by)
-    (other (codes "str") word st) (other (codes "bool") word bo) (other (codes "ip") word ip)
-    (other (codes "datetime") word da)
+-- none of nine
+none_of_nine : {A : Type 0} (p : A → Bool) (a b c d e f g h i : A) → p a ≡ false → p b ≡ false → p c ≡ false
+    → p d ≡ false → p e ≡ false → p f ≡ false → p g ≡ false → p h ≡ false → p i ≡ false
+    → find p (a ∷ b ∷ c ∷ d ∷ e ∷ f ∷ g ∷ h ∷ i ∷ []) ≡ None
+none_of_nine p a b c d e f g h i ha hb hc hd he hf hg hh hi = rw (ha, hb) (none_of_seven p c d e f g h i hc hd he hf hg hh hi)
 
 -- a word that none of the other lines begins with
 pub no_control : (d : Data) (ds : List Data) (word : List ℕ) → as_str d ≡ Some word → (word ≡ codes "segment" → ⊥)
     → (word ≡ codes "type" → ⊥) → (word ≡ codes "sorted" → ⊥)
     → (word ≡ codes "tie" → ⊥) → (word ≡ codes "require" → ⊥) → (word ≡ codes "order" → ⊥)
-    → (word ≡ codes "find" → ⊥) → line_among control_shapes (d ∷ ds) ≡ None
-no_control d ds word s se ty so ti re or fi =
+    → (word ≡ codes "find" → ⊥) → (word ≡ codes "facet" → ⊥) → (word ≡ codes "query" → ⊥)
+    → line_among control_shapes (d ∷ ds) ≡ None
+no_control d ds word s se ty so ti re or fi fa qu =
     ap (λ o. o >>= λ word. find (λ shape. bytes_eq shape.0 word) control_shapes >>= λ shape. shape.1 ds) s
-    ∙ ap (λ o. o >>= λ shape. shape.1 ds) (none_of_seven {A = List ℕ × (List Data → Option Line)} (λ shape. bytes_eq shape.0 word)
+    ∙ ap (λ o. o >>= λ shape. shape.1 ds) (none_of_nine {A = List ℕ × (List Data → Option Line)} (λ shape. bytes_eq shape.0 word)
     (codes "segment", segment_line) (codes "type", type_line) (codes "sorted", sorted_line) (codes "tie", tie_line)
     (codes "require", require_line) (codes "order", order_line) (codes "find", find_line)
+    (codes "facet", facet_line) (codes "query", query_line)
     (other (codes "segment") word se) (other (codes "type") word ty) (other (codes "sorted") word so)
     (other (codes "tie") word ti) (other (codes "require") word re) (other (codes "order") word or)
-    (other (codes "find") word fi))
-
--- what is found passes the test
-find_passes : {A : Type 0} (p : A → Bool) (xs : List A) (x : A) → find p xs ≡ Some x → p x ≡ true
-find_passes p [] x e = cc
-find_passes p (y ∷ ys) x e = go (p y) refl e (find_passes p ys x)
-  where
-    go : (t : Bool) → p y ≡ t → cond t (Some y) (find p ys) ≡ Some x → (find p ys ≡ Some x → p x ≡ true) → p x ≡ true
-    go true h e again = subst (λ z. p z ≡ true) (ap (λ o. unwrap_or o x) e) h
-    go false h e again = again e
+    (other (codes "find") word fi) (other (codes "facet") word fa) (other (codes "query") word qu))
 
 -- the shape that begins with a type's name
 shape_of_name : (t : ColumnType) → find (λ shape. bytes_eq shape.0 (type_name t)) shapes ≡ Some (type_name t, value_line t)
@@ -75,7 +54,7 @@ line_of_value d ds t e = go (as_str d) e
     go None e = cc
     go (Some word) e =
         let same : type_name t ≡ word = (bytes_eq-Decides (type_name t) word).0
-        (find_passes (λ t. bytes_eq (type_name t) word) all_types t e) in
+        (find-passes (λ t. bytes_eq (type_name t) word) all_types t e) in
         ap (λ w. find (λ shape. bytes_eq shape.0 w) shapes >>= λ shape. shape.1 ds) (sym same)
         ∙ ap (λ o. o >>= λ shape. shape.1 ds) (shape_of_name t)
 

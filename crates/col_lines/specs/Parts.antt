@@ -3,7 +3,8 @@ use Rattle.std.specs.Prelude.{ℕ, List, [], ◌∷◌, Option, Some, None}
 use Rattle.serde_json.specs.Data.{Data}
 use Rattle.col_common.specs.Reading.{◌>>=◌}
 use Rattle.col_model.specs.File.{for_each}
-use Rattle.col_program.specs.Script.{as_u32, as_list, as_address}
+use Rattle.col_program.specs.Script.{as_address}
+use Rattle.col_program.specs.Values.{as_u32, as_list}
 
 -- the row of two parts
 abbrev pub address_among : List Data → Option (ℕ × ℕ)

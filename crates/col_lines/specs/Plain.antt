@@ -6,8 +6,9 @@ use Rattle.serde_json.specs.Data.{Data, boolean, number, string}
 use Rattle.serde_json.specs.Read.{number_of}
 use Rattle.col_common.specs.Reading.{◌>>=◌}
 use Rattle.col_model.specs.Recording.{recorded}
-use Rattle.col_program.specs.Script.{Line, call, type_named, as_u32}
-use Rattle.col_lines.specs.Values.{typed_as}
+use Rattle.col_program.specs.Script.{Line, call}
+use Rattle.col_program.specs.Values.{type_named, as_u32}
+use Rattle.col_questions.specs.Values.{typed_as}
 
 -- the tokens of an array of four
 abbrev pub tokens_of : List ℕ → List ℕ → List ℕ → Token → List Token

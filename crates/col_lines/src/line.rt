@@ -5,15 +5,17 @@ ghost use Rattle.serde_json.specs.Read.{read};
 ghost use Rattle.serde_json.specs.View.{view};
 ghost use Rattle.col_common.specs.Reading.{only_if};
 ghost use Rattle.col_model.specs.ColumnType.{has_terms};
-ghost use Rattle.col_program.specs.Script.{as_list, line_among, line_spelled, shapes, segment_line, type_line, sorted_line, tie_line, value_line, require_line, order_line, find_line};
+ghost use Rattle.col_program.specs.Script.{line_among, line_spelled, shapes, segment_line, type_line, sorted_line, tie_line, value_line, require_line, order_line, find_line, facet_line, query_line};
+ghost use Rattle.col_program.specs.Values.{as_list};
 ghost use Rattle.col_types.specs.Kinds.{kind_of};
 ghost use Rattle.col_lines.specs.Lines.{script_line_of, terms_type, control_shapes};
 
-use crate::lookup::Find;
-use crate::parts::{as_rows, as_type, as_u32, take_text};
+use crate::parts::{as_rows, as_u32};
 use crate::plain::parse_plain;
-use crate::value::{TypedValue, take_ends, take_value};
 use col_common::{DocId, RowAddr};
+use col_questions::{
+    Find, QueryError, Question, TypedValue, as_type, parse_query, take_ends, take_text, take_value,
+};
 use col_types::ColumnType;
 use json::Scratch;
 use serde_json::Value;
@@ -70,7 +72,7 @@ pub enum Line {
         column_type: ColumnType,
     },
     Order(Vec<RowAddr>),
-    Lookup(Find),
+    Ask(Question),
 }
 
 /// The line that a piece of a script spells, none of a bad one.
@@ -173,6 +175,8 @@ fn parse_control(
         "require" => Ok(parse_require(rest)),
         "order" => parse_order(alloc, rest),
         "find" => parse_find(alloc, rest),
+        "facet" => Ok(parse_facet(rest)),
+        "query" => parse_query_line(alloc, rest),
         _ => Ok(None),
     }
 }
@@ -335,12 +339,44 @@ fn read_find(
         return Ok(None);
     };
     match take_ends(alloc, column_type, lo, hi)? {
-        Some(ends) => Ok(Some(Line::Lookup(Find {
+        Some(ends) => Ok(Some(Line::Ask(Question::Find(Find {
             name,
             ends,
             from,
             to,
-        }))),
+        })))),
         None => Ok(None),
+    }
+}
+
+fn parse_facet(items: &mut [Value]) -> Option<Line>
+    ensures { option_map script_line_of result ≡ facet_line (map view items.old) }
+{
+    let [name, column_type] = items else {
+        return None;
+    };
+    let name = take_text(name)?;
+    let column_type = as_type(column_type)?;
+    Some(Line::Ask(Question::Facet { name, column_type }))
+}
+
+fn parse_query_line(alloc: Global, items: &[Value]) -> Result<Option<Line>, AllocError>
+    ensures { IfOk result (λ line. option_map script_line_of line
+        ≡ query_line (map view items.now)) }
+{
+    match items {
+        [query] => read_query(alloc, query),
+        _ => Ok(None),
+    }
+}
+
+fn read_query(alloc: Global, query: &Value) -> Result<Option<Line>, AllocError>
+    ensures { IfOk result (λ line. option_map script_line_of line
+        ≡ query_line (view query.now ∷ [])) }
+{
+    match parse_query(alloc, query) {
+        Ok(query) => Ok(Some(Line::Ask(Question::Query(query)))),
+        Err(QueryError::Memory) => Err(AllocError),
+        Err(QueryError::Shape) => Ok(None),
     }
 }

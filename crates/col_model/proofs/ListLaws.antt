@@ -1,5 +1,6 @@
 -- Lists: what all items keep, and where items stand.
-use Rattle.std.proofs.Common.{◌≡◌, ℕ, zero, suc, ◌-◌, ◌<◌, ◌≤◌, nat_lt, Bool, true, false, lt-ltb, List, [], ◌∷◌, ◌++◌, map, filter, filter_map, length, get_or, take, drop, slice_get, Some, refl, sym, ◌∙◌, ap, arith, ◌+◌, sum, cond}
+use Rattle.std.proofs.Common.{◌≡◌, ℕ, zero, suc, ◌-◌, ◌<◌, ◌≤◌, nat_lt, Bool, true, false, lt-ltb, List, [], ◌∷◌, ◌++◌, map, filter, filter_map, length, get_or, take, drop, slice_get, Some, find, refl, sym, subst, ◌∙◌, ap, arith, ◌+◌, sum, cond}
+use Rattle.std.specs.Prelude.{unwrap_or}
 use Rattle.std.specs.List.{AllByRecursion, range_with_len}
 use Rattle.std.proofs.lemmas.Bool.{true≢false, and_parts}
 use Rattle.std.proofs.lemmas.List.Sums.{sum_by-cons}
@@ -70,6 +71,15 @@ filter-few test (x ∷ xs) = by (test x) (filter-few test xs)
 pub filter-none : {A : Type 0} (test : A → Bool) → ((x : A) → test x ≡ false) → (xs : List A) → filter test xs ≡ []
 filter-none test none [] = refl
 filter-none test none (x ∷ xs) = rw (none x) (filter-none test none xs)
+
+-- what is found passes the test
+pub find-passes : {A : Type 0} (test : A → Bool) (xs : List A) (x : A) → find test xs ≡ Some x → test x ≡ true
+find-passes test [] x e = cc
+find-passes test (y ∷ ys) x e = by (test y) refl e (find-passes test ys x)
+  where
+    by : (b : Bool) → test y ≡ b → cond b (Some y) (find test ys) ≡ Some x → (find test ys ≡ Some x → test x ≡ true) → test x ≡ true
+    by true here e behind = subst (λ z. test z ≡ true) (ap (λ o. unwrap_or o x) e) here
+    by false here e behind = behind e
 
 -- the item behind others
 pub slice_get-behind : {A : Type 0} (before : List A) (x : A) (rest : List A) → slice_get (before ++ x ∷ rest) (length before) ≡ Some x

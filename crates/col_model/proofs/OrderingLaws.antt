@@ -1,9 +1,12 @@
 -- What the tests of an ordering say, how numbers compare, and which byte lists are equal.
-use Rattle.std.proofs.Common.{◌≡◌, ℕ, ◌<◌, ◌==◌, nat_lt, Bool, true, false, cond, T, List, bytes_eq, refl, arith}
+use Rattle.std.proofs.Common.{◌≡◌, ℕ, ◌<◌, ◌==◌, nat_lt, Bool, true, false, cond, T, List, bytes_eq, refl, sym, ap, ◌∙◌, arith}
 use Rattle.std.specs.declared.cmp.Ordering.{Ordering}
 use Rattle.std.specs.declared.cmp.Ordering.TheVariants.{Less, Equal, Greater}
 use Rattle.std.specs.Ordering.{nat_cmp, is_lt, is_eq}
+use Rattle.std.specs.Cmp.Lexicographic.{slice_cmp}
+use Rattle.std.proofs.lemmas.Cmp.{tied_itself, nat_list_cmp_total}
 use Rattle.std.proofs.lemmas.Slice.Eq.{bytes_eq-Decides}
+use Rattle.col_common.specs.Ascending.{is_before}
 use Rattle.std.proofs.lemmas.Bool.{false≢true, lt-ltb, le-ltb, ne_eqb, ltb-true}
 
 -- an ordering that passes the test for less is Less
@@ -48,3 +51,12 @@ bytes_eq-true a b e = (bytes_eq-Decides a b).0 e
 -- a byte list passes the test of equality with itself
 pub bytes_eq-same : (a : List ℕ) → bytes_eq a a ≡ true
 bytes_eq-same a = (bytes_eq-Decides a a).1 refl
+
+-- a byte list before another is before each that the other is before
+pub before-trans : (a b c : List ℕ) → is_before a b ≡ true → is_before b c ≡ true → is_before a c ≡ true
+before-trans a b c e f =
+    ap is_lt (nat_list_cmp_total.trans a b c (less_where (slice_cmp nat_cmp a b) e) (less_where (slice_cmp nat_cmp b c) f))
+
+-- no byte list is before itself
+pub not-before : (a : List ℕ) → is_before a a ≡ true → ⊥
+not-before a e = false≢true (sym (ap is_lt (tied_itself nat_list_cmp_total a)) ∙ e)

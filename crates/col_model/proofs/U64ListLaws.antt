@@ -95,7 +95,8 @@ stats_of-describes xs all =
       count = refl;
     }
 
-no_count : (xs : List ℕ) → length xs ≡ 0 → xs ≡ []
+-- a list of no length
+pub no_count : (xs : List ℕ) → length xs ≡ 0 → xs ≡ []
 no_count [] e = refl
 no_count (x ∷ xs) e = absurd (omega arith)
 

@@ -5,6 +5,7 @@ use Rattle.std.proofs.lemmas.Bool.{and_parts, cases_lt}
 use Rattle.std.proofs.lemmas.Option.{same_Some, none-some}
 use Rattle.std.proofs.lemmas.Bool.Decides.{nat_tests}
 use Rattle.col_model.specs.Codecs.{estimate, is_not_below, chosen_before, chosen_codec}
+use Rattle.col_model.proofs.TestLaws.{and_regrouped}
 use Rattle.col_numbers.specs.declared.serialize.Candidate.{Candidate}
 use Rattle.col_numbers.specs.Written.{HasBest}
 use Rattle.col_numbers.specs.CodecTypes.{code_of}
@@ -19,16 +20,12 @@ and_true : (b : Bool) → (b && true) ≡ b
 and_true true = refl
 and_true false = refl
 
-regroup : (a b c : Bool) → (a && (b && c)) ≡ ((a && b) && c)
-regroup true b c = refl
-regroup false b c = refl
-
 none_below-more : (xs : List ℕ) (e c : ℕ) (cs : List ℕ)
     → none_below xs e (cs ++ c ∷ []) ≡ (none_below xs e cs && is_not_below e (estimate xs c))
 none_below-more xs e c [] = and_true (is_not_below e (estimate xs c))
 none_below-more xs e c (d ∷ ds) =
     ap (λ b. is_not_below e (estimate xs d) && b) (none_below-more xs e c ds)
-    ∙ regroup (is_not_below e (estimate xs d)) (none_below xs e ds) (is_not_below e (estimate xs c))
+    ∙ and_regrouped (is_not_below e (estimate xs d)) (none_below xs e ds) (is_not_below e (estimate xs c))
 
 -- one without an estimate changes nothing
 pub chosen-none : (xs : List ℕ) (c : ℕ) (cs : List ℕ) → estimate xs c ≡ None → chosen_codec xs (cs ++ c ∷ []) ≡ chosen_codec xs cs

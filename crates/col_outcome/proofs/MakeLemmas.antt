@@ -17,7 +17,7 @@ use Rattle.col_model.specs.Merge.{Required, merged, row_counts}
 use Rattle.col_program.specs.Outcome.{segment_table, script_table, order_over}
 use Rattle.col_model.specs.Refusal.{Refusal, or_refuse, each_ok, invalid_data}
 use Rattle.col_model.specs.Refusal as refusals
-use Rattle.col_program.specs.Script.{Script, Find}
+use Rattle.col_program.specs.Script.{Script, Question}
 use Rattle.col_model.specs.Table.{Table}
 use Rattle.col_writer_columns.specs.Answers.{MayRefuse, answer_of}
 use Rattle.col_common.proofs.OnOkLemmas.{same-error}
@@ -257,29 +257,29 @@ told-each see (h ∷ hs) = ap (λ o. option_and_then (λ y. option_and_then (λ 
 
 -- what a script comes to, where its segments have these files
 pub script-made : {H : Type 0} (see : H → SeenFile) (olds : List H) (news : List SeenFile) (s : Script) (short : Bool)
-    (finds : List Find) (files : List (List ℕ)) (required : List Required) (rows : Option (List (ℕ × ℕ)))
+    (questions : List Question) (files : List (List ℕ)) (required : List Required) (rows : Option (List (ℕ × ℕ)))
     (result : Result FileAndReport ColumnarError)
     → Makes (λ tables (fs : List (List ℕ)). AllZip StandsFor tables fs) (Ok files)
-    (each_ok segment_table s.segments) → s.required ≡ required → s.order ≡ rows → s.finds ≡ finds
-    → MergesInputs (IsMade short finds) (handed_in see olds) news files required rows result
-    → IfSome (all_told (map see olds)) (λ inputs. MakesIfRead (IsMade short s.finds) result (script_table inputs s))
-script-made see olds news s short finds files required rows result makes same_required same_rows same_finds merges = by makes.ok
+    (each_ok segment_table s.segments) → s.required ≡ required → s.order ≡ rows → s.questions ≡ questions
+    → MergesInputs (IsMade short questions) (handed_in see olds) news files required rows result
+    → IfSome (all_told (map see olds)) (λ inputs. MakesIfRead (IsMade short s.questions) result (script_table inputs s))
+script-made see olds news s short questions files required rows result makes same_required same_rows same_questions merges = by makes.ok
   where
     in_script : (tables : List Table) → each_ok segment_table s.segments ≡ Ok tables → (inputs : List (List ℕ))
-        → MakesIfRead (IsMade short finds) result (inputs_table inputs tables required rows)
-        → MakesIfRead (IsMade short s.finds) result (script_table inputs s)
-    in_script tables segments inputs h = rw (segments, same_required, same_rows, same_finds) h
+        → MakesIfRead (IsMade short questions) result (inputs_table inputs tables required rows)
+        → MakesIfRead (IsMade short s.questions) result (script_table inputs s)
+    in_script tables segments inputs h = rw (segments, same_required, same_rows, same_questions) h
 
     over : (o : Option (List (List ℕ))) (tables : List Table) → each_ok segment_table s.segments ≡ Ok tables
-        → IfSome o (λ inputs. MakesIfRead (IsMade short finds) result (inputs_table inputs tables required rows))
-        → IfSome o (λ inputs. MakesIfRead (IsMade short s.finds) result (script_table inputs s))
+        → IfSome o (λ inputs. MakesIfRead (IsMade short questions) result (inputs_table inputs tables required rows))
+        → IfSome o (λ inputs. MakesIfRead (IsMade short s.questions) result (script_table inputs s))
     over None tables segments h = tt
     over (Some inputs) tables segments h = in_script tables segments inputs h
 
     by : ((tables : List Table) × (each_ok segment_table s.segments ≡ Ok tables) × AllZip StandsFor tables files)
         → IfSome (all_told (map see olds))
-        (λ inputs. MakesIfRead (IsMade short s.finds) result (script_table inputs s))
+        (λ inputs. MakesIfRead (IsMade short s.questions) result (script_table inputs s))
     by (tables, segments, stand) =
         over (all_told (map see olds)) tables segments (subst (λ o. IfSome o
-        (λ inputs. MakesIfRead (IsMade short finds) result (inputs_table inputs tables required rows)))
+        (λ inputs. MakesIfRead (IsMade short questions) result (inputs_table inputs tables required rows)))
         (told-each see olds) (merges.made tables stand))

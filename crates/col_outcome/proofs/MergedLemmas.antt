@@ -18,7 +18,7 @@ use Rattle.col_model.specs.Order.{Order, picks}
 use Rattle.col_program.specs.Outcome.{order_over}
 use Rattle.col_model.specs.Refusal.{bad_order, too_large}
 use Rattle.col_program.specs.Report.{report_of}
-use Rattle.col_program.specs.Script.{Find}
+use Rattle.col_program.specs.Script.{Question}
 use Rattle.col_model.specs.Table.{Table}
 use Rattle.col_writer_columns.specs.Answers.{MayRefuse}
 use Rattle.col_merge.proofs.MergedLemmas.{merged-bad_order}
@@ -134,14 +134,14 @@ file-refused IsOf rs ss required rows order e read is h = record {
 }
 
 -- a merged file with the report of its table is what the merge comes to
-pub all-made : (short : Bool) (finds : List Find) (rs ss : List SeenReader) (required : List Required)
+pub all-made : (short : Bool) (questions : List Question) (rs ss : List SeenReader) (required : List Required)
     (rows : Option (List (ℕ × ℕ))) (order : Order) (made : FileAndReport) → AllByRecursion IsRead rs
     → order ≡ order_over rows (counts_read rs)
     → MergesReaders StandsFor rs ss (Ok made.file) (λ parts. merged parts required order)
-    → ((t : Table) → table_of made.file ≡ Some t → made.report.items ≡ report_of t finds short)
-    → MergesReaders (IsMade short finds) rs ss (Ok made)
+    → ((t : Table) → table_of made.file ≡ Some t → made.report.items ≡ report_of t questions short)
+    → MergesReaders (IsMade short questions) rs ss (Ok made)
     (λ parts. merged parts required (order_over rows (row_counts parts)))
-all-made short finds rs ss required rows order made read is h reported = record {
+all-made short questions rs ss required rows order made read is h reported = record {
   made = λ parts told. by parts told (h.made parts told).ok;
   known = tt;
   read_fault = λ e. cc;
@@ -150,7 +150,7 @@ all-made short finds rs ss required rows order made read is h reported = record 
   where
     by : (parts : List Part) → told_parts rs ≡ Some parts
         → ((t : Table) × (merged parts required order ≡ Ok t) × StandsFor t made.file)
-        → MakesIfRead (IsMade short finds) (Ok made) (merged parts required (order_over rows (row_counts parts)))
+        → MakesIfRead (IsMade short questions) (Ok made) (merged parts required (order_over rows (row_counts parts)))
     by parts told (t, at, stands) = record {
       ok = (t, ap (merged parts required) (sym (same-order rs parts rows order read told is)) ∙ at, (stands, reported t stands.content));
       refused = tt;

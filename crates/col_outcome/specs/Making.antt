@@ -8,7 +8,7 @@ use Rattle.col_model.specs.Merge.{Required, merged, row_counts}
 use Rattle.col_program.specs.Outcome.{order_over}
 use Rattle.col_model.specs.Refusal.{Refusal, ◌>>=◌, or_refuse, each_ok, invalid_data}
 use Rattle.col_program.specs.Report.{report_of}
-use Rattle.col_program.specs.Script.{Find}
+use Rattle.col_program.specs.Script.{Question}
 use Rattle.col_model.specs.Table.{Table}
 use Rattle.col_writer_columns.specs.Answers.{answer_of, MayRefuse}
 use Rattle.col_common.specs.Outside.{SeenFile}
@@ -57,10 +57,10 @@ IsReaderOf t r = told_part r ≡ Some (part_of_table t)
 abbrev pub AreReadersOf : List Table → List SeenReader → Type 0
 AreReadersOf tables rs = AllZip IsReaderOf tables rs
 
--- the file of a table, and its report with these lookups, short or not
-abbrev pub IsMade : Bool → List Find → Table → FileAndReport → Type 0
-IsMade short finds t made =
-    StandsFor t made.file × (made.report.items ≡ report_of t finds short)
+-- the file of a table, and its report with these questions, short or not
+abbrev pub IsMade : Bool → List Question → Table → FileAndReport → Type 0
+IsMade short questions t made =
+    StandsFor t made.file × (made.report.items ≡ report_of t questions short)
 
 -- What open files merge to. Where they tell their parts, what is made is of what is expected of
 -- these; each refusal is one that merges have, and ReadFault comes where some file's count of

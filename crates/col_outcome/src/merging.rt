@@ -7,7 +7,7 @@ ghost use Rattle.col_program.specs.Outcome.{order_over, script_table, segment_ta
 ghost use Rattle.col_model.specs.Refusal.{each_ok};
 ghost use Rattle.col_program.specs.Report.{report_of};
 ghost use Rattle.col_program.specs.Script as model;
-ghost use Rattle.col_lines.specs.Finds.{find_of};
+ghost use Rattle.col_questions.specs.Questions.{question_of};
 ghost use Rattle.col_merge_plan.specs.Slots.{required_of};
 ghost use Rattle.col_model.specs.Table.{Table};
 ghost use Rattle.col_order.specs.Orders.{address_of};
@@ -23,10 +23,10 @@ use crate::segments::segment_files;
 use bytes::Bytes;
 use col_common::{Buffer, ColumnarError, FileHandle, RowAddr};
 use col_file::{ColumnarReader, files_are_read};
-use col_lines::Find;
 use col_merge::merge_columnar;
 use col_merge_plan::row_counts;
 use col_order::MergeRowOrder;
+use col_questions::Question;
 use col_report::write_report;
 use col_script::Script;
 use col_types::ColumnType;
@@ -40,7 +40,7 @@ pub struct FileAndReport {
 }
 
 /// Merges inputs, and behind them the segments of a script, and reports on what the merged file
-/// says. A short report has no rows, and counts what lookups find. The inputs are handed back in
+/// says. A short report has no rows, and counts documents. The inputs are handed back in
 /// order.
 pub fn merge_and_report<H: FileHandle>(
     alloc: Global,
@@ -50,7 +50,7 @@ pub fn merge_and_report<H: FileHandle>(
 ) -> Result<FileAndReport, ColumnarError>
     ensures made { (s : model.Script) → IsScript s script →
         IfSome (all_told (map H.seen inputs.old.items)) (λ files.
-        MakesIfRead (IsMade short s.finds) result (script_table files s)) }
+        MakesIfRead (IsMade short s.questions) result (script_table files s)) }
     ensures known { (s : model.Script) → IsScript s script → IfErr result IsKnown }
     ensures segments { (s : model.Script) → IsScript s script →
         SegmentsDecide (each_ok segment_table s.segments) result }
@@ -63,11 +63,11 @@ pub fn merge_and_report<H: FileHandle>(
         segments,
         required,
         order,
-        finds,
+        questions,
     } = script;
     let files = segment_files(alloc, &segments)?;
     drop(segments);
-    merge_inputs(alloc, inputs, &files, &required, order, &finds, short)
+    merge_inputs(alloc, inputs, &files, &required, order, &questions, short)
 }
 
 // Merges inputs, and files that were made behind them; the inputs come back in order.
@@ -77,10 +77,10 @@ fn merge_inputs<H: FileHandle>(
     files: &[Bytes],
     required: &[(String, ColumnType)],
     rows: Option<Vec<RowAddr>>,
-    finds: &[Find],
+    questions: &[Question],
     short: bool,
 ) -> Result<FileAndReport, ColumnarError>
-    ensures { MergesInputs (IsMade short (map find_of finds.now))
+    ensures { MergesInputs (IsMade short (map question_of questions.now))
         (handed_in H.seen inputs.old.items)
         (handed_in H.seen inputs.new.items)
         files.now (required_of required.now)
@@ -98,7 +98,7 @@ fn merge_inputs<H: FileHandle>(
         &mut readers,
         required,
         rows,
-        finds,
+        questions,
         short,
     );
     hand_back(readers, inputs);
@@ -113,13 +113,13 @@ fn merge_opened<H: FileHandle>(
     readers: &mut Vec<ColumnarReader<Part<H>>>,
     required: &[(String, ColumnType)],
     rows: Option<Vec<RowAddr>>,
-    finds: &[Find],
+    questions: &[Question],
     short: bool,
 ) -> Result<FileAndReport, ColumnarError>
     requires none { readers.old.items ≡ [] }
     requires room { vec_len left.old + length files.now ≤ vec_capacity readers.old }
     ensures merges { AllByRecursion IsUnfailed (files_in readers.new.items)
-        → MergesInputs (IsMade short (map find_of finds.now))
+        → MergesInputs (IsMade short (map question_of questions.now))
         (handed_in H.seen (reverse left.old.items))
         (all_files H.seen readers.new.items left.new.items)
         files.now (required_of required.now)
@@ -131,7 +131,7 @@ fn merge_opened<H: FileHandle>(
 {
     open_inputs(alloc, left, readers)?;
     open_files(alloc, files, readers)?;
-    merge_readers(alloc, readers, required, rows, finds, short)
+    merge_readers(alloc, readers, required, rows, questions, short)
 }
 
 // Merges files, and reports on what the merged file says.
@@ -140,10 +140,10 @@ fn merge_readers<F: FileHandle>(
     readers: &mut [ColumnarReader<F>],
     required: &[(String, ColumnType)],
     rows: Option<Vec<RowAddr>>,
-    finds: &[Find],
+    questions: &[Question],
     short: bool,
 ) -> Result<FileAndReport, ColumnarError>
-    ensures { MergesReaders (IsMade short (map find_of finds.now)) readers.old readers.new result
+    ensures { MergesReaders (IsMade short (map question_of questions.now)) readers.old readers.new result
         (λ parts. merged parts (required_of required.now)
         (order_over (option_map (λ v. map address_of v.items) rows) (row_counts parts))) }
 {
@@ -151,7 +151,7 @@ fn merge_readers<F: FileHandle>(
     let counts = row_counts(alloc, readers)?;
     let order = merge_row_order(alloc, rows, &counts)?;
     let file = merged_file(alloc, readers, required, order)?;
-    let report = report_on(alloc, &file, finds, short)?;
+    let report = report_on(alloc, &file, questions, short)?;
     Ok(FileAndReport { file, report })
 }
 
@@ -175,17 +175,17 @@ fn merged_file<F: FileHandle>(
 pub(crate) fn report_on(
     alloc: Global,
     file: &Bytes,
-    finds: &[Find],
+    questions: &[Question],
     short: bool,
 ) -> Result<Vec<u8>, AllocError>
     ensures { (t : Table) → table_of file.now ≡ Some t →
-        IfOk result (λ report. report.items ≡ report_of t (map find_of finds.now) short) }
+        IfOk result (λ report. report.items ≡ report_of t (map question_of questions.now) short) }
 {
     let Ok(mut reader) = open_file(alloc, file.clone()?) else {
         return Err(AllocError);
     };
     let mut report = Vec::new(alloc);
-    match write_report(alloc, &mut reader, finds, short, &mut report) {
+    match write_report(alloc, &mut reader, questions, short, &mut report) {
         Ok(()) => Ok(report),
         // The columns of a file that was made are whole, so that memory alone is wanting.
         Err(_) => Err(AllocError),

@@ -5,5 +5,6 @@ mod RefusedRuns
 mod CheckRuns
 mod Gen
 mod Words
+mod QuestionRuns
 pub mod ScriptLaws
 pub mod ReportLaws

@@ -1,3 +1,5 @@
+pub mod Values
+pub mod Queries
 pub mod Script
 pub mod Report
 pub mod Check

@@ -63,7 +63,7 @@ script_table inputs s = do
 
 -- what a merged table or a refusal comes to
 abbrev pub with_report : Bool → Script → Result Table Refusal → Outcome
-with_report short s (Ok t) = done (as_file t) (report_of t s.finds short)
+with_report short s (Ok t) = done (as_file t) (report_of t s.questions short)
 with_report short s (Err e) = refused (status_of e)
 
 -- the greatest length of a script, in bytes

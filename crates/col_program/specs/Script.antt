@@ -1,22 +1,19 @@
--- Scripts: segments to be made, required columns, an order and lookups. States docs/RULES.md,
+-- Scripts: segments to be made, required columns, an order and questions. States docs/RULES.md,
 -- Scripts.
-use Rattle.std.specs.Prelude.{ℕ, pos, ◌^◌, ◌==◌, ◌&&◌, nat_lt, nat_le, true, false, List, [], ◌∷◌, map, filter, filter_map, find, length, slice_get, codes, bytes_eq, if◌then◌else◌, Option, Some, None}
+use Rattle.std.specs.Prelude.{ℕ, ◌==◌, ◌&&◌, nat_lt, nat_le, true, false, List, [], ◌∷◌, map, filter, filter_map, find, length, slice_get, codes, bytes_eq, Option, Some, None}
 use Rattle.std.specs.List.{slice_split}
 use Rattle.std.specs.Str.{is_utf8}
-use Rattle.std.specs.Int.Digits.{number_from_digits}
-use Rattle.std.specs.Result.{result_ok}
-use Rattle.hex.specs.Hex.{decode_of}
-use Rattle.serde_json.specs.Data.{Data, Items, no_items, item}
+use Rattle.serde_json.specs.Data.{Data}
 use Rattle.serde_json.specs.Read.{read}
-use Rattle.serde_json.specs.Find.{as_number, as_str, as_bool, as_u64, as_i64, as_array}
+use Rattle.serde_json.specs.Find.{as_number, as_str, as_i64}
 use Rattle.col_common.specs.Reading.{◌>>=◌, only_if}
 use Rattle.col_model.specs.ColumnType.{ColumnType, type_name, has_terms}
-use Rattle.col_model.specs.ColumnType as types
 use Rattle.col_model.specs.Table.{Cell}
-use Rattle.col_model.specs.Table as cells
 use Rattle.col_model.specs.Recording.{Call, recorded, typed, tied}
 use Rattle.col_model.specs.Merge.{Required}
 use Rattle.col_model.specs.File.{for_each}
+use Rattle.col_program.specs.Queries.{Query, query_of}
+use Rattle.col_program.specs.Values.{all_types, as_list, as_u32, as_type, as_cell}
 
 -- a segment to be made: its documents, and its record calls in order
 pub record Segment : Type 0 where
@@ -32,12 +29,19 @@ pub record Find : Type 0 where
   pub from : ℕ
   pub to : ℕ
 
+-- what is asked of the merged table: the documents of a lookup, how often each cell of a column
+-- stands, the documents of a query
+pub data Question : Type 0 where
+  lookup : Find → Question
+  facet : List ℕ → ColumnType → Question
+  query : Query → Question
+
 -- the order is a list of (segment, row), and a stack where there is none
 pub record Script : Type 0 where
   pub segments : List Segment
   pub required : List Required
   pub order : Option (List (ℕ × ℕ))
-  pub finds : List Find
+  pub questions : List Question
 
 -- what a line says
 pub data Line : Type 0 where
@@ -45,51 +49,7 @@ pub data Line : Type 0 where
   call : Call → Line
   require : Required → Line
   order : List (ℕ × ℕ) → Line
-  lookup : Find → Line
-
--- the items of an array
-abbrev pub items_list : Items → List Data
-items_list no_items = []
-items_list (item d ds) = d ∷ items_list ds
-
--- the items, where it is an array
-abbrev pub as_list : Data → Option (List Data)
-as_list d = as_array d >>= λ ds. Some (items_list ds)
-
--- a whole number below 2 ^ 32
-abbrev pub as_u32 : Data → Option ℕ
-as_u32 d = do
-  n ← as_number d >>= as_u64
-  only_if (nat_lt n (2 ^ 32)) n
-
--- the types, by their codes
-abbrev pub all_types : List ColumnType
-all_types = types.i64 ∷ types.u64 ∷ types.bytes ∷ types.str ∷ types.bool ∷ types.ip
-    ∷ types.datetime ∷ []
-
--- the type of this name
-abbrev pub type_named : List ℕ → Option ColumnType
-type_named name = find (λ t. bytes_eq (type_name t) name) all_types
-
--- the type that a text names
-abbrev pub as_type : Data → Option ColumnType
-as_type d = as_str d >>= type_named
-
--- the bytes of a text of hexadecimal digits
-abbrev pub hex_bytes : Data → Option (List ℕ)
-hex_bytes d = as_str d >>= λ s. result_ok (decode_of s)
-
--- A value of the type: a whole number, true or false, a text, hexadecimal digits (32 of them for
--- ip).
-abbrev pub as_cell : ColumnType → Data → Option Cell
-as_cell types.i64 d = as_number d >>= as_i64 >>= λ z. Some (cells.number z)
-as_cell types.datetime d = as_number d >>= as_i64 >>= λ z. Some (cells.number z)
-as_cell types.u64 d = as_number d >>= as_u64 >>= λ n. Some (cells.number (pos n))
-as_cell types.bool d = as_bool d >>= λ b. Some (cells.number (pos (if b then 1 else 0)))
-as_cell types.str d = as_str d >>= λ s. Some (cells.text s)
-as_cell types.bytes d = hex_bytes d >>= λ s. Some (cells.text s)
-as_cell types.ip d = hex_bytes d >>= λ s.
-    only_if (length s == 16) (cells.number (pos (number_from_digits 256 s)))
+  ask : Question → Line
 
 -- ["segment",n]
 abbrev pub segment_line : List Data → Option Line
@@ -148,8 +108,18 @@ find_line (name ∷ t ∷ lo ∷ hi ∷ from ∷ to ∷ []) = do
   hi ← as_cell t hi
   from ← as_u32 from
   to ← as_u32 to
-  Some (lookup (record { name = name; column_type = t; lo = lo; hi = hi; from = from; to = to }))
+  Some (ask (lookup (record { name = name; column_type = t; lo = lo; hi = hi; from = from; to = to })))
 find_line _ = None
+
+-- ["facet",name,t]
+abbrev pub facet_line : List Data → Option Line
+facet_line (name ∷ t ∷ []) = as_str name >>= λ name. as_type t >>= λ t. Some (ask (facet name t))
+facet_line _ = None
+
+-- ["query",q]
+abbrev pub query_line : List Data → Option Line
+query_line (q ∷ []) = query_of q >>= λ q. Some (ask (query q))
+query_line _ = None
 
 -- what reads the items behind the first word of a line, by that word
 abbrev pub Shapes : Type 0
@@ -160,6 +130,7 @@ abbrev pub shapes : Shapes
 shapes = (codes "segment", segment_line) ∷ (codes "type", type_line)
     ∷ (codes "sorted", sorted_line) ∷ (codes "tie", tie_line)
     ∷ (codes "require", require_line) ∷ (codes "order", order_line) ∷ (codes "find", find_line)
+    ∷ (codes "facet", facet_line) ∷ (codes "query", query_line)
     ∷ map (λ t. (type_name t, value_line t)) all_types
 
 -- the line of an array that begins with the word of one of the shapes
@@ -194,7 +165,7 @@ segments_in (l ∷ ls) = with_line l (segments_in ls)
     with_line (call c) p = (c ∷ p.0, p.1)
     with_line (require r) p = p
     with_line (order rows) p = p
-    with_line (lookup f) p = p
+    with_line (ask q) p = p
 
 -- the required column of a line
 abbrev pub required_in : Line → Option Required
@@ -202,7 +173,7 @@ required_in (require r) = Some r
 required_in (segment n) = None
 required_in (call c) = None
 required_in (order rows) = None
-required_in (lookup f) = None
+required_in (ask q) = None
 
 -- the order of a line
 abbrev pub order_in : Line → Option (List (ℕ × ℕ))
@@ -210,15 +181,15 @@ order_in (order rows) = Some rows
 order_in (segment n) = None
 order_in (call c) = None
 order_in (require r) = None
-order_in (lookup f) = None
+order_in (ask q) = None
 
--- the lookup of a line
-abbrev pub find_in : Line → Option Find
-find_in (lookup f) = Some f
-find_in (segment n) = None
-find_in (call c) = None
-find_in (require r) = None
-find_in (order rows) = None
+-- the question of a line
+abbrev pub question_in : Line → Option Question
+question_in (ask q) = Some q
+question_in (segment n) = None
+question_in (call c) = None
+question_in (require r) = None
+question_in (order rows) = None
 
 -- The script of some lines: each record call has a segment line before it, and at most one line
 -- is an order.
@@ -230,7 +201,7 @@ script_of_lines ls =
       segments = (segments_in ls).1;
       required = filter_map required_in ls;
       order = slice_get orders 0;
-      finds = filter_map find_in ls;
+      questions = filter_map question_in ls;
     })
 
 -- The script that the bytes spell.

@@ -1,9 +1,8 @@
 mod TextLemmas
 mod RowLemmas
 mod LineLemmas
+mod DocLemmas
 mod FoundLemmas
-mod ReadLemmas
-mod PlaceLemmas
-mod OpenLemmas
+mod CountLemmas
 mod ReportLemmas
 mod CheckLemmas

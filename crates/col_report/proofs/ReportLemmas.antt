@@ -1,25 +1,20 @@
 -- The report of open columns.
-use Rattle.std.proofs.Common.{◌≡◌, ◌∙◌, ℕ, ◌+◌, ◌<◌, ◌≤◌, Bool, List, [], ◌∷◌, ◌++◌, map, flat_map, find, length, take, get_or, option_map, Option, Some, None, IfSome, refl, sym, ap, subst, append-nil}
+use Rattle.std.proofs.Common.{◌≡◌, ◌∙◌, ℕ, ◌+◌, ◌<◌, ◌≤◌, Bool, List, [], ◌∷◌, ◌++◌, map, flat_map, length, take, get_or, Option, Some, None, IfSome, refl, sym, ap, ap₂, subst, append-nil}
 use Rattle.std.proofs.lemmas.Grind.{flat_map-append}
 use Rattle.std.proofs.lemmas.List.{map_more, take_more, take_all}
 use Rattle.std.proofs.lemmas.List.Folds.{flat_map-map}
 use Rattle.serde_json.specs.Data.{Data}
-use Rattle.col_common.specs.declared.error.ColumnarError.{ColumnarError}
-use Rattle.col_common.specs.declared.error.ColumnarError.TheVariants.{OutOfMemory, ReadFault, InvalidData}
-use Rattle.col_lines.specs.Finds as finds
-use Rattle.col_lines.specs.declared.lookup.Find.{Find}
-use Rattle.col_model.specs.File.{for_each, table_of}
-use Rattle.col_model.specs.Keys.{FileKeys, keys}
-use Rattle.col_program.specs.Report.{lines_text, rows_line, column_lines, found_data, find_line, report_of, Prints}
-use Rattle.col_program.specs.Script as script
-use Rattle.col_model.specs.Table.{Content, Column, Table}
-use Rattle.col_common.specs.Outside.{SeenFile}
-use Rattle.col_file.specs.Files.{IsExpected, RefusesFile}
-use Rattle.col_report.specs.Opened.{opened, whole_entry, table_opened, ColumnsAreRead}
-use Rattle.col_report.specs.Reported.{found_in, found_line}
-use Rattle.col_report.specs.declared.open.OpenColumn.{OpenColumn}
-use Rattle.col_report.proofs.ReadLemmas.{is_typed, table-is, table-none}
+use Rattle.col_model.specs.File.{table_of}
+use Rattle.col_model.specs.Keys.{FileKeys}
+use Rattle.col_model.specs.Table.{Table}
+use Rattle.col_program.specs.Report.{lines_text, rows_line, column_lines, question_line, report_of, Prints}
 use Rattle.col_program.proofs.ReportLaws.{Prints-then}
+use Rattle.col_file.specs.Files.{IsExpected}
+use Rattle.col_opened.specs.Opened.{column_of, open_in, AreOpen}
+use Rattle.col_opened.specs.declared.open_columns.OpenColumn.{OpenColumn}
+use Rattle.col_opened.specs.declared.open_columns.OpenColumns.{OpenColumns}
+use Rattle.col_questions.specs.Questions.{question_of}
+use Rattle.col_questions.specs.declared.question.Question.{Question}
 
 -- ---- lines of lists
 
@@ -50,90 +45,49 @@ pub line-all : {X : Type 0} (f : X → Data) (a b : List ℕ) (xs : List X) (i :
     → Prints a b (map f (take i xs)) → Prints a b (map f xs)
 line-all f a b xs i past printed = rw (take_all i xs past) at printed
 
--- ---- a lookup
-
-found-by : (t : Table) (short : Bool) (f : script.Find) (o : Option Column)
-    → find (is_typed f.name f.column_type) t.columns ≡ o
-    → found_data t short f ≡ found_in short f (option_map (λ c. c.content) o)
-found-by t short f None e = rw e refl
-found-by t short f (Some c) e = rw e refl
-
--- what a lookup finds in the column of its name and type is its line in the report
-pub line-found : (t : Table) (short : Bool) (f : script.Find) (o : Option Content)
-    → o ≡ option_map (λ c. c.content) (find (is_typed f.name f.column_type) t.columns)
-    → found_line f (found_in short f o) ≡ find_line t short f
-line-found t short f o e =
-    ap (found_line f)
-    (ap (found_in short f) e ∙ sym (found-by t short f (find (is_typed f.name f.column_type) t.columns) refl))
-
 -- ---- the whole
 
-finds-lines : (t : Table) (short : Bool) (fs : List Find)
-    → map (find_line t short) (map finds.find_of fs) ≡ map (λ f. find_line t short (finds.find_of f)) fs
-finds-lines t short [] = refl
-finds-lines t short (f ∷ fs) = ap (λ ds. find_line t short (finds.find_of f) ∷ ds) (finds-lines t short fs)
+questions-lines : (t : Table) (short : Bool) (qs : List Question)
+    → map (question_line t short) (map question_of qs) ≡ map (λ q. question_line t short (question_of q)) qs
+questions-lines t short [] = refl
+questions-lines t short (q ∷ qs) = ap (λ ds. question_line t short (question_of q) ∷ ds) (questions-lines t short qs)
 
--- the lines of rows, of columns and of lookups, one behind another, are the report
-pub report-printed :
-    (a b c d : List ℕ) (n : ℕ) (cs : List OpenColumn) (fs : List Find) (short : Bool) (line : Data)
-    → line ≡ rows_line n → Prints a b (line ∷ []) → Prints b c (flat_map (λ c. column_lines short (opened c)) cs)
-    → Prints c d (map (λ f. find_line (table_opened n cs) short (finds.find_of f)) fs)
-    → d ≡ a ++ report_of (table_opened n cs) (map finds.find_of fs) short
+-- the lines of rows, of columns and of questions, one behind another, are the report
+pub report-printed : (a b c d : List ℕ) (k : FileKeys) (t : Table) (open_columns : OpenColumns) (cs : List OpenColumn)
+    (qs : List Question) (short : Bool) (line : Data) → AreOpen k t open_columns → cs ≡ open_in open_columns
+    → line ≡ rows_line k.row_count → Prints a b (line ∷ []) → Prints b c (flat_map (λ c. column_lines short (column_of c)) cs)
+    → Prints c d (map (λ q. question_line t short (question_of q)) qs)
+    → d ≡ a ++ report_of t (map question_of qs) short
 unfolding report_of Prints
-report-printed a b c d n cs fs short line is rows columns found =
-    let t = table_opened n cs in
-    let all : Prints a d (rows_line n
-    ∷ (flat_map (λ c. column_lines short (opened c)) cs ++ map (λ f. find_line t short (finds.find_of f)) fs)) =
+report-printed a b c d k t open_columns cs qs short line are same is rows columns answered =
+    let n = k.row_count in
+    let told = map (λ q. question_line t short (question_of q)) qs in
+    let all : Prints a d (rows_line n ∷ (flat_map (λ c. column_lines short (column_of c)) cs ++ told)) =
     Prints-then a b d (rows_line n ∷ []) _ (subst (λ l. Prints a b (l ∷ [])) is rows)
-    (Prints-then b c d _ _ columns found) in
+    (Prints-then b c d _ _ columns answered) in
     all
-    ∙ ap (λ ds. a ++ lines_text (rows_line n ∷ (ds ++ map (λ f. find_line t short (finds.find_of f)) fs)))
-    (sym (flat_map-map (column_lines short) opened cs))
-    ∙ ap (λ ds. a ++ lines_text (rows_line n ∷ (flat_map (column_lines short) (map opened cs) ++ ds))) (sym (finds-lines t short fs))
+    ∙ ap (λ ds. a ++ lines_text (rows_line n ∷ (ds ++ told)))
+    (sym (flat_map-map (column_lines short) column_of cs)
+    ∙ ap (flat_map (column_lines short)) (ap (map column_of) same ∙ are.columns))
+    ∙ ap₂ (λ m ds. a ++ lines_text (rows_line m ∷ (flat_map (column_lines short) t.columns ++ ds))) (sym are.row_count)
+    (sym (questions-lines t short qs))
 
 -- ---- where the file may tell its bytes
 
--- a file with a column outside the grammar has no table
-pub report-refused : (old new : SeenFile) (k : FileKeys) → IfSome old.told (λ bytes. keys bytes ≡ Some k)
-    → (e : ColumnarError) → RefusesFile old new e (λ bytes. for_each (whole_entry bytes k) k.entries)
-    → RefusesFile old new e table_of
-report-refused old new k told OutOfMemory h = tt
-report-refused old new k told InvalidData h = at old.told told h
-  where
-    at : (o : Option (List ℕ)) → IfSome o (λ bytes. keys bytes ≡ Some k)
-        → IfSome o (λ bytes. for_each (whole_entry bytes k) k.entries ≡ None)
-        → IfSome o (λ bytes. table_of bytes ≡ None)
-    at None told h = tt
-    at (Some bytes) told h = table-none bytes k told h
-report-refused old new k told ReadFault h = h
-report-refused old new k told _ h = absurd h
-
--- the report is that of the file's table
-pub report-answered : (told : Option (List ℕ)) (k : FileKeys) (cs : List OpenColumn) (P : Table → Type 0)
-    → IfSome told (λ bytes. keys bytes ≡ Some k)
-    → IfSome told
-    (λ bytes. IsExpected (λ ps columns. map opened columns ≡ ps) cs (for_each (whole_entry bytes k) k.entries))
-    → ((bytes : List ℕ) → ColumnsAreRead bytes k cs → P (table_opened k.row_count cs))
+-- what holds of the table of open columns holds of the file's table
+pub report-answered : (told : Option (List ℕ)) (k : FileKeys) (c : OpenColumns) (P : Table → Type 0)
+    → IfSome told (λ bytes. IsExpected (λ t columns. AreOpen k t columns) c (table_of bytes))
+    → ((t : Table) → AreOpen k t c → P t)
     → IfSome told (λ bytes. IsExpected (λ t (u : Unit {0}). P t) tt (table_of bytes))
-report-answered None k cs P read columns pushed = tt
-report-answered (Some bytes) k cs P read columns pushed =
-    let all = are (for_each (whole_entry bytes k) k.entries) columns in
-    subst (IsExpected (λ t (u : Unit {0}). P t) tt) (sym (table-is bytes k (map opened cs) read all)) (pushed bytes all)
+report-answered None k c P are pushed = tt
+report-answered (Some bytes) k c P are pushed = by (table_of bytes) are
   where
-    are : (o : Option (List Column)) → IsExpected (λ ps columns. map opened columns ≡ ps) cs o → o ≡ Some (map opened cs)
-    are None h = absurd h
-    are (Some ps) h = ap Some (sym h)
+    by : (o : Option Table) → IsExpected (λ t columns. AreOpen k t columns) c o → IsExpected (λ t (u : Unit {0}). P t) tt o
+    by None are = absurd are
+    by (Some t) are = pushed t are
 
 -- a report that was made from nothing stands behind what was there
 pub report-appended : (old new made start text : List ℕ) → new ≡ old ++ made → made ≡ start ++ text → start ≡ []
     → new ≡ old ++ text
 report-appended old new made start text appended is none =
     appended ∙ ap (λ m. old ++ m) (is ∙ ap (λ s. s ++ text) none)
-
--- the same by the keys and the columns as a call saw them
-pub pushed-as : (k k2 : FileKeys) (cs cs2 : List OpenColumn) (P : Table → Type 0) → k2 ≡ k → cs2 ≡ cs
-    → ((bytes : List ℕ) → ColumnsAreRead bytes k2 cs2 → P (table_opened k2.row_count cs2)) → (bytes : List ℕ)
-    → ColumnsAreRead bytes k cs → P (table_opened k.row_count cs)
-pushed-as k k2 cs cs2 P same alike pushed bytes =
-    let both : (k2, cs2) ≡ (k, cs) = λ i. (same i, alike i) in
-    subst (λ (p : FileKeys × List OpenColumn). ColumnsAreRead bytes p.0 p.1 → P (table_opened p.0.row_count p.1)) both (pushed bytes)

@@ -1,4 +1,4 @@
 pub mod Printed
 pub mod Reported
-pub mod Opened
+pub mod Counted
 pub mod Checked

@@ -1,13 +1,18 @@
-//! Reports on open files, of columns and lookups of every type. Contracts see the bytes that a
-//! report appends as the text of the definition's lines.
+//! Reports on open files: columns of every type, and the answers to lookups, facets and queries.
+//! Contracts see the bytes that a report appends as the text of the definition's lines.
 #![tactic(auto)]
 
+mod answers;
 mod cells;
 mod check;
+mod count_cells;
+mod counts;
+mod docs;
 mod found;
 mod lines;
 mod lookups;
-mod open;
+mod names;
+mod questions;
 mod report;
 mod rows;
 mod term_cells;

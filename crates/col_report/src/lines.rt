@@ -10,7 +10,7 @@ ghost use Rattle.col_program.specs.Report.{column_line, column_lines, Prints};
 ghost use Rattle.col_model.specs.Table.{Cell};
 ghost use Rattle.col_text.specs.Texts.{texts_content};
 ghost use Rattle.col_report.specs.Printed.{filled_lines};
-ghost use Rattle.col_report.specs.Reported.{column_of};
+ghost use Rattle.col_report.specs.Reported.{named_as};
 
 use crate::cells::PlainCells;
 use crate::rows::push_rows;
@@ -33,7 +33,7 @@ pub(crate) fn push_column(
     out: &mut Vec<u8>,
 ) -> Result<(), AllocError>
     ensures { OnOk result (Prints out.old.items out.new.items
-        (column_lines short (column_of name.now column.now))) }
+        (column_lines short (named_as name.now column.now))) }
 {
     let value = column_value(alloc, name, column)?;
     push_line(alloc, out, &value)?;
@@ -44,7 +44,7 @@ pub(crate) fn push_column(
 }
 
 fn column_value(alloc: Global, name: &str, column: &DynamicColumn) -> Result<Value, AllocError>
-    ensures { IfOk result (λ v. view v ≡ column_line (column_of name.now column.now)) }
+    ensures { IfOk result (λ v. view v ≡ column_line (named_as name.now column.now)) }
 {
     let kind = column.column_type().word();
     let cardinality = cardinality_word(column.get_cardinality());

@@ -49,7 +49,7 @@ impl<'a> PrintCells<u64> for BytesCells<'a> {
 }
 
 // Appends a text in quotes, or its digits in hexadecimal where it isn't UTF-8.
-fn push_text(alloc: Global, out: &mut Vec<u8>, term: &[u8]) -> Result<(), AllocError>
+pub(crate) fn push_text(alloc: Global, out: &mut Vec<u8>, term: &[u8]) -> Result<(), AllocError>
     ensures { OnOk result (Spells out.old.items out.new.items (text_data term.now)) }
 {
     match std::str::from_utf8(term) {

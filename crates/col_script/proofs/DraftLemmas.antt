@@ -8,7 +8,7 @@ use Rattle.col_model.specs.Merge.{Required}
 use Rattle.col_model.specs.Recording.{Call, content_after, content_after_all}
 use Rattle.col_model.specs.Refusal.{Refusal, ◌>>=◌}
 use Rattle.col_model.specs.Written.{Recorded}
-use Rattle.col_program.specs.Script.{Find, Line, segment, call, require, order, lookup, segments_in, required_in, order_in, find_in}
+use Rattle.col_program.specs.Script.{Question, Line, segment, call, require, order, ask, segments_in, required_in, order_in, question_in}
 use Rattle.col_script.specs.Segments.{RecordedContent, Filled, filled, answered, content_behind, content_behind_all, after_call, after_calls}
 use Rattle.col_script.specs.Scripts.{summary_with, summary_from, has_segment, last_with}
 
@@ -34,18 +34,19 @@ behind-call (Ok w) c cs = go (content_after w c)
 after-one : (f : Filled) (c : Call) (cs : List Call) → after_calls f (c ∷ cs) ≡ after_calls (after_call f c) cs
 after-one f c cs = ap (λ k. record { count = f.count; content = k }) (behind-call f.content c cs)
 
-module _ (earlier : List Filled) (required : List Required) (orders : List (List (ℕ × ℕ))) (finds : List Find) where
+module _ (earlier : List Filled) (required : List Required) (orders : List (List (ℕ × ℕ))) (questions : List Question) where
   -- ---- a segment line
 
   -- a line of a segment puts the last segment to the earlier ones, and begins another
   pub with-segment : (last : Option Filled) (n : ℕ) (ls : List Line)
-      → summary_with (record { earlier = earlier; last = last; required = required; orders = orders; finds = finds }) (segment n ∷ ls)
+      → summary_with (record { earlier = earlier; last = last; required = required; orders = orders; questions = questions })
+      (segment n ∷ ls)
       ≡ summary_with (record {
         earlier = earlier ++ option_to_list last;
         last = Some (record { count = n; content = Ok [] });
         required = required;
         orders = orders;
-        finds = finds;
+        questions = questions;
       })
       ls
   unfolding summary_with
@@ -53,18 +54,19 @@ module _ (earlier : List Filled) (required : List Required) (orders : List (List
       ap (λ es. summary_from true
       (es ++ filled (record { count = n; calls = (segments_in ls).0 }) ∷ map filled (segments_in ls).1)
       (required ++ filter_map required_in ls) (orders ++ filter_map order_in ls)
-      (finds ++ filter_map find_in ls)) (sym (append-nil earlier))
+      (questions ++ filter_map question_in ls)) (sym (append-nil earlier))
   with-segment (Some f) n ls =
       let more : List Filled = filled (record { count = n; calls = (segments_in ls).0 }) ∷ map filled (segments_in ls).1 in
       ap (λ fs. summary_from true fs (required ++ filter_map required_in ls) (orders ++ filter_map order_in ls)
-      (finds ++ filter_map find_in ls))
+      (questions ++ filter_map question_in ls))
       (ap (λ g. earlier ++ g ∷ more) (after-none f) ∙ sym (append_assoc earlier (f ∷ []) more))
 
   -- ---- a record call
 
   -- a call before the first segment makes no script
   pub with-early : (c : Call) (ls : List Line)
-      → summary_with (record { earlier = earlier; last = None; required = required; orders = orders; finds = finds }) (call c ∷ ls) ≡ None
+      → summary_with (record { earlier = earlier; last = None; required = required; orders = orders; questions = questions })
+      (call c ∷ ls) ≡ None
   unfolding summary_with
   with-early c ls =
       let some : (suc (length (segments_in ls).0) == 0) ≡ false = ne_eqb _ 0 (λ e. absurd (omega arith)) in
@@ -72,12 +74,20 @@ module _ (earlier : List Filled) (required : List Required) (orders : List (List
 
   -- a call behind a segment changes what this segment holds
   pub with-call : (f : Filled) (c : Call) (ls : List Line)
-      → summary_with (record { earlier = earlier; last = Some f; required = required; orders = orders; finds = finds }) (call c ∷ ls)
-      ≡ summary_with (record { earlier = earlier; last = Some (after_call f c); required = required; orders = orders; finds = finds }) ls
+      → summary_with (record { earlier = earlier; last = Some f; required = required; orders = orders; questions = questions })
+      (call c ∷ ls)
+      ≡ summary_with (record {
+        earlier = earlier;
+        last = Some (after_call f c);
+        required = required;
+        orders = orders;
+        questions = questions;
+      })
+      ls
   unfolding summary_with
   with-call f c ls =
       ap (λ g. summary_from true (earlier ++ g ∷ map filled (segments_in ls).1)
-      (required ++ filter_map required_in ls) (orders ++ filter_map order_in ls) (finds ++ filter_map find_in ls))
+      (required ++ filter_map required_in ls) (orders ++ filter_map order_in ls) (questions ++ filter_map question_in ls))
       (after-one f c (segments_in ls).0)
 
   module _ (last : Option Filled) where
@@ -85,42 +95,43 @@ module _ (earlier : List Filled) (required : List Required) (orders : List (List
 
     -- a line of a required column puts it behind those before
     pub with-required : (r : Required) (ls : List Line)
-        → summary_with (record { earlier = earlier; last = last; required = required; orders = orders; finds = finds }) (require r ∷ ls)
-        ≡ summary_with (record { earlier = earlier; last = last; required = required ++ r ∷ []; orders = orders; finds = finds }) ls
+        → summary_with (record { earlier = earlier; last = last; required = required; orders = orders; questions = questions })
+        (require r ∷ ls)
+        ≡ summary_with (record { earlier = earlier; last = last; required = required ++ r ∷ []; orders = orders; questions = questions }) ls
     unfolding summary_with
     with-required r ls =
         ap (λ rs. summary_from (has_segment last (segments_in ls).0)
         (earlier ++ (last_with last (segments_in ls).0 ++ map filled (segments_in ls).1)) rs
-        (orders ++ filter_map order_in ls) (finds ++ filter_map find_in ls))
+        (orders ++ filter_map order_in ls) (questions ++ filter_map question_in ls))
         (sym (append_assoc required (r ∷ []) (filter_map required_in ls)))
 
-    -- ---- a lookup
+    -- ---- a question
 
-    -- a line of a lookup puts it behind those before
-    pub with-find : (f : Find) (ls : List Line)
-        → summary_with (record { earlier = earlier; last = last; required = required; orders = orders; finds = finds }) (lookup f ∷ ls)
-        ≡ summary_with (record { earlier = earlier; last = last; required = required; orders = orders; finds = finds ++ f ∷ [] }) ls
+    -- a line of a question puts it behind those before
+    pub with-question : (f : Question) (ls : List Line)
+        → summary_with (record { earlier = earlier; last = last; required = required; orders = orders; questions = questions }) (ask f ∷ ls)
+        ≡ summary_with (record { earlier = earlier; last = last; required = required; orders = orders; questions = questions ++ f ∷ [] }) ls
     unfolding summary_with
-    with-find f ls =
+    with-question f ls =
         ap (λ fs. summary_from (has_segment last (segments_in ls).0)
         (earlier ++ (last_with last (segments_in ls).0 ++ map filled (segments_in ls).1))
         (required ++ filter_map required_in ls) (orders ++ filter_map order_in ls) fs)
-        (sym (append_assoc finds (f ∷ []) (filter_map find_in ls)))
+        (sym (append_assoc questions (f ∷ []) (filter_map question_in ls)))
 
-module _ (earlier : List Filled) (last : Option Filled) (required : List Required) (finds : List Find) where
+module _ (earlier : List Filled) (last : Option Filled) (required : List Required) (questions : List Question) where
   -- ---- an order
 
   -- the first line of an order is the order
   pub with-order : (rows : List (ℕ × ℕ)) (ls : List Line)
-      → summary_with (record { earlier = earlier; last = last; required = required; orders = []; finds = finds }) (order rows ∷ ls)
-      ≡ summary_with (record { earlier = earlier; last = last; required = required; orders = rows ∷ []; finds = finds }) ls
+      → summary_with (record { earlier = earlier; last = last; required = required; orders = []; questions = questions }) (order rows ∷ ls)
+      ≡ summary_with (record { earlier = earlier; last = last; required = required; orders = rows ∷ []; questions = questions }) ls
   unfolding summary_with
   with-order rows ls = refl
 
   -- a second line of an order makes no script
   pub with-second : (first rows : List (ℕ × ℕ)) (ls : List Line)
       → summary_with
-      (record { earlier = earlier; last = last; required = required; orders = first ∷ []; finds = finds })
+      (record { earlier = earlier; last = last; required = required; orders = first ∷ []; questions = questions })
       (order rows ∷ ls) ≡ None
   unfolding summary_with
   with-second first rows ls =
@@ -133,23 +144,24 @@ module _ (earlier : List Filled) (last : Option Filled) (required : List Require
   -- ---- no more lines
 
   module _ (earlier_last : List Filled) where
-    ended : (o : Option (List (ℕ × ℕ))) (rs : List Required) (fs : List Find) → rs ≡ required → fs ≡ finds
+    ended : (o : Option (List (ℕ × ℕ))) (rs : List Required) (fs : List Question) → rs ≡ required → fs ≡ questions
         → summary_from true earlier_last rs (option_to_list o ++ []) fs
-        ≡ Some (record { segments = earlier_last; required = required; order = o; finds = finds })
+        ≡ Some (record { segments = earlier_last; required = required; order = o; questions = questions })
     ended None rs fs r f = rw (r, f) refl
     ended (Some rows) rs fs r f = rw (r, f) refl
 
   -- where no line is left, the parts are the script
   pub with-nothing : (o : Option (List (ℕ × ℕ)))
-      → summary_with (record { earlier = earlier; last = last; required = required; orders = option_to_list o; finds = finds }) []
-      ≡ Some (record { segments = earlier ++ option_to_list last; required = required; order = o; finds = finds })
+      → summary_with (record { earlier = earlier; last = last; required = required; orders = option_to_list o; questions = questions }) []
+      ≡ Some (record { segments = earlier ++ option_to_list last; required = required; order = o; questions = questions })
   unfolding summary_with
   with-nothing o =
-      go last ∙ ended (earlier ++ option_to_list last) o (required ++ []) (finds ++ []) (append-nil required)
-      (append-nil finds)
+      go last ∙ ended (earlier ++ option_to_list last) o (required ++ []) (questions ++ []) (append-nil required)
+      (append-nil questions)
     where
       go : (l : Option Filled) → summary_from (has_segment l []) (earlier ++ (last_with l [] ++ []))
-          (required ++ []) (option_to_list o ++ []) (finds ++ [])
-          ≡ summary_from true (earlier ++ option_to_list l) (required ++ []) (option_to_list o ++ []) (finds ++ [])
+          (required ++ []) (option_to_list o ++ []) (questions ++ [])
+          ≡ summary_from true (earlier ++ option_to_list l) (required ++ []) (option_to_list o ++ []) (questions ++ [])
       go None = refl
-      go (Some f) = ap (λ g. summary_from true (earlier ++ g ∷ []) (required ++ []) (option_to_list o ++ []) (finds ++ [])) (after-none f)
+      go (Some f) = ap (λ g. summary_from true (earlier ++ g ∷ []) (required ++ []) (option_to_list o ++ []) (questions ++ []))
+          (after-none f)

@@ -9,11 +9,11 @@ use Rattle.col_common.specs.Reading.{◌>>=◌, only_if}
 use Rattle.col_common.specs.declared.row.RowAddr.{RowAddr}
 use Rattle.col_model.specs.File.{for_each}
 use Rattle.col_model.specs.Recording.{Call}
-use Rattle.col_program.specs.Script.{Line, segment, call, require, order, lookup, line_spelled, pieces_of, script_of, script_of_lines, segments_in, required_in, order_in, find_in}
+use Rattle.col_program.specs.Script.{Line, segment, call, require, order, ask, line_spelled, pieces_of, script_of, script_of_lines, segments_in, required_in, order_in, question_in}
 use Rattle.col_program.specs.Script as model
 use Rattle.col_types.specs.declared.column_type.ColumnType as declared_types
-use Rattle.col_lines.specs.Finds.{find_of}
-use Rattle.col_lines.specs.declared.lookup.Find.{Find}
+use Rattle.col_questions.specs.Questions.{question_of}
+use Rattle.col_questions.specs.declared.question.Question.{Question}
 use Rattle.col_lines.specs.Lines.{required_column_of}
 use Rattle.col_order.specs.Orders.{address_of}
 use Rattle.col_script.specs.Segments.{Filled, segment_of, after_call}
@@ -21,7 +21,7 @@ use Rattle.col_script.specs.Scripts.{DraftParts, no_parts, draft_parts, summary,
 use Rattle.col_script.specs.declared.segment.Segment.{Segment}
 use Rattle.col_script.specs.declared.draft.Draft.{Draft}
 use Rattle.col_script.specs.declared.script.Script.{Script}
-use Rattle.col_script.proofs.DraftLemmas.{with-segment, with-early, with-call, with-required, with-find, with-order, with-second, with-nothing}
+use Rattle.col_script.proofs.DraftLemmas.{with-segment, with-early, with-call, with-required, with-question, with-order, with-second, with-nothing}
 
 -- the rows of an order
 abbrev rows_of : Vec RowAddr Global → List (ℕ × ℕ)
@@ -46,7 +46,7 @@ module _ (old : Draft) where
     last = l;
     required = (draft_parts old).required;
     orders = (draft_parts old).orders;
-    finds = (draft_parts old).finds;
+    questions = (draft_parts old).questions;
   }
 
   -- ---- a segment line
@@ -56,11 +56,11 @@ module _ (old : Draft) where
       → earlier.items ≡ old.earlier.items ++ option_to_list old.last → last ≡ Some s
       → segment_of s ≡ record { count = n; content = Ok [] }
       → TakesLine (segment n) old
-      (record { earlier = earlier; last = last; required = old.required; order = old.order; finds = old.finds })
+      (record { earlier = earlier; last = last; required = old.required; order = old.order; questions = old.questions })
       true
   takes-segment earlier last s n all is new ls =
       let p = draft_parts old in
-      with-segment p.earlier p.required p.orders p.finds p.last n ls
+      with-segment p.earlier p.required p.orders p.questions p.last n ls
       ∙ ap (λ es. summary_with (with_segments es (Some (record { count = n; content = Ok [] }))) ls)
       (sym (ap (map segment_of) all ∙ all_segments old.earlier.items old.last))
       ∙ ap (λ f. summary_with (with_segments (map segment_of earlier.items) (Some f)) ls) (sym new)
@@ -73,44 +73,44 @@ module _ (old : Draft) where
   takes-no_call new c none ls =
       let p = draft_parts old in
       ap (λ l. summary_with (with_segments p.earlier (option_map segment_of l)) (call c ∷ ls)) none
-      ∙ with-early p.earlier p.required p.orders p.finds c ls
+      ∙ with-early p.earlier p.required p.orders p.questions c ls
 
   -- a draft with a segment takes a call into it
   pub takes-call : (s t : Segment) (c : Call) → old.last ≡ Some s → segment_of t ≡ after_call (segment_of s) c
       → TakesLine (call c) old (record
-      { earlier = old.earlier; last = Some t; required = old.required; order = old.order; finds = old.finds })
+      { earlier = old.earlier; last = Some t; required = old.required; order = old.order; questions = old.questions })
       true
   takes-call s t c some after ls =
       let p = draft_parts old in
       ap (λ l. summary_with (with_segments p.earlier (option_map segment_of l)) (call c ∷ ls)) some
-      ∙ with-call p.earlier p.required p.orders p.finds (segment_of s) c ls
+      ∙ with-call p.earlier p.required p.orders p.questions (segment_of s) c ls
       ∙ ap (λ f. summary_with (with_segments p.earlier (Some f)) ls) (sym after)
 
-  -- ---- a required column and a lookup
+  -- ---- a required column and a question
 
   -- a draft takes a required column behind those before
   pub takes-required : (more : Vec (String Global × declared_types.ColumnType) Global)
       (r : String Global × declared_types.ColumnType) → more.items ≡ old.required.items ++ r ∷ []
       → TakesLine (require (required_column_of r)) old
-      (record { earlier = old.earlier; last = old.last; required = more; order = old.order; finds = old.finds })
+      (record { earlier = old.earlier; last = old.last; required = more; order = old.order; questions = old.questions })
       true
   takes-required more r all ls =
       let p = draft_parts old in
-      with-required p.earlier p.required p.orders p.finds p.last (required_column_of r) ls
+      with-required p.earlier p.required p.orders p.questions p.last (required_column_of r) ls
       ∙ ap (λ rs. summary_with
-      (record { earlier = p.earlier; last = p.last; required = rs; orders = p.orders; finds = p.finds }) ls)
+      (record { earlier = p.earlier; last = p.last; required = rs; orders = p.orders; questions = p.questions }) ls)
       (sym (ap (map required_column_of) all ∙ map-append required_column_of old.required.items (r ∷ [])))
 
-  -- a draft takes a lookup behind those before
-  pub takes-find : (more : Vec Find Global) (f : Find) → more.items ≡ old.finds.items ++ f ∷ []
-      → TakesLine (lookup (find_of f)) old (record
-      { earlier = old.earlier; last = old.last; required = old.required; order = old.order; finds = more }) true
-  takes-find more f all ls =
+  -- a draft takes a question behind those before
+  pub takes-question : (more : Vec Question Global) (f : Question) → more.items ≡ old.questions.items ++ f ∷ []
+      → TakesLine (ask (question_of f)) old (record
+      { earlier = old.earlier; last = old.last; required = old.required; order = old.order; questions = more }) true
+  takes-question more f all ls =
       let p = draft_parts old in
-      with-find p.earlier p.required p.orders p.finds p.last (find_of f) ls
+      with-question p.earlier p.required p.orders p.questions p.last (question_of f) ls
       ∙ ap (λ fs. summary_with
-      (record { earlier = p.earlier; last = p.last; required = p.required; orders = p.orders; finds = fs }) ls)
-      (sym (ap (map find_of) all ∙ map-append find_of old.finds.items (f ∷ [])))
+      (record { earlier = p.earlier; last = p.last; required = p.required; orders = p.orders; questions = fs }) ls)
+      (sym (ap (map question_of) all ∙ map-append question_of old.questions.items (f ∷ [])))
 
   -- ---- an order
 
@@ -121,19 +121,19 @@ module _ (old : Draft) where
     last = (draft_parts old).last;
     required = (draft_parts old).required;
     orders = option_to_list (option_map rows_of o);
-    finds = (draft_parts old).finds;
+    questions = (draft_parts old).questions;
   }
 
   -- a draft without an order takes one
   pub takes-order : (rows : Vec RowAddr Global) → is_some old.order ≡ false
       → TakesLine (order (rows_of rows)) old (record
-      { earlier = old.earlier; last = old.last; required = old.required; order = Some rows; finds = old.finds })
+      { earlier = old.earlier; last = old.last; required = old.required; order = Some rows; questions = old.questions })
       true
   takes-order rows none ls = go old.order none
     where
       go : (o : Option (Vec RowAddr Global)) → is_some o ≡ false
           → summary_with (with_order o) (order (rows_of rows) ∷ ls) ≡ summary_with (with_order (Some rows)) ls
-      go None e = let p = draft_parts old in with-order p.earlier p.last p.required p.finds (rows_of rows) ls
+      go None e = let p = draft_parts old in with-order p.earlier p.last p.required p.questions (rows_of rows) ls
       go (Some first) e = absurd (true≢false e)
 
   -- a draft with an order doesn't take another
@@ -142,19 +142,19 @@ module _ (old : Draft) where
     where
       go : (o : Option (Vec RowAddr Global)) → is_some o ≡ true → summary_with (with_order o) (order (rows_of rows) ∷ ls) ≡ None
       go None e = absurd (true≢false (sym e))
-      go (Some first) e = let p = draft_parts old in with-second p.earlier p.last p.required p.finds (rows_of first) (rows_of rows) ls
+      go (Some first) e = let p = draft_parts old in with-second p.earlier p.last p.required p.questions (rows_of first) (rows_of rows) ls
 
   -- ---- no more lines
 
   -- where no line is left, the script is made of the draft's parts
   pub ends : (s : Script) → s.segments.items ≡ old.earlier.items ++ option_to_list old.last
-      → s.required ≡ old.required → s.order ≡ old.order → s.finds ≡ old.finds
+      → s.required ≡ old.required → s.order ≡ old.order → s.questions ≡ old.questions
       → summary_with (draft_parts old) [] ≡ Some (summary_of s)
-  ends s all required same_order finds =
+  ends s all required same_order questions =
       let p = draft_parts old in
       let same : map segment_of s.segments.items ≡ p.earlier ++ option_to_list p.last =
       ap (map segment_of) all ∙ all_segments old.earlier.items old.last in
-      rw (same, required, same_order, finds) (with-nothing p.earlier p.last p.required p.finds (option_map rows_of old.order))
+      rw (same, required, same_order, questions) (with-nothing p.earlier p.last p.required p.questions (option_map rows_of old.order))
 
 -- ---- the whole script
 

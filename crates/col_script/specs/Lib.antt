@@ -1,5 +1,5 @@
 pub use Rattle.col_writer_columns.specs.Answers
-pub use Rattle.col_lines.specs.Finds
+pub use Rattle.col_questions.specs.Questions
 pub use Rattle.col_lines.specs.Lines
 pub mod Segments
 pub mod Scripts

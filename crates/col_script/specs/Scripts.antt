@@ -7,9 +7,9 @@ use Rattle.col_common.specs.Reading.{◌>>=◌, only_if}
 use Rattle.col_model.specs.File.{for_each}
 use Rattle.col_model.specs.Merge.{Required}
 use Rattle.col_model.specs.Recording.{Call}
-use Rattle.col_program.specs.Script.{Find, Line, segments_in, required_in, order_in, find_in, line_spelled}
+use Rattle.col_program.specs.Script.{Question, Line, segments_in, required_in, order_in, question_in, line_spelled}
 use Rattle.col_program.specs.Script as script
-use Rattle.col_lines.specs.Finds.{find_of}
+use Rattle.col_questions.specs.Questions.{question_of}
 use Rattle.col_lines.specs.Lines.{required_column_of}
 use Rattle.col_order.specs.Orders.{address_of}
 use Rattle.col_script.specs.Segments.{Filled, filled, segment_of, after_calls}
@@ -21,7 +21,7 @@ pub record Summary : Type 0 where
   pub segments : List Filled
   pub required : List Required
   pub order : Option (List (ℕ × ℕ))
-  pub finds : List Find
+  pub questions : List Question
 
 -- a script with its segments filled
 abbrev pub summary : script.Script → Summary
@@ -29,7 +29,7 @@ summary s = record {
   segments = map filled s.segments;
   required = s.required;
   order = s.order;
-  finds = s.finds;
+  questions = s.questions;
 }
 
 -- what a script that was read holds
@@ -38,7 +38,7 @@ summary_of s = record {
   segments = map segment_of s.segments.items;
   required = map required_column_of s.required.items;
   order = option_map (λ rows. map address_of rows.items) s.order;
-  finds = map find_of s.finds.items;
+  questions = map question_of s.questions.items;
 }
 
 -- the segments hold what their record calls come to; all else is the same
@@ -46,7 +46,7 @@ pub record IsScript (expected : script.Script) (found : Script) : Type 0 where
   pub segments : map filled expected.segments ≡ map segment_of found.segments.items
   pub required : expected.required ≡ map required_column_of found.required.items
   pub order : expected.order ≡ option_map (λ rows. map address_of rows.items) found.order
-  pub finds : expected.finds ≡ map find_of found.finds.items
+  pub questions : expected.questions ≡ map question_of found.questions.items
 
 -- the script, where there is one
 abbrev pub IsScriptOf : Option script.Script → Option Script → Type 0
@@ -60,11 +60,11 @@ pub record DraftParts : Type 0 where
   pub last : Option Filled
   pub required : List Required
   pub orders : List (List (ℕ × ℕ))
-  pub finds : List Find
+  pub questions : List Question
 
 -- before any line
 abbrev pub no_parts : DraftParts
-no_parts = record { earlier = []; last = None; required = []; orders = []; finds = [] }
+no_parts = record { earlier = []; last = None; required = []; orders = []; questions = [] }
 
 -- the parts that a draft holds
 abbrev pub draft_parts : Draft → DraftParts
@@ -73,7 +73,7 @@ draft_parts d = record {
   last = option_map segment_of d.last;
   required = map required_column_of d.required.items;
   orders = option_to_list (option_map (λ rows. map address_of rows.items) d.order);
-  finds = map find_of d.finds.items;
+  questions = map question_of d.questions.items;
 }
 
 -- the last segment with more calls
@@ -87,10 +87,10 @@ has_segment None calls = length calls == 0
 has_segment (Some f) calls = true
 
 -- what these come to, where there is at most one order
-abbrev pub summary_from : Bool → List Filled → List Required → List (List (ℕ × ℕ)) → List Find
+abbrev pub summary_from : Bool → List Filled → List Required → List (List (ℕ × ℕ)) → List Question
     → Option Summary
-summary_from has segments required orders finds = only_if (has && nat_le (length orders) 1)
-    (record { segments = segments; required = required; order = slice_get orders 0; finds = finds })
+summary_from has segments required orders questions = only_if (has && nat_le (length orders) 1)
+    (record { segments = segments; required = required; order = slice_get orders 0; questions = questions })
 
 -- what some parts and the lines behind them come to
 unfoldable pub summary_with : DraftParts → List Line → Option Summary
@@ -99,7 +99,7 @@ summary_with p ls =
     summary_from (has_segment p.last more.0)
     (p.earlier ++ (last_with p.last more.0 ++ map filled more.1))
     (p.required ++ filter_map required_in ls) (p.orders ++ filter_map order_in ls)
-    (p.finds ++ filter_map find_in ls)
+    (p.questions ++ filter_map question_in ls)
 
 -- what some parts and the pieces behind them come to, among which empty ones count for nothing
 abbrev pub summary_behind : DraftParts → List (List ℕ) → Option Summary

@@ -2,7 +2,7 @@
 ghost use Rattle.std.specs.Prelude.{◌≡◌, ◌++◌, Some, IfOk, OnOk, map, [], ◌∷◌};
 ghost use Rattle.std.specs.Option.{option_to_list};
 ghost use Rattle.col_program.specs.Script as model;
-ghost use Rattle.col_lines.specs.Finds.{find_of};
+ghost use Rattle.col_questions.specs.Questions.{question_of};
 ghost use Rattle.col_lines.specs.Lines.{script_line_of, call_of, required_column_of};
 ghost use Rattle.col_order.specs.Orders.{address_of};
 ghost use Rattle.col_script.specs.Scripts.{no_parts, draft_parts, summary_of, summary_with, TakesLine, TakesPiece};
@@ -10,7 +10,8 @@ ghost use Rattle.col_script.specs.Scripts.{no_parts, draft_parts, summary_of, su
 use crate::script::Script;
 use crate::segment::Segment;
 use col_common::RowAddr;
-use col_lines::{Call, Find, Line, read_line};
+use col_lines::{Call, Line, read_line};
+use col_questions::Question;
 use col_types::ColumnType;
 use json::Scratch;
 use std::alloc::{AllocError, Global};
@@ -22,7 +23,7 @@ pub struct Draft {
     last: Option<Segment>,
     required: Vec<(String, ColumnType)>,
     order: Option<Vec<RowAddr>>,
-    finds: Vec<Find>,
+    questions: Vec<Question>,
 }
 
 impl Draft {
@@ -35,7 +36,7 @@ impl Draft {
             last: None,
             required: Vec::new(alloc),
             order: None,
-            finds: Vec::new(alloc),
+            questions: Vec::new(alloc),
         }
     }
 
@@ -65,7 +66,7 @@ impl Draft {
             Line::Record(call) => self.take_call(call),
             Line::Require { name, column_type } => self.take_required(name, column_type),
             Line::Order(rows) => Ok(self.take_order(rows)),
-            Line::Lookup(find) => self.take_find(find),
+            Line::Ask(question) => self.take_question(question),
         }
     }
 
@@ -105,10 +106,10 @@ impl Draft {
         true
     }
 
-    fn take_find(&mut self, find: Find) -> Result<bool, AllocError>
-        ensures { IfOk result (TakesLine (model.lookup (find_of find)) self.old self.new) }
+    fn take_question(&mut self, question: Question) -> Result<bool, AllocError>
+        ensures { IfOk result (TakesLine (model.ask (question_of question)) self.old self.new) }
     {
-        self.finds.push(find)?;
+        self.questions.push(question)?;
         Ok(true)
     }
 
@@ -122,14 +123,14 @@ impl Draft {
             last,
             required,
             order,
-            finds,
+            questions,
         } = self;
         add_last(&mut earlier, last)?;
         Ok(Script {
             segments: earlier,
             required,
             order,
-            finds,
+            questions,
         })
     }
 }

@@ -1,4 +1,4 @@
-//! Scripts: the segments, required columns, order and lookups that lines say. Contracts see what
+//! Scripts: the segments, required columns, order and questions that lines say. Contracts see what
 //! the definitions make of the same bytes.
 #![tactic(auto)]
 

@@ -1,4 +1,4 @@
-//! Scripts: segments with what was recorded, required columns, an order and lookups.
+//! Scripts: segments with what was recorded, required columns, an order and questions.
 ghost use Rattle.std.specs.Prelude.{◌≡◌, ◌==◌, ◌<◌, ℕ, List, [], ◌∷◌, length, position, IfOk, IfSome};
 ghost use Rattle.std.specs.List.{slice_split};
 ghost use Rattle.col_program.specs.Script.{script_of};
@@ -7,7 +7,7 @@ ghost use Rattle.col_script.specs.Scripts.{IsScriptOf, pieces_left};
 use crate::draft::Draft;
 use crate::segment::Segment;
 use col_common::RowAddr;
-use col_lines::Find;
+use col_questions::Question;
 use col_types::ColumnType;
 use json::Scratch;
 use std::alloc::{AllocError, Global};
@@ -19,7 +19,7 @@ pub struct Script {
     pub required: Vec<(String, ColumnType)>,
     /// None is a stack.
     pub order: Option<Vec<RowAddr>>,
-    pub finds: Vec<Find>,
+    pub questions: Vec<Question>,
 }
 
 /// The script that the bytes spell, none of a bad one.

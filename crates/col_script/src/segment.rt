@@ -3,7 +3,7 @@ ghost use Rattle.std.specs.Prelude.{◌≡◌, [], IfSome, OnErr, OnOk};
 ghost use Rattle.col_model.specs.Recording.{content_after, recorded};
 ghost use Rattle.col_writer_columns.specs.Answers.{RecordsOrRefuses};
 ghost use Rattle.col_lines.specs.Lines.{call_of};
-ghost use Rattle.col_lines.specs.Values.{typed_cell};
+ghost use Rattle.col_questions.specs.Values.{typed_cell};
 ghost use Rattle.col_script.specs.Segments.{segment_of, after_call};
 
 use col_common::{ColumnarError, DocId};

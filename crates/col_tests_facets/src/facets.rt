@@ -1,6 +1,4 @@
 //! Facets of columns, by examples.
-ghost use Rattle.std.specs.Prelude.{◌≡◌};
-ghost use Rattle.col_facet.specs.declared.facet_cell.FacetCell.TheVariants as cells;
 
 use col_common::ColumnarError;
 use col_facet::{FacetCell, FacetCount, merge_facets, top_facets};
@@ -32,9 +30,7 @@ fn are_numbers(facets: &[FacetCount], expected: &[(i128, u64)]) -> bool {
     true
 }
 
-fn one_number(number: i128, count: u64) -> FacetCount
-    ensures { result.cell ≡ cells.Num number }
-{
+fn one_number(number: i128, count: u64) -> FacetCount {
     FacetCount {
         cell: FacetCell::Num(number),
         count,
@@ -57,6 +53,13 @@ fn assert_top(rt: &impl Abort, alloc: Global, sums: &[FacetCount]) -> Result<(),
 #[test]
 fn counts_of_one_cell_are_summed(rt: HostRuntime) -> Result<(), Fail> {
     let sums = sums_with(rt.alloc(), 5)?;
+    assert_top(&rt, rt.alloc(), sums.as_slice())
+}
+
+#[test]
+fn counts_in_any_order_are_summed(rt: HostRuntime) -> Result<(), Fail> {
+    let left = [one_number(3, 1), one_number(1, 1), one_number(1, 1)];
+    let sums = merge_facets(rt.alloc(), &left, &[one_number(1, 5)])?;
     assert_top(&rt, rt.alloc(), sums.as_slice())
 }
 

@@ -37,7 +37,7 @@ const LINES: [(&str, &str); 9] = [
     ),
     (
         "[\"find\",\"a\",\"i64\",1,-1,4,3]",
-        "Lookup(Find { name: \"a\", ends: I64 { lo: 1, hi: -1 }, from: 4, to: 3 })",
+        "Ask(Find(Find { name: \"a\", ends: I64 { lo: 1, hi: -1 }, from: 4, to: 3 }))",
     ),
 ];
 

@@ -155,3 +155,10 @@ rows_same p q a (suc n) same =
 -- numbers between two bounds are those in their range
 pub in_between : (low high x : ℕ) → is_between number_cmp low high x ≡ is_in_range low high x
 in_between low high x = grind (arith, nat_tests)
+
+-- where no number of a range passes a test, none is left
+pub rows_none : (p : ℕ → Bool) (a n : ℕ) → ((k : ℕ) → a ≤ k → k < a + n → p k ≡ false) → filter p (range_with_len a n) ≡ []
+rows_none p a zero never = refl
+rows_none p a (suc n) never =
+    rw (never a (omega arith) (omega arith))
+    (rows_none p (a + 1) n (λ k h l. never k (omega arith) (omega arith)))

@@ -14,6 +14,7 @@ pub use Rattle.col_model.specs.Category
 pub use Rattle.col_model.specs.Column
 pub use Rattle.col_model.specs.ColumnType
 pub use Rattle.col_model.specs.Dictionary
+pub use Rattle.col_model.specs.Facets
 pub use Rattle.col_model.specs.File
 pub use Rattle.col_model.specs.Images
 pub use Rattle.col_model.specs.Index
@@ -76,3 +77,8 @@ pub use Rattle.col_merge.specs.Merges
 pub use Rattle.col_merge.specs.Parts
 pub use Rattle.col_merge.specs.Readings
 pub use Rattle.col_merge.specs.Turns
+pub use Rattle.col_program.specs.Queries
+pub use Rattle.col_questions.specs.Steps
+pub use Rattle.col_opened.specs.Opened
+pub use Rattle.col_query.specs.Named
+pub use Rattle.col_facet.specs.Facets as FacetCounts

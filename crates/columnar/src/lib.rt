@@ -1,6 +1,7 @@
 //! The store as one crate to import: the names that the Rust crate has at its root stand here, and
 //! the others by subject in the modules. Every name is that of the crate that makes it, with its
-//! contract; `specs/` gives the definitions again that contracts of the names at the root cite.
+//! contract; `specs/` gives the definitions again that contracts of the names at the root cite, and
+//! those of facets and queries.
 #![tactic(auto)]
 
 pub mod bits;
@@ -12,6 +13,7 @@ pub mod facets;
 pub mod files;
 pub mod merging;
 pub mod outside;
+pub mod queries;
 pub mod recording;
 
 pub use col_common::{

@@ -1,12 +1,16 @@
 //! A first program over the store: it writes two files in memory, merges them, lists the columns of
-//! the merged file, reads the values of its rows, and looks rows up by a range of values.
+//! the merged file, reads the values of its rows, looks rows up by a range of values, counts cells
+//! and asks a query.
 #![tactic(auto)]
 
+use columnar::facets::{FacetCell, facet, top_facets};
 use columnar::outside::{Buffer, Bytes, FileInMemory};
+use columnar::queries::{QueryError, answer, parse_query};
 use columnar::{
     ColumnarError, ColumnarReader, ColumnarWriter, DocId, DynamicColumn, MergeRowOrder, NumColumn,
     NumericalValue, StackFromReaders, StackMergeOrder, StrColumn, merge_columnar,
 };
+use serde_json::json;
 use std::alloc::Global;
 use std::process::ExitCode;
 
@@ -29,6 +33,7 @@ fn report(alloc: Global) -> Result<String, ColumnarError> {
         let column = handle.open(alloc, &mut reader)?;
         text.push_str(described(alloc, name.as_str(), &column)?.as_str())?;
     }
+    text.push_str(capitals(alloc, &mut reader)?.as_str())?;
     Ok(text)
 }
 
@@ -70,7 +75,39 @@ fn described(alloc: Global, name: &str, column: &DynamicColumn) -> Result<String
         _ => String::new(alloc),
     };
     let count = column.num_values();
-    Ok(format!(in alloc; "{name} {kind} {cardinality} {count}\n{answers}")?)
+    let counts = of_ends(alloc, column)?;
+    Ok(format!(in alloc; "{name} {kind} {cardinality} {count}\n{answers}{counts}")?)
+}
+
+// How often each text stands in the first row and the third, the most frequent first.
+fn of_ends(alloc: Global, column: &DynamicColumn) -> Result<String, ColumnarError> {
+    let mut text = String::new(alloc);
+    if column.num_docs() < 3 {
+        return Ok(text);
+    }
+    let facets = facet(alloc, column, &[0, 2])?;
+    for counted in &top_facets(alloc, &facets, 2)? {
+        if let FacetCell::Term(term) = &counted.cell {
+            let (term, count) = (term.as_slice(), counted.count);
+            text.push_str(format!(in alloc; "  {term:?} in rows 0 and 2: {count}\n")?.as_str())?;
+        }
+    }
+    Ok(text)
+}
+
+// The capitals whose size isn't from 1000 to 2500.
+fn capitals(alloc: Global, reader: &mut Reader) -> Result<String, ColumnarError> {
+    let asked = json!(in alloc; ["and", [
+        ["range", "capital", "bool", true, true],
+        ["not", ["range", "size", "i64", 1000, 2500]]
+    ]])?;
+    let query = match parse_query(alloc, &asked) {
+        Ok(query) => query,
+        Err(QueryError::Memory) => return Err(ColumnarError::OutOfMemory),
+        Err(QueryError::Shape) => return Err(ColumnarError::InvalidData),
+    };
+    let found = answer(alloc, reader, &query)?;
+    Ok(format!(in alloc; "capitals of other sizes: {found:?}\n")?)
 }
 
 fn of_sizes(alloc: Global, sizes: &NumColumn<i64>) -> Result<String, ColumnarError> {

@@ -15,73 +15,73 @@ use Rattle.col_facet.specs.Values.{values_in_rows}
 use Rattle.col_facet.proofs.facets.facet.Goals as goal
 use Rattle.col_facet.proofs.FacetLemmas.{docs-of, facets-of, found-cells, found-ascend}
 
-pub flag_facets-requires-clause-below : goal.flag_facets-requires-clause-below
-flag_facets-requires-clause-below c = docs-of c.args.column.now
+pub number_facets-requires-clause-below : goal.number_facets-requires-clause-below
+number_facets-requires-clause-below c = docs-of c.args.column.now
     (columns.Bool c.in-Bool.column) c.args.docs.now c.in-Bool.is c.requires.below
 
 pub returns-in-Bool-clause-ok : goal.returns-in-Bool-clause-ok
 returns-in-Bool-clause-ok c =
-    facets-of c.flag_facets.result c.args.column.now (columns.Bool c.in-Bool.column) c.args.docs.now c.in-Bool.is
-    (found-cells c.flag_facets.result types.bool [] bool_cell c.in-Bool.column.shape (num_values_of c.in-Bool.column.values)
-    c.args.docs.now c.flag_facets.ensures)
+    facets-of c.number_facets.result c.args.column.now (columns.Bool c.in-Bool.column) c.args.docs.now c.in-Bool.is
+    (found-cells c.number_facets.result types.bool [] bool_cell c.in-Bool.column.shape (num_values_of c.in-Bool.column.values)
+    c.args.docs.now c.number_facets.ensures)
 
 pub returns-in-Bool-clause-ascending : goal.returns-in-Bool-clause-ascending
-returns-in-Bool-clause-ascending c = found-ascend c.flag_facets.result _ c.flag_facets.ensures
+returns-in-Bool-clause-ascending c = found-ascend c.number_facets.result _ c.number_facets.ensures
 
-pub value_facets-requires-clause-below : goal.value_facets-requires-clause-below
-value_facets-requires-clause-below c = docs-of c.args.column.now
+pub number_facets-requires-in-I64-clause-below : goal.number_facets-requires-in-I64-clause-below
+number_facets-requires-in-I64-clause-below c = docs-of c.args.column.now
     (columns.I64 c.in-I64.column) c.args.docs.now c.in-I64.is c.requires.below
 
 pub returns-in-I64-clause-ok : goal.returns-in-I64-clause-ok
 returns-in-I64-clause-ok c =
-    facets-of c.value_facets.result c.args.column.now (columns.I64 c.in-I64.column) c.args.docs.now c.in-I64.is
-    (found-cells c.value_facets.result types.i64 [] number c.in-I64.column.shape (num_values_of c.in-I64.column.values)
-    c.args.docs.now c.value_facets.ensures)
+    facets-of c.number_facets-in-I64.result c.args.column.now (columns.I64 c.in-I64.column) c.args.docs.now c.in-I64.is
+    (found-cells c.number_facets-in-I64.result types.i64 [] number c.in-I64.column.shape (num_values_of c.in-I64.column.values)
+    c.args.docs.now c.number_facets-in-I64.ensures)
 
 pub returns-in-I64-clause-ascending : goal.returns-in-I64-clause-ascending
-returns-in-I64-clause-ascending c = found-ascend c.value_facets.result _ c.value_facets.ensures
+returns-in-I64-clause-ascending c = found-ascend c.number_facets-in-I64.result _ c.number_facets-in-I64.ensures
 
-pub value_facets-requires-in-U64-clause-below : goal.value_facets-requires-in-U64-clause-below
-value_facets-requires-in-U64-clause-below c = docs-of c.args.column.now
+pub number_facets-requires-in-U64-clause-below : goal.number_facets-requires-in-U64-clause-below
+number_facets-requires-in-U64-clause-below c = docs-of c.args.column.now
     (columns.U64 c.in-U64.column) c.args.docs.now c.in-U64.is c.requires.below
 
 pub returns-in-U64-clause-ok : goal.returns-in-U64-clause-ok
 returns-in-U64-clause-ok c =
-    facets-of c.value_facets-in-U64.result c.args.column.now (columns.U64 c.in-U64.column) c.args.docs.now c.in-U64.is
-    (found-cells c.value_facets-in-U64.result types.u64 [] unsigned_cell c.in-U64.column.shape
+    facets-of c.number_facets-in-U64.result c.args.column.now (columns.U64 c.in-U64.column) c.args.docs.now c.in-U64.is
+    (found-cells c.number_facets-in-U64.result types.u64 [] unsigned_cell c.in-U64.column.shape
     (num_values_of c.in-U64.column.values)
-    c.args.docs.now c.value_facets-in-U64.ensures)
+    c.args.docs.now c.number_facets-in-U64.ensures)
 
 pub returns-in-U64-clause-ascending : goal.returns-in-U64-clause-ascending
-returns-in-U64-clause-ascending c = found-ascend c.value_facets-in-U64.result _ c.value_facets-in-U64.ensures
+returns-in-U64-clause-ascending c = found-ascend c.number_facets-in-U64.result _ c.number_facets-in-U64.ensures
 
-pub value_facets-requires-in-IpAddr-clause-below : goal.value_facets-requires-in-IpAddr-clause-below
-value_facets-requires-in-IpAddr-clause-below c = docs-of c.args.column.now
+pub address_facets-requires-clause-below : goal.address_facets-requires-clause-below
+address_facets-requires-clause-below c = docs-of c.args.column.now
     (columns.IpAddr c.in-IpAddr.column) c.args.docs.now c.in-IpAddr.is c.requires.below
 
 pub returns-in-IpAddr-clause-ok : goal.returns-in-IpAddr-clause-ok
 returns-in-IpAddr-clause-ok c =
-    facets-of c.value_facets-in-IpAddr.result c.args.column.now (columns.IpAddr c.in-IpAddr.column) c.args.docs.now c.in-IpAddr.is
-    (found-cells c.value_facets-in-IpAddr.result types.ip [] unsigned_cell c.in-IpAddr.column.shape
+    facets-of c.address_facets.result c.args.column.now (columns.IpAddr c.in-IpAddr.column) c.args.docs.now c.in-IpAddr.is
+    (found-cells c.address_facets.result types.ip [] unsigned_cell c.in-IpAddr.column.shape
     (ip_values_of c.in-IpAddr.column.values)
-    c.args.docs.now c.value_facets-in-IpAddr.ensures)
+    c.args.docs.now c.address_facets.ensures)
 
 pub returns-in-IpAddr-clause-ascending : goal.returns-in-IpAddr-clause-ascending
-returns-in-IpAddr-clause-ascending c = found-ascend c.value_facets-in-IpAddr.result _ c.value_facets-in-IpAddr.ensures
+returns-in-IpAddr-clause-ascending c = found-ascend c.address_facets.result _ c.address_facets.ensures
 
-pub value_facets-requires-in-DateTime-clause-below : goal.value_facets-requires-in-DateTime-clause-below
-value_facets-requires-in-DateTime-clause-below c = docs-of c.args.column.now
+pub number_facets-requires-in-DateTime-clause-below : goal.number_facets-requires-in-DateTime-clause-below
+number_facets-requires-in-DateTime-clause-below c = docs-of c.args.column.now
     (columns.DateTime c.in-DateTime.column) c.args.docs.now c.in-DateTime.is c.requires.below
 
 pub returns-in-DateTime-clause-ok : goal.returns-in-DateTime-clause-ok
 returns-in-DateTime-clause-ok c =
-    facets-of c.value_facets-in-DateTime.result c.args.column.now (columns.DateTime c.in-DateTime.column) c.args.docs.now c.in-DateTime.is
-    (found-cells c.value_facets-in-DateTime.result types.datetime [] number c.in-DateTime.column.shape
+    facets-of c.number_facets-in-DateTime.result c.args.column.now (columns.DateTime c.in-DateTime.column) c.args.docs.now c.in-DateTime.is
+    (found-cells c.number_facets-in-DateTime.result types.datetime [] number c.in-DateTime.column.shape
     (num_values_of c.in-DateTime.column.values)
-    c.args.docs.now c.value_facets-in-DateTime.ensures)
+    c.args.docs.now c.number_facets-in-DateTime.ensures)
 
 pub returns-in-DateTime-clause-ascending : goal.returns-in-DateTime-clause-ascending
-returns-in-DateTime-clause-ascending c = found-ascend c.value_facets-in-DateTime.result _ c.value_facets-in-DateTime.ensures
+returns-in-DateTime-clause-ascending c = found-ascend c.number_facets-in-DateTime.result _ c.number_facets-in-DateTime.ensures
 
 pub term_facets-requires-clause-below : goal.term_facets-requires-clause-below
 term_facets-requires-clause-below c = docs-of c.args.column.now

@@ -5,8 +5,9 @@ use Rattle.col_facet.proofs.runs.facets_of_sorted.Given as goal
 
 abbrev pub invariant-loop-at : goal.invariant-loop-at
 invariant-loop-at g l =
-    (l.at ≤ length l.values)
-    × (l.facets.items ++ facets_of (map g.T.FacetValue.cell (drop l.at l.values)) ≡ facets_of (map g.T.FacetValue.cell l.values))
+    (l.at ≤ length l.places)
+    × (l.facets.items ++ facets_of (map (g.P.PlaceCells.cells l.cells) (drop l.at l.places))
+    ≡ facets_of (map (g.P.PlaceCells.cells l.cells) l.places))
 
 abbrev pub decreases-loop-at : goal.decreases-loop-at
-decreases-loop-at g l = length l.values - l.at
+decreases-loop-at g l = length l.places - l.at

@@ -1,11 +1,8 @@
 use Rattle.std.proofs.Common.{◌∙◌, ap, arith}
 use Rattle.col_facet.specs.Ranked.{ranked_counts}
 use Rattle.col_facet.proofs.top.top_facets.Goals as goal
-use Rattle.col_facet.proofs.TopLemmas.{top-is, all-ranked}
+use Rattle.col_facet.proofs.TopLemmas.{all-ranked}
 
 pub returns : goal.returns
 returns c =
-    c.loop-count.invariant ∙ all-ranked _ _ (omega arith)
-    ∙ ap ranked_counts (c.deref-count-items.ensures.value ∙ c.truncate.ensures.items)
-    ∙ top-is c.args.facets.now c.args.k c.in_ok-ranked.ranked.items c.sort_ranked.new.ranked.items c.in_ok-ranked.ensures
-    c.sort_ranked.ensures.moved c.sort_ranked.ensures.sorted
+    c.loop-count.invariant ∙ all-ranked _ _ (omega arith) ∙ ap ranked_counts c.deref-count-items.ensures.value ∙ c.in_ok-ranked.ensures

@@ -17,43 +17,48 @@ use Rattle.col_facet.proofs.FacetLemmas.{all-facets-of, all-cells, found-ascend}
 
 pub returns-in-Bool-clause-ok : goal.returns-in-Bool-clause-ok
 returns-in-Bool-clause-ok c =
-    all-facets-of c.all_flags.result c.args.column.now (columns.Bool c.in-Bool.column) c.in-Bool.is
-    (all-cells c.all_flags.result types.bool [] bool_cell c.in-Bool.column.shape (num_values_of c.in-Bool.column.values) c.all_flags.ensures)
+    all-facets-of c.all_numbers.result c.args.column.now (columns.Bool c.in-Bool.column) c.in-Bool.is
+    (all-cells c.all_numbers.result types.bool [] bool_cell
+    c.in-Bool.column.shape (num_values_of c.in-Bool.column.values) c.all_numbers.ensures)
 
 pub returns-in-Bool-clause-ascending : goal.returns-in-Bool-clause-ascending
-returns-in-Bool-clause-ascending c = found-ascend c.all_flags.result _ c.all_flags.ensures
+returns-in-Bool-clause-ascending c = found-ascend c.all_numbers.result _ c.all_numbers.ensures
 
 pub returns-in-I64-clause-ok : goal.returns-in-I64-clause-ok
 returns-in-I64-clause-ok c =
-    all-facets-of c.all_values.result c.args.column.now (columns.I64 c.in-I64.column) c.in-I64.is
-    (all-cells c.all_values.result types.i64 [] number c.in-I64.column.shape (num_values_of c.in-I64.column.values) c.all_values.ensures)
+    all-facets-of c.all_numbers-in-I64.result c.args.column.now (columns.I64 c.in-I64.column) c.in-I64.is
+    (all-cells c.all_numbers-in-I64.result types.i64 [] number
+    c.in-I64.column.shape (num_values_of c.in-I64.column.values) c.all_numbers-in-I64.ensures)
 
 pub returns-in-I64-clause-ascending : goal.returns-in-I64-clause-ascending
-returns-in-I64-clause-ascending c = found-ascend c.all_values.result _ c.all_values.ensures
+returns-in-I64-clause-ascending c = found-ascend c.all_numbers-in-I64.result _ c.all_numbers-in-I64.ensures
 
 pub returns-in-U64-clause-ok : goal.returns-in-U64-clause-ok
 returns-in-U64-clause-ok c =
-    all-facets-of c.all_values-in-U64.result c.args.column.now (columns.U64 c.in-U64.column) c.in-U64.is
-    (all-cells c.all_values-in-U64.result types.u64 [] unsigned_cell c.in-U64.column.shape (num_values_of c.in-U64.column.values) c.all_values-in-U64.ensures)
+    all-facets-of c.all_numbers-in-U64.result c.args.column.now (columns.U64 c.in-U64.column) c.in-U64.is
+    (all-cells c.all_numbers-in-U64.result types.u64 [] unsigned_cell
+    c.in-U64.column.shape (num_values_of c.in-U64.column.values) c.all_numbers-in-U64.ensures)
 
 pub returns-in-U64-clause-ascending : goal.returns-in-U64-clause-ascending
-returns-in-U64-clause-ascending c = found-ascend c.all_values-in-U64.result _ c.all_values-in-U64.ensures
+returns-in-U64-clause-ascending c = found-ascend c.all_numbers-in-U64.result _ c.all_numbers-in-U64.ensures
 
 pub returns-in-IpAddr-clause-ok : goal.returns-in-IpAddr-clause-ok
 returns-in-IpAddr-clause-ok c =
-    all-facets-of c.all_values-in-IpAddr.result c.args.column.now (columns.IpAddr c.in-IpAddr.column) c.in-IpAddr.is
-    (all-cells c.all_values-in-IpAddr.result types.ip [] unsigned_cell c.in-IpAddr.column.shape (ip_values_of c.in-IpAddr.column.values) c.all_values-in-IpAddr.ensures)
+    all-facets-of c.all_addresses.result c.args.column.now (columns.IpAddr c.in-IpAddr.column) c.in-IpAddr.is
+    (all-cells c.all_addresses.result types.ip [] unsigned_cell
+    c.in-IpAddr.column.shape (ip_values_of c.in-IpAddr.column.values) c.all_addresses.ensures)
 
 pub returns-in-IpAddr-clause-ascending : goal.returns-in-IpAddr-clause-ascending
-returns-in-IpAddr-clause-ascending c = found-ascend c.all_values-in-IpAddr.result _ c.all_values-in-IpAddr.ensures
+returns-in-IpAddr-clause-ascending c = found-ascend c.all_addresses.result _ c.all_addresses.ensures
 
 pub returns-in-DateTime-clause-ok : goal.returns-in-DateTime-clause-ok
 returns-in-DateTime-clause-ok c =
-    all-facets-of c.all_values-in-DateTime.result c.args.column.now (columns.DateTime c.in-DateTime.column) c.in-DateTime.is
-    (all-cells c.all_values-in-DateTime.result types.datetime [] number c.in-DateTime.column.shape (num_values_of c.in-DateTime.column.values) c.all_values-in-DateTime.ensures)
+    all-facets-of c.all_numbers-in-DateTime.result c.args.column.now (columns.DateTime c.in-DateTime.column) c.in-DateTime.is
+    (all-cells c.all_numbers-in-DateTime.result types.datetime [] number
+    c.in-DateTime.column.shape (num_values_of c.in-DateTime.column.values) c.all_numbers-in-DateTime.ensures)
 
 pub returns-in-DateTime-clause-ascending : goal.returns-in-DateTime-clause-ascending
-returns-in-DateTime-clause-ascending c = found-ascend c.all_values-in-DateTime.result _ c.all_values-in-DateTime.ensures
+returns-in-DateTime-clause-ascending c = found-ascend c.all_numbers-in-DateTime.result _ c.all_numbers-in-DateTime.ensures
 
 pub returns-in-Bytes-clause-ok : goal.returns-in-Bytes-clause-ok
 returns-in-Bytes-clause-ok c =

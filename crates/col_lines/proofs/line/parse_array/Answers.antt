@@ -3,7 +3,8 @@ use Rattle.std.specs.Prelude.{IfOk}
 use Rattle.serde_json.specs.View.{view}
 use Rattle.serde_json.specs.declared.value.Value.{Value}
 use Rattle.serde_json.proofs.Views.{view-Array}
-use Rattle.col_program.specs.Script.{Line, as_list, line_among, shapes}
+use Rattle.col_program.specs.Script.{Line, line_among, shapes}
+use Rattle.col_program.specs.Values.{as_list}
 use Rattle.col_lines.specs.Lines.{script_line_of}
 use Rattle.col_lines.proofs.PartLemmas.{items_same}
 use Rattle.col_lines.proofs.line.parse_array.Goals as goal

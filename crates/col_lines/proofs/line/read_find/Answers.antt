@@ -1,7 +1,7 @@
 use Rattle.std.proofs.Common.{string_bytes, Some, None, sym, ◌∙◌, ap, option_map}
 use Rattle.serde_json.specs.View.{view}
 use Rattle.col_types.specs.Kinds.{kind_of}
-use Rattle.col_lines.specs.Values.{ends_of}
+use Rattle.col_questions.specs.Values.{ends_of}
 use Rattle.col_lines.proofs.FindLemmas.{bad_from, bad_to, by_parts}
 use Rattle.col_lines.proofs.line.read_find.Goals as goal
 

@@ -1,6 +1,6 @@
 use Rattle.std.proofs.Common.{map, option_map, sym, ap, ◌∙◌}
 use Rattle.std.proofs.lemmas.Result.{err_from_is_err_and}
-use Rattle.col_lines.specs.Finds.{find_of}
+use Rattle.col_questions.specs.Questions.{question_of}
 use Rattle.col_order.specs.Orders.{address_of}
 use Rattle.col_script.specs.Segments.{segment_of}
 use Rattle.col_merge_plan.specs.Slots.{required_of}
@@ -25,13 +25,13 @@ pub returns-clause-made : goal.returns-clause-made
 returns-clause-made g c = λ s is.
     script-made g.H.FileHandle.seen c.args.inputs.now.items
     (handed_in g.H.FileHandle.seen c.merge_inputs.new.inputs.items) s c.args.short
-    (map find_of c.args.script.finds.items) c.in_ok-files.files.items (required_of c.args.script.required.items)
+    (map question_of c.args.script.questions.items) c.in_ok-files.files.items (required_of c.args.script.required.items)
     (option_map (λ v. map address_of v.items) c.args.script.order) c.merge_inputs.result
     (record {
       ok =
           (c.in_ok-files.ensures s.segments (is.segments ∙ ap (map segment_of) (sym c.deref.ensures.value))).ok;
       refused = tt;
-    }) is.required is.order is.finds
+    }) is.required is.order is.questions
     (rw (c.deref-2.ensures.value, c.deref-3.ensures.value, c.deref-4.ensures.value) at c.merge_inputs.ensures)
 
 pub returns-clause-known : goal.returns-clause-known

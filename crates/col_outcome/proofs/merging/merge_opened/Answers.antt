@@ -1,7 +1,7 @@
 use Rattle.std.proofs.Common.{map, option_map, reverse, drop, length, ◌∙◌, arith}
 use Rattle.std.proofs.lemmas.List.{take_at}
 use Rattle.std.proofs.lemmas.Result.{err_from_is_err_and}
-use Rattle.col_lines.specs.Finds.{find_of}
+use Rattle.col_questions.specs.Questions.{question_of}
 use Rattle.col_order.specs.Orders.{address_of}
 use Rattle.col_merge_plan.specs.Slots.{required_of}
 use Rattle.col_outcome.specs.Making.{IsMade}
@@ -13,7 +13,7 @@ use Rattle.col_outcome.proofs.merging.merge_opened.Goals as goal
 pub returns-in_err-open_inputs-clause-merges : goal.returns-in_err-open_inputs-clause-merges
 returns-in_err-open_inputs-clause-merges g c = λ unfailed.
     let p = err_from_is_err_and c.from_residual.result c.from_residual.ensures.1 in
-    rw (p.1, p.2) (inputs-unopened (IsMade c.args.short (map find_of c.args.finds.now)) _ _
+    rw (p.1, p.2) (inputs-unopened (IsMade c.args.short (map question_of c.args.questions.now)) _ _
     c.open_inputs.new.readers.items c.args.files.now (required_of c.args.required.now)
     (option_map (λ v. map address_of v.items) c.args.rows) _ c.in_err-open_inputs.ensures.opens)
 
@@ -36,7 +36,7 @@ returns-clause-merges g c = λ unfailed.
     let back = take_at c.merge_readers.new.readers
     (drop (length c.merge_readers.new.readers) c.open_files.new.readers.items) c.open_files.new.readers.len
     (c.merge_readers.auto.readers ∙ c.deref_mut.ensures.len) in
-    rw back (inputs-merged see c.open_inputs.new.left.items (IsMade c.args.short (map find_of c.args.finds.now))
+    rw back (inputs-merged see c.open_inputs.new.left.items (IsMade c.args.short (map question_of c.args.questions.now))
     (handed_in see (reverse c.args.left.now.items)) c.open_inputs.new.readers.items c.open_files.new.readers.items
     c.merge_readers.new.readers c.args.files.now (required_of c.args.required.now)
     (option_map (λ v. map address_of v.items) c.args.rows) c.merge_readers.result

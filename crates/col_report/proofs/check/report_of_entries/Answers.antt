@@ -9,4 +9,4 @@ pub returns : goal.returns
 returns g c =
     entries-printed _ _ _ c.args.reader.now.keys.row_count _ (map listed c.args.reader.now.keys.entries) _ c.args.whole.now
     c.new-report.ensures.items (c.in_ok-value.ensures ∙ ap rows_line c.num_docs.ensures)
-    (ap (map listed_name) c.deref.ensures.value ∙ c.in-Ok.ensures.ok) c.in_ok-push_line.ensures c.in_ok-push_entries.ensures
+    (ap (map listed_name) c.deref.ensures.value ∙ c.in-Ok.ensures.ok) c.in_ok-push_line.ensures.ok c.in_ok-push_entries.ensures

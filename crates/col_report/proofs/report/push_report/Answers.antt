@@ -5,7 +5,7 @@ use Rattle.col_report.proofs.ReportLemmas.{report-printed}
 use Rattle.col_report.proofs.report.push_report.Goals as goal
 
 pub returns : goal.returns
-returns g c =
-    λ bytes read. on_ok_weaker c.push_finds.result (report-printed _ _ _ _ c.args.reader.now.keys.row_count
-    c.args.columns.now c.args.finds.now c.args.short _ (c.in_ok-value.ensures ∙ ap rows_line c.num_docs.ensures)
-    c.in_ok-push_line.ensures c.in_ok-push_columns.ensures) (c.push_finds.ensures bytes read)
+returns g c = λ t are. on_ok_weaker c.push_questions.result
+    (report-printed _ _ _ _ c.args.reader.now.keys t c.args.columns.now c.columns.result.now c.args.questions.now
+    c.args.short _ are c.columns.ensures (c.in_ok-value.ensures ∙ ap rows_line c.num_docs.ensures)
+    c.in_ok-push_line.ensures.ok c.in_ok-push_columns.ensures) (c.push_questions.ensures t are)

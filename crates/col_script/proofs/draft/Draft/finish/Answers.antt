@@ -8,6 +8,6 @@ returns c =
       segments = c.add_last.new.segments;
       required = c.args.self.required;
       order = c.args.self.order;
-      finds = c.args.self.finds;
+      questions = c.args.self.questions;
     })
     c.in_ok-add_last.ensures refl refl refl

@@ -1,0 +1,12 @@
+use Rattle.std.proofs.Common.{◌≡◌, ◌+◌, List, IfOk, sym, ap, subst}
+use Rattle.col_model.proofs.ListLaws.{map-map}
+use Rattle.col_facet.specs.Facets.{facets_of}
+use Rattle.col_facet.specs.declared.facet_cell.FacetCell.TheVariants.{Addr}
+use Rattle.col_facet.specs.declared.facet_cell.FacetCount.{FacetCount}
+use Rattle.col_facet.proofs.addresses.facets_of_distances.Goals as goal
+
+pub returns : goal.returns
+returns c =
+    subst (λ (fs : List FacetCount). IfOk c.facets_of_places.result (λ facets. facets.items ≡ fs))
+    (ap facets_of (sym (map-map (λ n. Addr n) (λ n. c.args.addresses.now + n) c.args.distances.items)))
+    c.facets_of_places.ensures

@@ -1,8 +1,0 @@
-use Rattle.std.proofs.Common.{sym, ◌∙◌, refl}
-use Rattle.serde_json.specs.Data.{string}
-use Rattle.col_lines.proofs.PartLemmas.{bad_address}
-use Rattle.col_lines.proofs.parts.ip_addr_spelled.Goals as goal
-
-pub returns-in-Err : goal.returns-in-Err
-returns-in-Err c =
-    bad_address (string c.args.digits.now) c.args.digits.now c.in-Err.field-0 refl (sym c.from_hex.ensures ∙ c.in-Err.is)

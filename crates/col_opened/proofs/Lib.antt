@@ -1,0 +1,7 @@
+mod ChosenLemmas
+pub mod KeyLemmas
+mod FoundLemmas
+mod ReadLemmas
+mod OpenLemmas
+mod TableLemmas
+mod PlaceLemmas

@@ -1,0 +1,12 @@
+mod AnswerLemmas
+mod FindLemmas
+mod LeafLemmas
+mod LawLemmas
+mod MergeLemmas
+mod NameLemmas
+mod NamedLemmas
+mod PassLemmas
+mod RunLemmas
+mod SetLemmas
+mod StackLemmas
+mod WordLemmas

@@ -1,0 +1,4 @@
+pub mod Laws
+pub mod Named
+pub mod Sets
+pub mod Stacks

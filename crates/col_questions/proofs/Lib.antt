@@ -1,0 +1,4 @@
+pub mod WordLemmas
+mod AddressLemmas
+mod StepLemmas
+mod ParseLemmas
