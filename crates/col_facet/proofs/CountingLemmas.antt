@@ -52,10 +52,6 @@ block-counted {T = T} test old new rows docs at next block order is told more i 
     ∙ ap (count_by (test i)) (ap (λ ys. before ++ ys) is ∙ sym (values-both rows (take at docs) (take (next - at) (drop at docs)))
     ∙ ap (values_in_rows rows) (take-next docs at next order))
 
--- what was added to a list that was emptied
-pub emptied : {T : Type 0} (block new old part : List T) → block ≡ new → new ≡ old ++ part → old ≡ [] → block ≡ part
-emptied block new old part e f g = e ∙ f ∙ ap (λ r. r ++ part) g
-
 -- ---- the same of a list of values, from its front
 
 -- counts of the values before a place leave room for those from there up to another

@@ -1,5 +1,5 @@
 -- Facets of terms by tables of their ordinals, and of columns.
-use Rattle.std.proofs.Common.{◌≡◌, ℕ, zero, suc, ◌+◌, ◌-◌, ◌<◌, ◌==◌, true, List, [], ◌∷◌, map, take, drop, length, get_or, slice_get, unwrap_or, refl, sym, ◌∙◌, ap, subst, arith}
+use Rattle.std.proofs.Common.{◌≡◌, ℕ, zero, suc, ◌+◌, ◌<◌, ◌==◌, true, List, [], ◌∷◌, map, take, drop, length, get_or, slice_get, unwrap_or, refl, sym, ◌∙◌, ap, subst, arith}
 use Rattle.std.specs.List.{AllByRecursion, count_by, range_with_len}
 use Rattle.std.specs.declared.cmp.Ordering.TheVariants.{Less}
 use Rattle.std.specs.Ordering.{nat_cmp}
@@ -34,7 +34,7 @@ use Rattle.col_text.specs.Texts.{AreOrdinals}
 use Rattle.col_facet.proofs.MergeLemmas.{ascending-distinct}
 use Rattle.col_facet.proofs.CellLemmas.{counts-of-cells}
 use Rattle.col_facet.proofs.DocLemmas.{row-taken, rows-length, seen-cells, values-whole}
-use Rattle.col_facet.proofs.PlaceLemmas.{table-placed}
+use Rattle.col_facet.proofs.PlaceLemmas.{own-places, table-placed}
 
 -- ---- terms
 
@@ -86,11 +86,7 @@ pub term-table : (terms : List (List ℕ)) (counts xs : List ℕ) → is_ascendi
     → counted_from (term_at terms) 0 counts ≡ facets_of (map (term_at terms) xs)
 term-table terms counts xs up size below told =
     table-placed (λ n. n) (term_at terms) (term_at terms) 0 (length terms) xs counts (terms-rise terms up)
-    (all_by (λ x h. record { from = omega arith; below = omega (arith, h); stands = ap (term_at terms) (alone x) }) xs below)
-    size told
-  where
-    alone : (x : ℕ) → x ≡ x - 0
-    alone x = omega arith
+    (own-places (term_at terms) (length terms) xs below) size told
 
 -- the same of the ordinals in the rows of documents
 pub term-counted : (terms : List (List ℕ)) (ords seen : Seen (NumValues ℕ)) (docs counts : List ℕ) (n : ℕ) → AreOrdinals terms ords
@@ -148,11 +144,6 @@ all-cells r t terms cell s xs h =
     subst (λ n. IfOk r (λ v. v.items ≡ counted_as t (facet_of (content_seen terms cell s xs) (range_with_len 0 n))))
     (sym (rows-length (map cell) s xs))
     (found-cells r t terms cell s xs (range_with_len 0 (row_count s (length xs))) h)
-
--- documents below the number of rows are below that of a column
-pub docs-below : {T U : Type 0} (f : List T → U) (s : Shape) (xs : List T) (docs : List ℕ) → AreBelow (length (map f (rows_by s xs))) docs
-    → AreBelow (row_count s (length xs)) docs
-docs-below f s xs docs below = subst (λ n. AreBelow n docs) (rows-length f s xs) below
 
 -- documents below its number of rows
 pub docs-of : (c d : DynamicColumn) (docs : List ℕ) → c ≡ d → AreBelow (length (content_of c).rows) docs

@@ -7,11 +7,15 @@ use Rattle.std.proofs.lemmas.Bool.Decides.{nat_tests}
 use Rattle.std.proofs.lemmas.Int.{ints}
 use Rattle.col_model.specs.Codes.{number_cmp, is_below, bool_code, i64_code, is_i64}
 use Rattle.col_facet.specs.Cells.{cell_cmp}
-use Rattle.col_facet.specs.Tables.{HasPlaces}
-use Rattle.col_facet.specs.declared.facet_cell.FacetCell.TheVariants.{Num}
+use Rattle.col_facet.specs.Tables.{AreRising, HasPlaces}
+use Rattle.col_facet.specs.declared.facet_cell.FacetCell.TheVariants.{Addr, Num}
 
 rising : (a i j : ℕ) → i < j → cell_cmp (Num (pos (a + i))) (Num (pos (a + j))) ≡ Less
 rising a i j h = grind (arith, ints, nat_tests)
+
+-- the cells of addresses from one on ascend
+pub addresses-rise : (a m : ℕ) → AreRising (λ n. Addr (a + n)) m
+addresses-rise a m i j h l = grind (arith, ints, nat_tests)
 
 signed-rising : (z : ℤ) (i j : ℕ) → i < j → cell_cmp (Num (z +ℤ pos i)) (Num (z +ℤ pos j)) ≡ Less
 signed-rising z i j h = grind (arith, ints, nat_tests)

@@ -1,9 +1,11 @@
 -- Facets of values, by tables of how often their places stand.
-use Rattle.std.proofs.Common.{◌≡◌, ℕ, ◌+◌, ◌-◌, ◌<◌, ◌≤◌, ◌==◌, cond, List, [], ◌∷◌, map, length, get_or, refl, sym, ◌∙◌, ap, ap₂, subst, arith}
+use Rattle.std.proofs.Common.{◌≡◌, ℕ, zero, suc, ◌+◌, ◌-◌, ◌<◌, ◌≤◌, ◌==◌, cond, List, [], ◌∷◌, map, take, length, get_or, refl, sym, ◌∙◌, ap, ap₂, subst, arith}
 use Rattle.std.specs.List.{All, AllByRecursion, count_by}
 use Rattle.std.proofs.lemmas.Bool.Decides.{nat_tests}
 use Rattle.std.proofs.lemmas.List.Elements.{recursion_from_All}
 use Rattle.std.proofs.lemmas.List.Sums.{sum_by-cons}
+use Rattle.col_common.specs.Ascending.{AreBelow}
+use Rattle.col_model.proofs.StatsLaws.{all_by}
 use Rattle.col_facet.specs.Facets.{facets_of}
 use Rattle.col_facet.specs.Tables.{AreRising, IsPlaced, counted_from}
 use Rattle.col_facet.specs.declared.facet_cell.FacetCell.{FacetCell}
@@ -54,3 +56,22 @@ both-all {T = T} {P = P} {Q = Q} {R = R} xs f ps qs = go xs (recursion_from_All 
     go : (xs : List T) → AllByRecursion P xs → AllByRecursion Q xs → AllByRecursion R xs
     go [] ps qs = tt
     go (x ∷ xs) ps qs = (f x ps.0 qs.0, go xs ps.1 qs.1)
+
+-- places below a length have their own cells
+pub own-places : (cells : ℕ → FacetCell) (len : ℕ) (xs : List ℕ) → AreBelow len xs
+    → AllByRecursion (IsPlaced (λ n. n) cells cells 0 len) xs
+own-places cells len xs below =
+    all_by (λ x h. record { from = omega arith; below = omega (arith, h); stands = ap cells (alone x) }) xs below
+  where
+    alone : (x : ℕ) → x ≡ x - 0
+    alone x = omega arith
+
+-- numbers below a bound, and one more below a greater one
+pub below-more : (len new : ℕ) (xs : List ℕ) (i : ℕ) → i < length xs → AreBelow len (take i xs) → len ≤ new → get_or xs i 0 < new
+    → AreBelow new (take (i + 1) xs)
+below-more len new [] i h all l k = absurd (omega (arith, h))
+below-more len new (x ∷ xs) zero h all l k = (k, tt)
+below-more len new (x ∷ xs) (suc i) h all l k =
+    let far : suc i + 1 ≡ suc (i + 1) = omega arith in
+    subst (λ n. AreBelow new (take n (x ∷ xs))) (sym far)
+    (omega (arith, all.0, l), below-more len new xs i (omega (arith, h)) all.1 l k)

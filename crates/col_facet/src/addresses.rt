@@ -8,10 +8,11 @@ ghost use Rattle.col_facet.specs.Values.{values_in_rows};
 ghost use Rattle.col_facet.specs.declared.facet_cell.FacetCell.{FacetCell};
 ghost use Rattle.col_facet.specs.declared.facet_cell.FacetCell.TheVariants as cells;
 
-use crate::blocks::{block_end, push_range, push_values};
+use crate::blocks::{read_docs_block, read_list_block};
 use crate::facet_cell::{FacetCell, FacetCount};
 use crate::place_cells::PlaceCells;
 use crate::runs::{facets_of_list, facets_of_places, value_facets};
+use crate::table::{counted_facets, counts_of_places, places_of};
 use col_column::Column;
 use col_common::{DocId, Ipv6Addr};
 use col_values::ColumnValues;
@@ -105,7 +106,8 @@ pub(crate) fn address_facets<V: ColumnValues<Ipv6Addr>>(
     }
 }
 
-// How often the cells of addresses stand, which lie so far above the least.
+// How often the cells of addresses stand, which lie so far above the least: by a table where they
+// are near, else in order.
 fn facets_of_distances(
     alloc: Global,
     addresses: &AddressesFrom,
@@ -114,7 +116,40 @@ fn facets_of_distances(
     ensures { IfOk result (λ facets. facets.items
         ≡ facets_of (map (λ n. cells.Addr n) (map (λ n. addresses.now + n) distances.items))) }
 {
-    facets_of_places(alloc, addresses, distances)
+    match near_places(distances.as_slice()) {
+        Some(len) => table_of_distances(alloc, addresses, distances.as_slice(), len),
+        None => facets_of_places(alloc, addresses, distances),
+    }
+}
+
+// How many places a table of these distances has, where so many are few.
+fn near_places(distances: &[u64]) -> Option<usize>
+    ensures { IfSome result (λ len. AreBelow len distances.now) }
+{
+    let limit = places_of(distances.len());
+    let mut len = 1;
+    for distance in distances {
+        if *distance >= limit as u64 {
+            return None;
+        }
+        len = len.max(*distance as usize + 1);
+    }
+    Some(len)
+}
+
+// The same by a table of so many places.
+fn table_of_distances(
+    alloc: Global,
+    addresses: &AddressesFrom,
+    distances: &[u64],
+    len: usize,
+) -> Result<Vec<FacetCount>, AllocError>
+    requires { AreBelow len distances.now }
+    ensures { IfOk result (λ facets. facets.items
+        ≡ facets_of (map (λ n. cells.Addr (addresses.now + n)) distances.now)) }
+{
+    let counts = counts_of_places(alloc, distances, len)?;
+    counted_facets(alloc, addresses, counts.as_slice())
 }
 
 // How far each address of a list lies above the least, where 64 bits tell it of all.
@@ -127,13 +162,11 @@ fn distances_of_all<V: ColumnValues<Ipv6Addr>>(
         map (λ n. addresses.now + n) distances.items ≡ V.values list.now)) }
 {
     let count = list.num_vals() as usize;
-    let mut at = 0;
     let mut distances = Vec::new(alloc);
     let mut values = Vec::new(alloc);
+    let mut at = 0;
     while at < count {
-        let next = block_end(at, count);
-        values.clear();
-        push_range(list, at as u32, next as u32, &mut values)?;
+        let next = read_list_block(list, at, count, &mut values)?;
         if !push_distances(addresses, values.as_slice(), &mut distances)? {
             return Ok(None);
         }
@@ -154,13 +187,11 @@ fn distances_of_docs<V: ColumnValues<Ipv6Addr>>(
     ensures { IfOk result (λ found. IfSome found (λ distances. map (λ n. addresses.now + n)
         distances.items ≡ values_in_rows (rows_of_values V.values column.now) docs.now)) }
 {
-    let mut at = 0;
     let mut distances = Vec::new(alloc);
     let mut values = Vec::new(alloc);
+    let mut at = 0;
     while at < docs.len() {
-        let next = block_end(at, docs.len());
-        values.clear();
-        push_values(alloc, column, &docs[at..next], &mut values)?;
+        let next = read_docs_block(alloc, column, docs, at, &mut values)?;
         if !push_distances(addresses, values.as_slice(), &mut distances)? {
             return Ok(None);
         }

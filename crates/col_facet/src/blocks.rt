@@ -1,5 +1,5 @@
 //! Values in the rows of documents, read in blocks.
-ghost use Rattle.std.specs.Prelude.{◌≡◌, ◌+◌, ◌-◌, ◌<◌, ◌≤◌, ◌++◌, true, Some, length, map, take, drop, slice_get, OnOk, IfOk};
+ghost use Rattle.std.specs.Prelude.{◌≡◌, ◌+◌, ◌-◌, ◌^◌, ◌<◌, ◌≤◌, ◌++◌, true, Some, length, map, take, drop, slice_get, OnOk, IfOk};
 ghost use Rattle.std.specs.List.{range_with_len};
 ghost use Rattle.col_common.specs.Ascending.{AreBelow, is_rising};
 ghost use Rattle.col_column.specs.Columns.{rows_of_values, num_docs_in};
@@ -13,8 +13,8 @@ use std::alloc::{AllocError, Global};
 // So many documents are asked at once.
 const BLOCK_LEN: usize = 1024;
 
-/// Where the block of documents from a place on ends.
-pub(crate) fn block_end(at: usize, len: usize) -> usize
+// Where the block of documents from a place on ends.
+fn block_end(at: usize, len: usize) -> usize
     requires { at < len }
     ensures after { at < result }
     ensures within { result ≤ len }
@@ -46,8 +46,56 @@ where
     Ok(values)
 }
 
-/// Adds the values in the rows of documents.
-pub(crate) fn push_values<T, V>(
+/// Reads the values in the rows of the next block of documents, from a place on, in place of what
+/// was read before, and gives the place behind it.
+pub(crate) fn read_docs_block<T, V>(
+    alloc: Global,
+    column: &Column<T, V>,
+    docs: &[DocId],
+    at: usize,
+    values: &mut Vec<T>,
+) -> Result<usize, AllocError>
+where
+    T: PartialOrd + Copy,
+    V: ColumnValues<T>,
+    requires rising { is_rising docs.now ≡ true }
+    requires below { AreBelow (num_docs_in V.values column.now) docs.now }
+    requires inside { at < length docs.now }
+    ensures behind { IfOk result (λ next. (at < next) × (next ≤ length docs.now)) }
+    ensures values { IfOk result (λ next. values.new.items ≡ values_in_rows
+        (rows_of_values V.values column.now) (take (next - at) (drop at docs.now))) }
+{
+    let next = block_end(at, docs.len());
+    values.clear();
+    push_values(alloc, column, &docs[at..next], values)?;
+    Ok(next)
+}
+
+/// The same of a list of so many values.
+pub(crate) fn read_list_block<T, V>(
+    list: &V,
+    at: usize,
+    count: usize,
+    values: &mut Vec<T>,
+) -> Result<usize, AllocError>
+where
+    T: PartialOrd + Copy,
+    V: ColumnValues<T>,
+    requires inside { at < count }
+    requires all { count ≡ length (V.values list.now) }
+    requires few { count < 2 ^ 32 }
+    ensures behind { IfOk result (λ next. (at < next) × (next ≤ count)) }
+    ensures values { IfOk result (λ next.
+        values.new.items ≡ take (next - at) (drop at (V.values list.now))) }
+{
+    let next = block_end(at, count);
+    values.clear();
+    push_range(list, at as u32, next as u32, values)?;
+    Ok(next)
+}
+
+// Adds the values in the rows of documents.
+fn push_values<T, V>(
     alloc: Global,
     column: &Column<T, V>,
     docs: &[DocId],

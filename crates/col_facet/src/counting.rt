@@ -4,7 +4,7 @@ ghost use Rattle.col_common.specs.Ascending.{AreBelow, is_rising};
 ghost use Rattle.col_column.specs.Columns.{rows_of_values, num_docs_in};
 ghost use Rattle.col_facet.specs.Values.{values_in_rows};
 
-use crate::blocks::{block_end, push_range, push_values};
+use crate::blocks::{read_docs_block, read_list_block};
 use crate::table::tally;
 use col_column::Column;
 use col_common::DocId;
@@ -58,9 +58,7 @@ where
     let mut values = Vec::new(alloc);
     let mut at = 0;
     while at < docs.len() {
-        let next = block_end(at, docs.len());
-        values.clear();
-        push_values(alloc, column, &docs[at..next], &mut values)?;
+        let next = read_docs_block(alloc, column, docs, at, &mut values)?;
         tally(values.as_slice(), base, counts);
         at = next;
     }
@@ -99,9 +97,7 @@ where
     let mut values = Vec::new(alloc);
     let mut at = 0;
     while at < count {
-        let next = block_end(at, count);
-        values.clear();
-        push_range(list, at as u32, next as u32, &mut values)?;
+        let next = read_list_block(list, at, count, &mut values)?;
         tally(values.as_slice(), base, counts);
         at = next;
     }

@@ -11,17 +11,14 @@ use crate::counting::{counts_of_all, counts_of_docs};
 use crate::facet_cell::FacetCount;
 use crate::facet_number::FacetNumber;
 use crate::runs::{facets_of_list, value_facets};
-use crate::table::counted_facets;
+use crate::table::{counted_facets, places_of};
 use col_column::Column;
 use col_common::DocId;
 use col_values::ColumnValues;
 use std::alloc::{AllocError, Global};
 
-// So many places are few.
-const FEW_PLACES: usize = 4096;
-
-// How many places a table has of numbers from the least to the greatest. None where both are one,
-// and where the places are neither few nor at most twice as many as the values that are counted.
+// How many places a table has of numbers from the least to the greatest, where so many are few for
+// the values that are counted.
 fn table_len<T: FacetNumber>(least: T, greatest: T, num_values: usize) -> Option<usize>
     ensures { IfSome result (λ len. (x : T) → IsAtMost T.partial_cmp least x
         → IsAtMost T.partial_cmp x greatest
@@ -30,8 +27,7 @@ fn table_len<T: FacetNumber>(least: T, greatest: T, num_values: usize) -> Option
     T::cells_have_places();
     least.known();
     let span = greatest.to_u64().checked_sub(least.to_u64())?;
-    let limit = num_values.saturating_mul(2).max(FEW_PLACES);
-    if span == 0 || span >= limit as u64 {
+    if span >= places_of(num_values) as u64 {
         return None;
     }
     Some(span as usize + 1)
@@ -45,7 +41,11 @@ pub(crate) fn facets_of_numbers<T: FacetNumber, V: ColumnValues<T>>(
     ensures { IfOk result (λ facets. facets.items ≡ facets_of (map T.cell (V.values list.now))) }
 {
     let least = list.min_value();
-    match table_len(least, list.max_value(), list.num_vals() as usize) {
+    let greatest = list.max_value();
+    if least == greatest {
+        return facets_of_list(alloc, list);
+    }
+    match table_len(least, greatest, list.num_vals() as usize) {
         Some(len) => table_of_list(alloc, list, least, len),
         None => facets_of_list(alloc, list),
     }

@@ -7,6 +7,14 @@ use crate::place_cells::PlaceCells;
 use col_values::MonotonicallyMappableToU64;
 use std::alloc::{AllocError, Global};
 
+// So many places are few.
+const FEW_PLACES: usize = 4096;
+
+/// How many places a table for so many values may have: few, or twice as many.
+pub(crate) fn places_of(num_values: usize) -> usize {
+    num_values.saturating_mul(2).max(FEW_PLACES)
+}
+
 /// Counts values by their numbers, those from a base on, each at its place.
 pub(crate) fn tally<T: MonotonicallyMappableToU64>(values: &[T], base: u64, counts: &mut [u64])
     requires { (i : ℕ) → slice_index counts.old i + length values.now < 2 ^ 64 }
@@ -32,6 +40,21 @@ fn count_number(number: u64, base: u64, counts: &mut [u64])
         return;
     }
     counts[place as usize] += 1;
+}
+
+/// How often each of so many places stands among these.
+pub(crate) fn counts_of_places(
+    alloc: Global,
+    places: &[u64],
+    len: usize,
+) -> Result<Vec<u64>, AllocError>
+    ensures len { IfOk result (λ counts. length counts.items ≡ len) }
+    ensures counts { IfOk result (λ counts. (i : ℕ) → i < len → slice_index counts.items i
+        ≡ count_by (λ x. x == 0 + i) places.now) }
+{
+    let mut counts = vec![in alloc; 0; len]?;
+    tally(places, 0, counts.as_mut_slice());
+    Ok(counts)
 }
 
 /// How often the cells of places stand, where they do, by a table of counts.

@@ -12,7 +12,7 @@ ghost use Rattle.col_merge_slot.specs.Segments.{HaveRows};
 ghost use Rattle.col_merge.specs.Readings.{AllRead, slot_reads};
 ghost use Rattle.col_merge_plan.specs.Slots.{counts_read};
 
-use crate::open_columns::open_columns;
+use crate::opening::open_columns;
 use col_common::{Buffer, ColumnarError, FileHandle};
 use col_dynamic::DynamicColumn;
 use col_file::{ColumnarReader, files_are_read};

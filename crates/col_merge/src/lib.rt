@@ -4,9 +4,10 @@
 
 mod join_columns;
 mod merge;
-mod open_columns;
+mod opening;
 mod stack_from_readers;
 mod turn;
 
 pub use merge::merge_columnar;
+pub use opening::open_columns;
 pub use stack_from_readers::StackFromReaders;

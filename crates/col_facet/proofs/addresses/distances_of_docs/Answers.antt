@@ -1,12 +1,7 @@
-use Rattle.std.proofs.Common.{ℕ, ◌+◌, ◌-◌, ◌++◌, List, map, sym, ◌∙◌, ap, arith}
+use Rattle.std.proofs.Common.{ℕ, ◌+◌, ◌++◌, List, map, sym, ◌∙◌, ap, arith}
 use Rattle.col_column.specs.Columns.{rows_of_values}
 use Rattle.col_facet.proofs.addresses.distances_of_docs.Goals as goal
-use Rattle.col_facet.proofs.CountingLemmas.{emptied}
-use Rattle.col_facet.proofs.DocLemmas.{rising-part, values-next, values-none}
-
-pub push_values-requires-clause-rising : goal.push_values-requires-clause-rising
-push_values-requires-clause-rising g c =
-    rising-part (c.block_end-next.result - c.loop-at.at) c.loop-at.at c.args.docs.now c.requires.rising
+use Rattle.col_facet.proofs.DocLemmas.{values-next, values-none}
 
 pub loop-at-init : goal.loop-at-init
 loop-at-init g c = (
@@ -18,12 +13,11 @@ loop-at-init g c = (
 pub loop-at-preserved : goal.loop-at-preserved
 loop-at-preserved g c =
     let numbers : List ℕ → List ℕ = map (λ n. c.args.addresses.now + n) in (
-      omega (arith, c.block_end-next.ensures.within),
-      values-next (rows_of_values g.V.ColumnValues.values c.args.column.now) c.args.docs.now c.loop-at.at c.block_end-next.result
+      omega (arith, c.in_ok-next.ensures.behind.1),
+      values-next (rows_of_values g.V.ColumnValues.values c.args.column.now) c.args.docs.now c.loop-at.at c.in_ok-next.next
           (numbers c.loop-at.distances.items) (numbers c.push_distances.new.distances.items)
-          (omega (arith, c.block_end-next.ensures.after)) c.loop-at.invariant.1
+          (omega (arith, c.in_ok-next.ensures.behind.0)) c.loop-at.invariant.1
           (c.in_ok-push_distances.ensures c.if-not-branch.false
           ∙ ap (λ vs. numbers c.loop-at.distances.items ++ vs)
-          (emptied _ c.push_values.new.values.items c.clear.new.self.items _
-          c.as_slice.ensures.value c.in_ok-push_values.ensures c.clear.ensures.items)),
+          (c.as_slice.ensures.value ∙ c.in_ok-next.ensures.values)),
     )

@@ -1,30 +1,20 @@
-use Rattle.std.proofs.Common.{◌+◌, ◌-◌, ◌^◌, ◌<◌, ◌==◌, length, sym, ◌∙◌, ap, arith}
+use Rattle.std.proofs.Common.{◌+◌, ◌^◌, ◌<◌, ◌==◌, length, sym, ◌∙◌, ap, arith}
 use Rattle.std.specs.List.{count_by}
 use Rattle.std.proofs.lemmas.List.{take_all}
 use Rattle.col_column.specs.Columns.{rows_of_values}
 use Rattle.col_facet.specs.Values.{values_in_rows}
 use Rattle.col_facet.proofs.counting.count_docs.Goals as goal
-use Rattle.col_facet.proofs.DocLemmas.{rising-part, below-part, values-none}
-use Rattle.col_facet.proofs.CountingLemmas.{block-fits, block-counted, emptied}
-
-pub push_values-requires-clause-below : goal.push_values-requires-clause-below
-push_values-requires-clause-below g c =
-    below-part _ (c.block_end-next.result - c.loop-at.at) c.loop-at.at c.args.docs.now c.requires.below
-
-pub push_values-requires-clause-rising : goal.push_values-requires-clause-rising
-push_values-requires-clause-rising g c =
-    rising-part (c.block_end-next.result - c.loop-at.at) c.loop-at.at c.args.docs.now c.requires.rising
+use Rattle.col_facet.proofs.DocLemmas.{values-none}
+use Rattle.col_facet.proofs.CountingLemmas.{block-fits, block-counted}
 
 pub tally-requires : goal.tally-requires
 tally-requires g c =
     let few : length (g.V.ColumnValues.values c.args.column.now.values) < 2 ^ 32 =
     omega (arith, ap length (ap g.V.ColumnValues.values c.values.ensures), c.num_vals-count.ensures) in
     block-fits (λ i x. g.T.MonotonicallyMappableToU64.code x == c.args.base + i) c.loop-at.counts c.args.column.now.shape
-    (g.V.ColumnValues.values c.args.column.now.values) c.args.docs.now c.loop-at.at c.block_end-next.result c.as_slice.result.now
-    c.values_are_counted.ensures few c.requires.rising c.requires.below (omega (arith, c.block_end-next.ensures.after))
-    (emptied _ c.push_values.new.values.items c.clear.new.self.items _
-    c.as_slice.ensures.value c.in_ok-push_values.ensures c.clear.ensures.items)
-    c.loop-at.invariant.1
+    (g.V.ColumnValues.values c.args.column.now.values) c.args.docs.now c.loop-at.at c.in_ok-next.next c.as_slice.result.now
+    c.values_are_counted.ensures few c.requires.rising c.requires.below (omega (arith, c.in_ok-next.ensures.behind.0))
+    (c.as_slice.ensures.value ∙ c.in_ok-next.ensures.values) c.loop-at.invariant.1
 
 pub loop-at-init : goal.loop-at-init
 loop-at-init g c = (
@@ -36,13 +26,11 @@ loop-at-init g c = (
 
 pub loop-at-preserved : goal.loop-at-preserved
 loop-at-preserved g c = (
-  omega (arith, c.block_end-next.ensures.within),
+  omega (arith, c.in_ok-next.ensures.behind.1),
   λ i h. block-counted (λ i x. g.T.MonotonicallyMappableToU64.code x == c.args.base + i) c.loop-at.counts c.tally.new.counts
-      (rows_of_values g.V.ColumnValues.values c.args.column.now) c.args.docs.now c.loop-at.at c.block_end-next.result c.as_slice.result.now
-      (omega (arith, c.block_end-next.ensures.after))
-      (emptied _ c.push_values.new.values.items c.clear.new.self.items _
-      c.as_slice.ensures.value c.in_ok-push_values.ensures c.clear.ensures.items)
-      c.loop-at.invariant.1 c.tally.ensures i (omega (arith, h, c.tally.auto.counts)),
+      (rows_of_values g.V.ColumnValues.values c.args.column.now) c.args.docs.now c.loop-at.at c.in_ok-next.next c.as_slice.result.now
+      (omega (arith, c.in_ok-next.ensures.behind.0))
+      (c.as_slice.ensures.value ∙ c.in_ok-next.ensures.values) c.loop-at.invariant.1 c.tally.ensures i (omega (arith, h, c.tally.auto.counts)),
 )
 
 pub returns : goal.returns

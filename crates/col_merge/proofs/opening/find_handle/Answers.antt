@@ -3,7 +3,7 @@ use Rattle.std.specs.Vec.Iter.{into_iter_items}
 use Rattle.col_file.specs.Handles.{handle_of, entries_named}
 use Rattle.col_merge.specs.Opened.{is_in}
 use Rattle.col_merge.proofs.OpenLemmas.{found-handle}
-use Rattle.col_merge.proofs.open_columns.find_handle.Goals as goal
+use Rattle.col_merge.proofs.opening.find_handle.Goals as goal
 
 pub loop-handle-init : goal.loop-handle-init
 loop-handle-init g c =

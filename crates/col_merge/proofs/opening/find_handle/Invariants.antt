@@ -4,7 +4,7 @@ use Rattle.col_model.specs.Category.{same_slot}
 use Rattle.col_file.specs.Handles.{handle_of}
 use Rattle.col_merge.specs.Opened.{is_in}
 use Rattle.col_merge_plan.specs.Slots.{entry_slot}
-use Rattle.col_merge.proofs.open_columns.find_handle.Given as goal
+use Rattle.col_merge.proofs.opening.find_handle.Given as goal
 
 abbrev pub invariant-loop-handle : goal.invariant-loop-handle
 invariant-loop-handle g l = (find (is_in l.slot.category) (into_iter_items l.handle-iterator)

@@ -14,9 +14,9 @@ use col_file::{ColumnarReader, DynamicColumnHandle};
 use col_keys::SlotKey;
 use std::alloc::Global;
 
-// Opens the column that each reader has under a slot, where it has one: its file is read once. It
-// answers InvalidData where the bytes of some such column are none.
-pub(crate) fn open_columns<F: FileHandle>(
+/// Opens the column that each reader has under a slot, where it has one: its file is read once. It
+/// answers InvalidData where the bytes of some such column are none.
+pub fn open_columns<F: FileHandle>(
     alloc: Global,
     columnar_readers: &mut [ColumnarReader<F>],
     slot: &SlotKey,

@@ -5,7 +5,7 @@ use Rattle.col_merge.specs.Opened.{AllOpenedAs}
 use Rattle.col_merge.specs.Readings.{slot_reads}
 use Rattle.col_merge.proofs.OpenTurnLemmas.{opened-more, opened-stops}
 use Rattle.col_merge.proofs.ReadingLemmas.{all_read-at, all_read-none, all_read-set, left-at, left-set}
-use Rattle.col_merge.proofs.open_columns.open_columns.Goals as goal
+use Rattle.col_merge.proofs.opening.open_columns.Goals as goal
 
 pub loop-segment-init : goal.loop-segment-init
 loop-segment-init g c = (

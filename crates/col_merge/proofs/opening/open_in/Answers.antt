@@ -1,7 +1,7 @@
 use Rattle.std.proofs.Common.{◌∙◌, sym}
 use Rattle.std.proofs.lemmas.Result.{err_from_is_err_and}
 use Rattle.col_merge.proofs.OpenLemmas.{handle-none, handle-opened, handle-read, handle-refused}
-use Rattle.col_merge.proofs.open_columns.open_in.Goals as goal
+use Rattle.col_merge.proofs.opening.open_in.Goals as goal
 
 pub returns-in_err-open-in-Some-clause-err : goal.returns-in_err-open-in-Some-clause-err
 returns-in_err-open-in-Some-clause-err g c =
