@@ -39,14 +39,13 @@ pub fn docs(count: usize) -> Vec<Doc> {
     (0..count).map(doc).collect()
 }
 
-// Texts of 16 letters.
-pub fn texts() -> Vec<String> {
-    let text = |place: u64| {
-        let code = (place + 1).wrapping_mul(0x9e37_79b9_7f4a_7c15);
-        (0..16).map(|at| char::from(97 + (code >> (60 - 4 * at)) as u8 % 16)).collect()
-    };
-    (0..NUM_TEXTS as u64).map(text).collect()
+// A text of 16 letters.
+pub fn text(place: u64) -> String {
+    let code = (place + 1).wrapping_mul(0x9e37_79b9_7f4a_7c15);
+    (0..16).map(|at| char::from(97 + (code >> (60 - 4 * at)) as u8 % 16)).collect()
 }
+
+pub fn texts() -> Vec<String> { (0..NUM_TEXTS as u64).map(text).collect() }
 
 // Rows with a value in runs, where these hold more than 32 rows each on the average, else one by one.
 fn formed_bytes(num_docs: usize, rows: &[u64]) -> Vec<u8> {

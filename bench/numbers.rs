@@ -27,14 +27,18 @@ impl Numbers {
         }
     }
 
-    pub fn to_vec(&self) -> Vec<u64> {
-        let mut vals = Vec::with_capacity(self.count as usize);
+    pub fn each(&self, mut f: impl FnMut(u64)) {
         let places = 0..self.count as usize;
         match &self.codec {
-            Codec::Bitpacked(list) => list.each(places, |_, val| vals.push(val)),
-            Codec::Linear(list) => list.each(places, |_, val| vals.push(val)),
-            Codec::Blockwise(list) => list.each(places, |_, val| vals.push(val)),
+            Codec::Bitpacked(list) => list.each(places, |_, val| f(val)),
+            Codec::Linear(list) => list.each(places, |_, val| f(val)),
+            Codec::Blockwise(list) => list.each(places, |_, val| f(val)),
         }
+    }
+
+    pub fn to_vec(&self) -> Vec<u64> {
+        let mut vals = Vec::with_capacity(self.count as usize);
+        self.each(|val| vals.push(val));
         vals
     }
 

@@ -18,7 +18,7 @@ function note_line(line, number,   word, rest, doc, key) {
         match(rest, /^[0-9]+/)
         documents = substr(rest, 1, RLENGTH)
         split("", typed); split("", last); split("", last_line); split("", first)
-    } else if (word == "order") {
+    } else if (word ~ /^(order|sort)$/) {
         order = number
     } else if (word in types && status ~ /^1[45]$/) {
         if (!match(rest, /^[0-9]+/)) return
@@ -51,6 +51,7 @@ BEGIN {
     shapes["tie"] = "[\"tie\",name,start]"
     shapes["require"] = "[\"require\",name,t]"
     shapes["order"] = "[\"order\",[[s,r],..]]"
+    shapes["sort"] = "[\"sort\",name,t,reversed]"
     shapes["find"] = "[\"find\",name,t,lo,hi,from,to]"
     shapes["facet"] = "[\"facet\",name,t]"
     shapes["query"] = "[\"query\",q]"
@@ -156,9 +157,11 @@ function wrong_parts(word,   why) {
             why = part[3] " is no type: i64, u64, bool, datetime, ip, str or bytes" type_meant(unquoted(part[3]))
         else if (why == "" && word == "sorted" && part[3] !~ /^"(str|bytes)"$/)
             why = "only str and bytes can be sorted"
+        else if (why == "" && word == "sort" && kinds[4] !~ /^(true|false)$/)
+            why = "the last part is true, for falling values, or false, and not " part[4]
     }
     if (why != "") return why
-    if (word == "order" && order) return "a second order: line " order " has one already"
+    if (word ~ /^(order|sort)$/ && order) return "a second order: line " order " has one already"
     if (word ~ /^(type|sorted|tie)$/ || word in types)
         if (!segment) return "no segment line stands before it: begin with [\"segment\",n], for n documents"
     return ""
@@ -167,6 +170,7 @@ function wrong_parts(word,   why) {
 function lacking(word) {
     if (word == "find" && parts == 5) return "; from and to say in which rows to look, as 0,4294967295 for all"
     if (word in types && parts == 3) return "; d is the document's number in its segment, from 0"
+    if (word == "sort" && parts == 3) return "; reversed is true for falling values, else false"
     if (word in types && parts > 4) return "; a document with several values has a line for each"
     return ""
 }
@@ -178,11 +182,11 @@ function meant(word,   small) {
     if (small ~ /^(find|search|select|lookup|range|get|filter)$/) return ": did you mean \"find\"?"
     if (small ~ /^(facets|counts?|histogram|terms|group)$/) return ": did you mean \"facet\"?"
     if (small ~ /^(queries|where|has|and|or|not|all)$/) return ": did you mean \"query\"?"
-    if (small ~ /^(sort|sorted)$/) return ": did you mean \"sorted\"?"
+    if (small ~ /^(sort_?by|order_?by|ordered)$/) return ": did you mean \"sort\"?"
     if (small ~ /^(required?|column)$/) return ": did you mean \"require\"?"
     if (small ~ /^(orders|permutation|rowid)$/) return ": did you mean \"order\"?"
     return type_meant(small) == "" ? ": segment, a type (i64, u64, bool, datetime, ip, str, bytes), type, sorted, " \
-        "tie, require, order, find, facet or query" : type_meant(small)
+        "tie, require, order, sort, find, facet or query" : type_meant(small)
 }
 
 function type_meant(word) {

@@ -1,6 +1,7 @@
 -- Counts of the values of documents, block by block.
 use Rattle.std.proofs.Common.{◌≡◌, ℕ, zero, suc, ◌+◌, ◌-◌, ◌^◌, ◌<◌, ◌≤◌, nat_lt, Bool, true, false, cond, List, [], ◌∷◌, ◌++◌, take, drop, length, get_or, refl, sym, ◌∙◌, ap, arith}
 use Rattle.std.specs.List.{count_by}
+use Rattle.std.specs.Prelude.{slice_index, slice_index_or, slice_set}
 use Rattle.std.proofs.Math.ListN.{get_or-eq_default}
 use Rattle.std.proofs.lemmas.Bool.{ltb-true, ltb-false}
 use Rattle.std.proofs.lemmas.List.{length-append}
@@ -80,3 +81,16 @@ part-counted {T = T} test old new xs at next block order is told more i h =
     more i h ∙ ap (λ n. n + count_by (test i) block) (told i h)
     ∙ sym (sum_by-append (λ (x : T). cond (test i x) 1 0) (take at xs) block)
     ∙ ap (count_by (test i)) (ap (λ ys. take at xs ++ ys) is ∙ take-next xs at next order)
+
+-- two counts that grow
+pub two-counts : (cs : List ℕ) (p q base : ℕ) (f : ℕ → ℕ) → length cs ≡ 2 → p ≡ f base → q ≡ f (base + 1) → (i : ℕ)
+    → i < length cs → slice_index (slice_set (slice_set cs 0 (slice_index_or cs 0 0 + p)) 1
+    (slice_index_or (slice_set cs 0 (slice_index_or cs 0 0 + p)) 1 0 + q)) i ≡ slice_index cs i + f (base + i)
+two-counts [] p q base f two e h i below = absurd (omega arith)
+two-counts (x ∷ []) p q base f two e h i below = absurd (omega arith)
+two-counts (x ∷ y ∷ z ∷ cs) p q base f two e h i below = absurd (omega arith)
+two-counts (x ∷ y ∷ []) p q base f two e h zero below =
+    let none : base ≡ base + 0 = omega arith in
+    ap (λ n. x + n) (e ∙ ap f none)
+two-counts (x ∷ y ∷ []) p q base f two e h (suc zero) below = ap (λ n. y + n) h
+two-counts (x ∷ y ∷ []) p q base f two e h (suc (suc i)) below = absurd (omega arith)

@@ -33,12 +33,15 @@ pub record IsPlaced {T : Type 0} (code : T → ℕ) (cell : T → FacetCell) (pl
   pub stands : cell x ≡ place_cell (code x - base)
 
 -- so do all of these, from a least value on
-abbrev pub ArePlaced : {T : Type 0} → (T → ℕ) → (T → FacetCell) → (T → ℕ → FacetCell) → T → ℕ → List T → Type 0
+abbrev pub ArePlaced : {T : Type 0} → (T → ℕ) → (T → FacetCell) → (T → ℕ → FacetCell) → T → ℕ → List T
+    → Type 0
 ArePlaced code cell cells least len xs =
     AllByRecursion (IsPlaced code cell (cells least) (code least) len) xs
 
--- Cells of places ascend, and a value that is at least another stands as far above it as its number does.
-pub record HasPlaces {T : Type 0} (cmp : T → T → Option Ordering) (in_type : T → Bool) (code : T → ℕ)
+-- Cells of places ascend, and a value that is at least another stands as far above it as its
+-- number does.
+pub record HasPlaces {T : Type 0} (cmp : T → T → Option Ordering) (in_type : T → Bool)
+    (code : T → ℕ)
     (cell : T → FacetCell) (cells : T → ℕ → FacetCell) : Type 0 where
   pub rising : (least : T) (m : ℕ) → AreRising (cells least) m
   pub from : (least x : T) → Passes in_type least → IsAtMost cmp least x → code least ≤ code x

@@ -1,6 +1,6 @@
 //! Facets of addresses, by how far they lie above the least one where 64 bits tell it: such
 //! distances are sorted in a third of the time that addresses take.
-ghost use Rattle.std.specs.Prelude.{◌≡◌, ◌+◌, ℕ, true, length, map, ◌++◌, IfOk, IfSome, OnOk};
+ghost use Rattle.std.specs.Prelude.{◌≡◌, ◌+◌, ℕ, true, map, ◌++◌, IfOk, IfSome};
 ghost use Rattle.col_common.specs.Ascending.{AreBelow, is_rising};
 ghost use Rattle.col_column.specs.Columns.{rows_of_values, num_docs_in};
 ghost use Rattle.col_facet.specs.Facets.{facets_of};

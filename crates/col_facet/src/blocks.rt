@@ -89,6 +89,10 @@ where
         values.new.items ≡ take (next - at) (drop at (V.values list.now))) }
 {
     let next = block_end(at, count);
+    if values.len() == next - at {
+        list.get_range(at as u64, values.as_mut_slice());
+        return Ok(next);
+    }
     values.clear();
     push_range(list, at as u32, next as u32, values)?;
     Ok(next)

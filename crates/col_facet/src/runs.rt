@@ -98,7 +98,8 @@ pub(crate) fn facets_of_places<T: Ord + Copy, P: PlaceCells<T>>(
     places: Vec<T>,
 ) -> Result<Vec<FacetCount>, AllocError>
     requires { KeepsOrder T.cmp (P.cells cells.now) }
-    ensures { IfOk result (λ facets. facets.items ≡ facets_of (map (P.cells cells.now) places.items)) }
+    ensures { IfOk result
+        (λ facets. facets.items ≡ facets_of (map (P.cells cells.now) places.items)) }
 {
     let mut sorted = places;
     sorted.sort_unstable();
@@ -113,7 +114,8 @@ fn facets_of_sorted<T: Ord + Copy, P: PlaceCells<T>>(
 ) -> Result<Vec<FacetCount>, AllocError>
     requires keeps { KeepsOrder T.cmp (P.cells cells.now) }
     requires sorted { IsSorted T.cmp places.now }
-    ensures { IfOk result (λ facets. facets.items ≡ facets_of (map (P.cells cells.now) places.now)) }
+    ensures { IfOk result
+        (λ facets. facets.items ≡ facets_of (map (P.cells cells.now) places.now)) }
 {
     let mut facets = Vec::with_capacity(alloc, count_runs(places))?;
     let mut at = 0;

@@ -21,6 +21,33 @@ pub(crate) fn tally<T: MonotonicallyMappableToU64>(values: &[T], base: u64, coun
     ensures { (i : ℕ) → i < length counts.old → slice_index counts.new i
         ≡ slice_index counts.old i + count_by (λ x. T.code x == base + i) values.now }
 {
+    if counts.len() == 2 && base < u64::MAX {
+        // Where counts are few, each would wait for the one before it.
+        counts[0] += count_equal(values, base);
+        counts[1] += count_equal(values, base + 1);
+        return;
+    }
+    tally_each(values, base, counts);
+}
+
+// How many values have this number.
+fn count_equal<T: MonotonicallyMappableToU64>(values: &[T], number: u64) -> u64
+    requires { length values.now < 2 ^ 64 }
+    ensures { result ≡ count_by (λ x. T.code x == number) values.now }
+{
+    let mut count = 0;
+    for value in values {
+        count += u64::from(value.to_u64() == number);
+    }
+    count
+}
+
+// Counts values one by one.
+fn tally_each<T: MonotonicallyMappableToU64>(values: &[T], base: u64, counts: &mut [u64])
+    requires { (i : ℕ) → slice_index counts.old i + length values.now < 2 ^ 64 }
+    ensures { (i : ℕ) → i < length counts.old → slice_index counts.new i
+        ≡ slice_index counts.old i + count_by (λ x. T.code x == base + i) values.now }
+{
     for value in values {
         count_number(value.to_u64(), base, counts);
     }

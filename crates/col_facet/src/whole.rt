@@ -24,8 +24,8 @@ use col_values::ColumnValues;
 use std::alloc::{AllocError, Global};
 
 /// How often each cell of a column stands in all its rows, ascending by cell. No list of documents
-/// is made; terms, flags and numbers that lie close to one another are counted in a table, and other
-/// values are sorted where they differ.
+/// is made; terms, flags, and numbers and addresses that lie close to one another are counted in a
+/// table, and other values are sorted where they differ.
 pub fn facet_all(alloc: Global, column: &DynamicColumn) -> Result<Vec<FacetCount>, AllocError>
     ensures ok { IfOk result (λ facets. facets.items
         ≡ counted_as (type_of column.now) (facet_of (content_of column.now)

@@ -10,3 +10,8 @@ mod CountLemmas
 mod MergeLemmas
 mod StackLemmas
 mod FacetLemmas
+mod SortedLemmas
+mod KeyOrderLemmas
+mod RowKeyLemmas
+mod SortLemmas
+mod SortedMerges

@@ -4,11 +4,11 @@ use Rattle.std.specs.Prelude.{Option, Result}
 use Rattle.std.specs.List.{AllByRecursion, list_all}
 use Rattle.std.proofs.lemmas.List.{map-append}
 use Rattle.col_model.specs.File.{Part, part_of_table}
-use Rattle.col_model.specs.Merge.{Required, merged, row_counts}
+use Rattle.col_model.specs.Merge.{Required, merged}
 use Rattle.col_program.specs.Outcome.{segment_table, order_over}
 use Rattle.col_model.specs.Recording.{Call, content_after_all}
 use Rattle.col_model.specs.Refusal.{Refusal, ◌>>=◌, each_ok}
-use Rattle.col_program.specs.Script.{Segment}
+use Rattle.col_program.specs.Script.{Segment, RowOrder}
 use Rattle.col_model.specs.Segmentation.{is_value_below, call_in_run, run_of, runs_of, run_table, IsRecorded}
 use Rattle.col_model.specs.Stacking.{stacked, Bracketing, nothing, item, bracket, unbracketed, tables_in, stacked_by}
 use Rattle.col_model.specs.Table.{Table}
@@ -168,8 +168,8 @@ then-both (Ok qs) ps f = refl
 then-both (Err e) ps f = refl
 
 -- the merge of parts, of these required columns and in this order
-abbrev merged_with : List Required → Option (List (ℕ × ℕ)) → List Part → Result Table Refusal
-merged_with required order parts = merged parts required (order_over order (row_counts parts))
+abbrev merged_with : List Required → Option RowOrder → List Part → Result Table Refusal
+merged_with required order parts = order_over order parts >>= λ order. merged parts required order
 
 -- inputs and a script that requires and orders nothing give what merging inputs and segments gives
 pub scripts-stack-files : ScriptsStackFiles

@@ -1,13 +1,12 @@
 -- The cells under each slot of a stack.
-use Rattle.std.proofs.Common.{◌≡◌, ℕ, ◌+◌, ◌==◌, Bool, true, false, ◌&&◌, ◌||◌, List, [], ◌∷◌, ◌++◌, map, filter_map, find, length, Some, None, is_none, Ok, refl, sym, ◌∙◌, ap, option_map, unwrap_or, nat_eq}
+use Rattle.std.proofs.Common.{◌≡◌, ℕ, ◌+◌, ◌==◌, Bool, true, false, ◌&&◌, List, [], ◌∷◌, ◌++◌, map, filter_map, find, length, Some, None, is_none, Ok, refl, sym, ◌∙◌, ap, option_map, unwrap_or, nat_eq}
 use Rattle.std.specs.Prelude.{Option, Result, if◌then◌else◌}
-use Rattle.std.specs.List.{list_all, AllByRecursion, cons_option, enumerate_from}
+use Rattle.std.specs.List.{list_all, AllByRecursion, enumerate_from}
 use Rattle.std.specs.Cmp.Lexicographic.{pointwise}
 use Rattle.std.specs.Ordering.{eq_by_cmp}
 use Rattle.std.proofs.lemmas.Bool.{true≢false, false≢true, and_parts, or_parts}
 use Rattle.std.proofs.lemmas.Cmp.{eq_by_cmp_equiv}
 use Rattle.std.proofs.lemmas.List.Folds.{list_any-append}
-use Rattle.col_common.specs.Reading.{only_if}
 use Rattle.col_model.specs.Category.{Slot, slot_cmp, same_slot}
 use Rattle.col_model.specs.ColumnType.{ColumnType}
 use Rattle.col_model.specs.File.{Part, PartColumn}
@@ -21,13 +20,12 @@ use Rattle.col_model.specs.U64List.{joined_lists}
 use Rattle.col_model.proofs.DistinctLaws.{has, has-distinct}
 use Rattle.col_model.proofs.MergedSound.{rows-tested}
 use Rattle.col_model.proofs.MergedTables.{merged-is}
-use Rattle.col_model.proofs.OrderedColumns.{EachIs, same-slots}
-use Rattle.col_model.proofs.RefusalLaws.{bind-ok, same_Ok, err_not_ok, refuse_if-ok}
+use Rattle.col_model.proofs.RefusalLaws.{bind-ok, same_Ok, refuse_if-ok}
 use Rattle.col_model.proofs.SeenLaws.{column_at, not-zero}
 use Rattle.col_model.proofs.SharedTypes.{some≢none}
-use Rattle.col_model.proofs.SlotLaws.{column_slot, slots_total}
+use Rattle.col_model.proofs.SlotLaws.{slots_total}
 use Rattle.col_model.proofs.SoundTables.{rows-all}
-use Rattle.col_laws.proofs.MergeLemmas.{merged-made, column-own}
+use Rattle.col_laws.proofs.MergeLemmas.{merged-made, column-made, picked-rows}
 
 -- ---- the cells of a column
 
@@ -106,47 +104,11 @@ module _ (own : List ℕ) (picked : List (ℕ × ℕ)) (parts : List Part) (requ
       ∙ list_any-append (eq_by_cmp slot_cmp slot) (map required_slot required) slots) ∙ e) in
       none-picked (ap (λ cs. length cs == 0) (lacking-kept slot picked 0 parts absent.1))
 
--- ---- the columns of a table
-
-module _ (f : Slot → Result (Option Column) Refusal) (g : Slot → List Cell)
-    (cells : (s : Slot) (o : Option Column) → f s ≡ Ok o → cells_of o ≡ g s)
-    (own : (s : Slot) (c : Column) → f s ≡ Ok (Some c) → column_slot c ≡ s) (slot : Slot) where
-  -- of columns that are made slot by slot, the one that is found under a slot has the slot's cells
-  found-cells : (slots : List Slot) (os : List (Option Column)) → EachIs f slots os
-      → (has slot_cmp slot slots ≡ false → g slot ≡ [])
-      → cells_of (find (λ c. same_slot (column_slot c) slot) (filter_map (λ c. c) os)) ≡ g slot
-  found-cells [] [] e none = sym (none refl)
-  found-cells [] (o ∷ os) e none = absurd e
-  found-cells (s ∷ slots) [] e none = absurd e
-  found-cells (s ∷ slots) (o ∷ os) e none = by (eq_by_cmp slot_cmp slot s) refl o e.0 none (found-cells slots os e.1)
-    where
-      rest : Option Column
-      rest = find (λ c. same_slot (column_slot c) slot) (filter_map (λ c. c) os)
-
-      here : (s : Slot) (o : Option Column) → eq_by_cmp slot_cmp slot s ≡ true → f s ≡ Ok o → cells_of o ≡ g slot
-      here s o p q = cells s o q ∙ ap g (sym (same-slots slot s p))
-
-      tested : (b : Bool) (c : Column) → eq_by_cmp slot_cmp slot s ≡ b → f s ≡ Ok (Some c) → same_slot (column_slot c) slot ≡ b
-      tested b c p q = ap (λ q. same_slot q slot) (own s c q) ∙ (eq_by_cmp_equiv slots_total).symm s slot ∙ p
-
-      by : (b : Bool) → eq_by_cmp slot_cmp slot s ≡ b → (o : Option Column) → f s ≡ Ok o
-          → ((b || has slot_cmp slot slots) ≡ false → g slot ≡ [])
-          → ((has slot_cmp slot slots ≡ false → g slot ≡ []) → cells_of rest ≡ g slot)
-          → cells_of (find (λ c. same_slot (column_slot c) slot) (cons_option o (filter_map (λ c. c) os))) ≡ g slot
-      by true p None q none later = later (λ _. sym (here s None p q))
-      by true p (Some c) q none later = rw (tested true c p q) (here s (Some c) p q)
-      by false p None q none later = later none
-      by false p (Some c) q none later = rw (tested false c p q) (later none)
-
 -- the picks that a stack takes are all rows
 all-picked : (own counts : List ℕ) (picked : List (ℕ × ℕ)) → or_refuse (picks (stack own) counts) bad_order ≡ Ok picked
     → picked ≡ all_rows counts
 unfolding picks
-all-picked own counts picked = by (pointwise nat_eq own counts)
-  where
-    by : (b : Bool) → or_refuse (only_if b (all_rows counts)) bad_order ≡ Ok picked → picked ≡ all_rows counts
-    by true e = sym (same_Ok (all_rows counts) picked e)
-    by false e = absurd (err_not_ok bad_order picked e)
+all-picked own counts picked = picked-rows (pointwise nat_eq own counts) (all_rows counts) picked
 
 -- The cells under a slot of a stack are those of its parts' rows, one part after another.
 pub stack-cells : (parts : List Part) (required : List Required) (own : List ℕ) (x : Table) (slot : Slot)
@@ -154,8 +116,8 @@ pub stack-cells : (parts : List Part) (required : List Required) (own : List ℕ
     → cells_of (column_at slot x) ≡ joined_lists (map (cells_in slot parts) (all_rows (row_counts parts)))
 stack-cells parts required own x slot sound e =
     let is = merged-made parts required (stack own) x e in
-    ap (λ cs. cells_of (find (λ c. same_slot (column_slot c) slot) cs)) (sym is.columns)
-    ∙ found-cells (joined_column (stack own) is.picked parts required) (λ s. joined_lists (map (cells_in s parts) is.picked))
-    (joined-cells own is.picked parts required) (λ s c. column-own (stack own) is.picked parts required s c sound)
-    slot (all_slots parts required) is.made is.each (absent-cells own is.picked parts required slot)
+    column-made parts required (stack own) x slot
+    (λ o. cells_of o ≡ joined_lists (map (cells_in slot parts) is.picked)) sound is
+    (joined-cells own is.picked parts required slot)
+    (λ a. sym (absent-cells own is.picked parts required slot a))
     ∙ ap (λ picked. joined_lists (map (cells_in slot parts) picked)) (all-picked own (row_counts parts) is.picked is.picks_are)

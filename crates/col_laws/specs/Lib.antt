@@ -8,3 +8,4 @@ pub mod SegmentFiles
 pub mod FileLaws
 pub mod ScriptFiles
 pub mod FacetLaws
+pub mod SortLaws

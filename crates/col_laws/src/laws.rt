@@ -1,5 +1,5 @@
-//! Laws about files that are merged in brackets and facets of stacks, each the contract of a call
-//! that does nothing.
+//! Laws about files that are merged in brackets, facets of stacks and sorted merges, each the
+//! contract of a call that does nothing.
 ghost use Rattle.col_laws.specs.FacetLaws.{FacetsOfStacksAreSummed};
 ghost use Rattle.col_laws.specs.FileLaws.{
   FilesMergeInAnyBracketing,
@@ -12,6 +12,11 @@ ghost use Rattle.col_laws.specs.ScriptFiles.{
   ScriptsStackFiles,
   SegmentsAreMade,
   SegmentsMergeToOne,
+};
+ghost use Rattle.col_laws.specs.SortLaws.{
+  SortedMergesAreInOrder,
+  SortedOrdersNameEachRow,
+  TiesStandAsTheyWere,
 };
 
 // ---- Consecutive runs of a writer's documents, written as files and merged in any bracketing.
@@ -67,4 +72,21 @@ pub fn scripts_stack_files()
 /// of the tables' columns.
 pub fn facets_of_stacks_are_summed()
     ensures { FacetsOfStacksAreSummed }
+{}
+
+// ---- Sorted merges.
+
+/// The order of a sorted merge names each row of the segments just once.
+pub fn sorted_orders_name_each_row()
+    ensures { SortedOrdersNameEachRow }
+{}
+
+/// Rows with equal keys stand by segment, then row, in a reversed order too.
+pub fn ties_stand_as_they_were()
+    ensures { TiesStandAsTheyWere }
+{}
+
+/// In the table of a sorted merge keys never fall, or never rise where the order is reversed.
+pub fn sorted_merges_are_in_order()
+    ensures { SortedMergesAreInOrder }
 {}

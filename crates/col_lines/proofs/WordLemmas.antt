@@ -8,32 +8,35 @@ use Rattle.col_common.specs.Reading.{◌>>=◌}
 use Rattle.col_model.specs.ColumnType.{ColumnType, type_name}
 use Rattle.col_model.specs.ColumnType as types
 use Rattle.col_model.proofs.ListLaws.{find-passes}
-use Rattle.col_program.specs.Script.{Line, shapes, line_among, value_line, segment_line, type_line, sorted_line, tie_line, require_line, order_line, find_line, facet_line, query_line}
+use Rattle.col_program.specs.Script.{Line, shapes, line_among, value_line, segment_line, type_line, sorted_line, tie_line, require_line, order_line, sort_line, find_line, facet_line, query_line}
 use Rattle.col_program.specs.Values.{as_type, type_named, all_types}
 use Rattle.col_questions.proofs.WordLemmas.{other, none_of_seven}
 use Rattle.col_lines.specs.Lines.{control_shapes}
 
--- none of nine
-none_of_nine : {A : Type 0} (p : A → Bool) (a b c d e f g h i : A) → p a ≡ false → p b ≡ false → p c ≡ false
-    → p d ≡ false → p e ≡ false → p f ≡ false → p g ≡ false → p h ≡ false → p i ≡ false
-    → find p (a ∷ b ∷ c ∷ d ∷ e ∷ f ∷ g ∷ h ∷ i ∷ []) ≡ None
-none_of_nine p a b c d e f g h i ha hb hc hd he hf hg hh hi = rw (ha, hb) (none_of_seven p c d e f g h i hc hd he hf hg hh hi)
+-- none of ten
+none_of_ten : {A : Type 0} (p : A → Bool) (a b c d e f g h i j : A) → p a ≡ false → p b ≡ false → p c ≡ false
+    → p d ≡ false → p e ≡ false → p f ≡ false → p g ≡ false → p h ≡ false → p i ≡ false → p j ≡ false
+    → find p (a ∷ b ∷ c ∷ d ∷ e ∷ f ∷ g ∷ h ∷ i ∷ j ∷ []) ≡ None
+none_of_ten p a b c d e f g h i j ha hb hc hd he hf hg hh hi hj =
+    rw (ha, hb, hc) (none_of_seven p d e f g h i j hd he hf hg hh hi hj)
 
 -- a word that none of the other lines begins with
 pub no_control : (d : Data) (ds : List Data) (word : List ℕ) → as_str d ≡ Some word → (word ≡ codes "segment" → ⊥)
     → (word ≡ codes "type" → ⊥) → (word ≡ codes "sorted" → ⊥)
     → (word ≡ codes "tie" → ⊥) → (word ≡ codes "require" → ⊥) → (word ≡ codes "order" → ⊥)
-    → (word ≡ codes "find" → ⊥) → (word ≡ codes "facet" → ⊥) → (word ≡ codes "query" → ⊥)
+    → (word ≡ codes "sort" → ⊥) → (word ≡ codes "find" → ⊥) → (word ≡ codes "facet" → ⊥)
+    → (word ≡ codes "query" → ⊥)
     → line_among control_shapes (d ∷ ds) ≡ None
-no_control d ds word s se ty so ti re or fi fa qu =
+no_control d ds word s se ty so ti re or st fi fa qu =
     ap (λ o. o >>= λ word. find (λ shape. bytes_eq shape.0 word) control_shapes >>= λ shape. shape.1 ds) s
-    ∙ ap (λ o. o >>= λ shape. shape.1 ds) (none_of_nine {A = List ℕ × (List Data → Option Line)} (λ shape. bytes_eq shape.0 word)
+    ∙ ap (λ o. o >>= λ shape. shape.1 ds) (none_of_ten {A = List ℕ × (List Data → Option Line)} (λ shape. bytes_eq shape.0 word)
     (codes "segment", segment_line) (codes "type", type_line) (codes "sorted", sorted_line) (codes "tie", tie_line)
-    (codes "require", require_line) (codes "order", order_line) (codes "find", find_line)
-    (codes "facet", facet_line) (codes "query", query_line)
+    (codes "require", require_line) (codes "order", order_line) (codes "sort", sort_line)
+    (codes "find", find_line) (codes "facet", facet_line) (codes "query", query_line)
     (other (codes "segment") word se) (other (codes "type") word ty) (other (codes "sorted") word so)
     (other (codes "tie") word ti) (other (codes "require") word re) (other (codes "order") word or)
-    (other (codes "find") word fi) (other (codes "facet") word fa) (other (codes "query") word qu))
+    (other (codes "sort") word st) (other (codes "find") word fi) (other (codes "facet") word fa)
+    (other (codes "query") word qu))
 
 -- the shape that begins with a type's name
 shape_of_name : (t : ColumnType) → find (λ shape. bytes_eq shape.0 (type_name t)) shapes ≡ Some (type_name t, value_line t)

@@ -1,18 +1,19 @@
 //! The lines of a script.
-ghost use Rattle.std.specs.Prelude.{◌≡◌, true, false, IfOk, MatchOption, option_and_then, option_map, [], ◌∷◌, map};
+ghost use Rattle.std.specs.Prelude.{◌≡◌, IfOk, option_and_then, option_map, [], ◌∷◌, map};
 ghost use Rattle.std.specs.Str.{is_utf8};
 ghost use Rattle.serde_json.specs.Read.{read};
 ghost use Rattle.serde_json.specs.View.{view};
 ghost use Rattle.col_common.specs.Reading.{only_if};
-ghost use Rattle.col_model.specs.ColumnType.{has_terms};
-ghost use Rattle.col_program.specs.Script.{line_among, line_spelled, shapes, segment_line, type_line, sorted_line, tie_line, value_line, require_line, order_line, find_line, facet_line, query_line};
+ghost use Rattle.col_program.specs.Script.{line_among, line_spelled, shapes, segment_line, type_line, sorted_line, tie_line, value_line, require_line, order_line, sort_line, find_line, facet_line, query_line};
 ghost use Rattle.col_program.specs.Values.{as_list};
 ghost use Rattle.col_types.specs.Kinds.{kind_of};
-ghost use Rattle.col_lines.specs.Lines.{script_line_of, terms_type, control_shapes};
+ghost use Rattle.col_lines.specs.Lines.{script_line_of, control_shapes};
 
 use crate::parts::{as_rows, as_u32};
 use crate::plain::parse_plain;
-use col_common::{DocId, RowAddr};
+use crate::row_order::{RowOrder, SortKey};
+use crate::term_type::{TermType, as_terms};
+use col_common::DocId;
 use col_questions::{
     Find, QueryError, Question, TypedValue, as_type, parse_query, take_ends, take_text, take_value,
 };
@@ -20,25 +21,6 @@ use col_types::ColumnType;
 use json::Scratch;
 use serde_json::Value;
 use std::alloc::{AllocError, Global};
-
-/// The types of which the values are terms.
-#[derive(Clone, Copy, Debug)]
-pub enum TermType {
-    Bytes,
-    Str,
-}
-
-impl TermType {
-    /// The type of the column.
-    pub fn column_type(self) -> ColumnType
-        ensures { kind_of result ≡ terms_type self }
-    {
-        match self {
-            TermType::Bytes => ColumnType::Bytes,
-            TermType::Str => ColumnType::Str,
-        }
-    }
-}
 
 /// A call that records a value, a column's type, or the start of a tie-breaker.
 #[derive(Debug, Drop)]
@@ -71,7 +53,7 @@ pub enum Line {
         name: String,
         column_type: ColumnType,
     },
-    Order(Vec<RowAddr>),
+    Order(RowOrder),
     Ask(Question),
 }
 
@@ -174,6 +156,7 @@ fn parse_control(
         "tie" => Ok(parse_tie(rest)),
         "require" => Ok(parse_require(rest)),
         "order" => parse_order(alloc, rest),
+        "sort" => Ok(parse_sort(rest)),
         "find" => parse_find(alloc, rest),
         "facet" => Ok(parse_facet(rest)),
         "query" => parse_query_line(alloc, rest),
@@ -218,21 +201,6 @@ fn read_sorted(name: &mut Value, term_type: &Value) -> Option<Line>
     let column_type = as_type(term_type)?;
     let term_type = as_terms(column_type)?;
     Some(Line::Record(Call::Sorted { name, term_type }))
-}
-
-fn as_terms(column_type: ColumnType) -> Option<TermType>
-    ensures { MatchOption result (has_terms (kind_of column_type) ≡ false)
-        (λ t. (has_terms (kind_of column_type) ≡ true) × (terms_type t ≡ kind_of column_type)) }
-{
-    match column_type {
-        ColumnType::Bytes => Some(TermType::Bytes),
-        ColumnType::Str => Some(TermType::Str),
-        ColumnType::I64
-        | ColumnType::U64
-        | ColumnType::Bool
-        | ColumnType::IpAddr
-        | ColumnType::DateTime => None,
-    }
 }
 
 fn parse_tie(items: &mut [Value]) -> Option<Line>
@@ -295,9 +263,26 @@ fn read_order(alloc: Global, rows: &Value) -> Result<Option<Line>, AllocError>
         ≡ order_line (view rows.now ∷ [])) }
 {
     match as_rows(alloc, rows)? {
-        Some(rows) => Ok(Some(Line::Order(rows))),
+        Some(rows) => Ok(Some(Line::Order(RowOrder::Named(rows)))),
         None => Ok(None),
     }
+}
+
+fn parse_sort(items: &mut [Value]) -> Option<Line>
+    ensures { option_map script_line_of result ≡ sort_line (map view items.old) }
+{
+    let [name, column_type, reversed] = items else {
+        return None;
+    };
+    let name = take_text(name)?;
+    let column_type = as_type(column_type)?;
+    let reversed = reversed.as_bool()?;
+    let key = SortKey {
+        name,
+        column_type,
+        reversed,
+    };
+    Some(Line::Order(RowOrder::Sorted(key)))
 }
 
 fn parse_find(alloc: Global, items: &mut [Value]) -> Result<Option<Line>, AllocError>

@@ -9,5 +9,5 @@ mod TurnLemmas
 pub mod MergedLemmas
 mod EndLemmas
 mod OpenLemmas
-mod OpenTurnLemmas
+pub mod OpenTurnLemmas
 mod WriteLemmas

@@ -40,7 +40,8 @@ zip-more R (z ∷ xs) zero j x (w ∷ ys) y n e all h = absurd all
 zip-more R (z ∷ xs) (suc i) j x [] y n e all h = absurd all
 zip-more R (z ∷ xs) (suc i) j x (w ∷ ys) y n e all h = rw n (all.0, zip-more R xs i (suc i) x ys y refl e all.1 h)
 
-zip-length : {A B : Type 0} (R : A → B → Type 0) (xs : List A) (ys : List B) → AllZip R xs ys → length xs ≡ length ys
+-- lists that go together are of one length
+pub zip-length : {A B : Type 0} (R : A → B → Type 0) (xs : List A) (ys : List B) → AllZip R xs ys → length xs ≡ length ys
 zip-length R [] [] all = refl
 zip-length R [] (y ∷ ys) all = absurd all
 zip-length R (x ∷ xs) [] all = absurd all
@@ -87,7 +88,8 @@ opened-rows s rs columns counts same all = subst (λ counts. HaveRows counts col
   rows = λ k c e. rows-at s rs columns k c all e;
 }
 
-column-at :
+-- a part's column is the one that was opened
+pub column-at :
     (s : Slot) (rs : List SeenReader) (parts : List Part) (columns : List (Option DynamicColumn)) (k : ℕ) (p : Part)
     → told_parts rs ≡ Some parts → AllOpenedAs s rs columns → slice_get parts k ≡ Some p
     → column_in s p ≡ option_map (part_seen s.name) (slice_index_or columns k None)

@@ -9,6 +9,7 @@ mod OpeningLemmas
 mod OrderLemmas
 mod SegmentLemmas
 mod StayLemmas
+mod TakenLemmas
 mod TableLemmas
 mod CheckingLemmas
 mod UpgradingLemmas

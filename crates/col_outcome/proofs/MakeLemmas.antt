@@ -13,16 +13,17 @@ use Rattle.col_file.specs.Readers.{SeenReader}
 use Rattle.col_merge.specs.Parts.{told_part, told_parts}
 use Rattle.col_merge.specs.Turns.{refusal_of}
 use Rattle.col_model.specs.File.{Part, StandsFor, parts_of, part_of_table}
-use Rattle.col_model.specs.Merge.{Required, merged, row_counts}
-use Rattle.col_program.specs.Outcome.{segment_table, script_table, order_over}
+use Rattle.col_model.specs.Keys.{FileKeys}
+use Rattle.col_model.specs.Merge.{Required}
+use Rattle.col_program.specs.Outcome.{segment_table, script_table}
 use Rattle.col_model.specs.Refusal.{Refusal, or_refuse, each_ok, invalid_data}
 use Rattle.col_model.specs.Refusal as refusals
-use Rattle.col_program.specs.Script.{Script, Question}
+use Rattle.col_program.specs.Script.{Script, Question, RowOrder}
 use Rattle.col_model.specs.Table.{Table}
 use Rattle.col_writer_columns.specs.Answers.{MayRefuse, answer_of}
 use Rattle.col_common.proofs.OnOkLemmas.{same-error}
 use Rattle.col_outcome.specs.Inputs.{IsOpened, is_no_file, RefusesInputs, OpensInputs, OpensFiles}
-use Rattle.col_outcome.specs.Making.{Makes, MakesIfRead, MergesInputs, MergesReaders, IsMergeRefusal, IsMade, AreReadersOf, inputs_table}
+use Rattle.col_outcome.specs.Making.{Makes, MakesIfRead, MergesInputs, MergesReaders, IsMergeRefusal, IsMade, AreReadersOf, merged_over, inputs_table}
 use Rattle.col_outcome.specs.Parts.{given, handed_in, given_in, files_in, all_files, all_told, IsUnfailed, AllKeep}
 use Rattle.col_outcome.specs.declared.merging.FileAndReport.{FileAndReport}
 use Rattle.col_outcome.proofs.PartLemmas.{all_keep-long, some_rose-later, some_rose-first}
@@ -119,17 +120,17 @@ files-opened (t ∷ tables) (f ∷ files) (r ∷ rs) h k =
 -- ---- what is made of inputs
 
 -- what is made of open inputs, and of files behind them
-merge-made : (IsOf : Table → FileAndReport → Type 0) (fs : List SeenFile) (rs ss us : List SeenReader)
-    (files : List (List ℕ)) (tables : List Table) (required : List Required) (rows : Option (List (ℕ × ℕ)))
+merge-made : (IsOf : Table → FileAndReport → Type 0) (times : FileKeys → ℕ) (fs : List SeenFile) (rs ss us : List SeenReader)
+    (files : List (List ℕ)) (tables : List Table) (required : List Required) (order : Option RowOrder)
     (result : Result FileAndReport ColumnarError) → AllZip IsOpened fs rs → OpensFiles files rs ss
-    → MergesReaders IsOf ss us result (λ parts. merged parts required (order_over rows (row_counts parts)))
+    → MergesReaders IsOf times ss us result (merged_over required order)
     → AllZip StandsFor tables files
     → IfSome (all_told fs)
-    (λ inputs. MakesIfRead IsOf result (inputs_table inputs tables required rows))
-merge-made IsOf fs rs ss us files tables required rows result opened opens merges stand = by (all_told fs) refl
+    (λ inputs. MakesIfRead IsOf result (inputs_table inputs tables required order))
+merge-made IsOf times fs rs ss us files tables required order result opened opens merges stand = by (all_told fs) refl
   where
     by : (o : Option (List (List ℕ))) → all_told fs ≡ o
-        → IfSome o (λ inputs. MakesIfRead IsOf result (inputs_table inputs tables required rows))
+        → IfSome o (λ inputs. MakesIfRead IsOf result (inputs_table inputs tables required order))
     by None told = tt
     by (Some inputs) told =
         let i = input-parts fs rs inputs opened told in
@@ -140,31 +141,31 @@ merge-made IsOf fs rs ss us files tables required rows result opened opens merge
 
 -- what a merge leaves of files that were handed in
 pub inputs-merged : {H : Type 0} (see : H → SeenFile) (left : List H) (IsOf : Table → FileAndReport → Type 0)
-    (fs : List SeenFile) (rs ss us : List SeenReader) (files : List (List ℕ)) (required : List Required)
-    (rows : Option (List (ℕ × ℕ))) (result : Result FileAndReport ColumnarError) → AllZip IsOpened fs rs
+    (times : FileKeys → ℕ) (fs : List SeenFile) (rs ss us : List SeenReader) (files : List (List ℕ)) (required : List Required)
+    (order : Option RowOrder) (result : Result FileAndReport ColumnarError) → AllZip IsOpened fs rs
     → OpensFiles files rs ss
-    → MergesReaders IsOf ss us result (λ parts. merged parts required (order_over rows (row_counts parts)))
+    → MergesReaders IsOf times ss us result (merged_over required order)
     → AllKeep fs (all_files see rs left) → given_in (files_in ss) ≡ given_in (files_in rs)
-    → AllByRecursion IsUnfailed (files_in us) → MergesInputs IsOf fs (all_files see us left) files required rows result
-inputs-merged see left IsOf fs rs ss us files required rows result opened opens merges keep same unfailed =
+    → AllByRecursion IsUnfailed (files_in us) → MergesInputs IsOf fs (all_files see us left) files required order result
+inputs-merged see left IsOf times fs rs ss us files required order result opened opens merges keep same unfailed =
     let keep_both : AllKeep fs (all_files see ss left) = rw same keep in
     record {
-      made = λ tables stand. merge-made IsOf fs rs ss us files tables required rows result opened opens merges stand;
+      made = λ tables stand. merge-made IsOf times fs rs ss us files tables required order result opened opens merges stand;
       known = merges.known;
       read_fault =
           λ e. some_rose-later fs (all_files see ss left) (all_files see us left) keep_both (some_rose-first
           (given_in (files_in ss)) (given_in (files_in us)) (handed_in see (reverse left))
-          (handed_in see (reverse left)) (reader-rose ss us (merges.read_fault e) merges.stay unfailed));
-      kept = merged-keep see left fs ss us keep_both merges.stay;
+          (handed_in see (reverse left)) (reader-rose times ss us (merges.read_fault e) merges.stay unfailed));
+      kept = merged-keep see left times fs ss us keep_both merges.stay;
     }
 
 -- ---- refusals
 
 -- want of memory, with all handed back
 pub inputs-memory : (IsOf : Table → FileAndReport → Type 0) (olds news : List SeenFile) (files : List (List ℕ))
-    (required : List Required) (rows : Option (List (ℕ × ℕ))) (e : ColumnarError) → e ≡ OutOfMemory
-    → AllKeep olds news → MergesInputs IsOf olds news files required rows (Err e)
-inputs-memory IsOf olds news files required rows e memory keep = record {
+    (required : List Required) (order : Option RowOrder) (e : ColumnarError) → e ≡ OutOfMemory
+    → AllKeep olds news → MergesInputs IsOf olds news files required order (Err e)
+inputs-memory IsOf olds news files required order e memory keep = record {
   made = λ tables stand. by (all_told olds) tables;
   known = inl memory;
   read_fault = λ fault. absurd (memory_no_fault (sym memory ∙ same-error e ReadFault fault));
@@ -172,7 +173,7 @@ inputs-memory IsOf olds news files required rows e memory keep = record {
 }
   where
     by : (o : Option (List (List ℕ))) (tables : List Table)
-        → IfSome o (λ inputs. MakesIfRead IsOf (Err e) (inputs_table inputs tables required rows))
+        → IfSome o (λ inputs. MakesIfRead IsOf (Err e) (inputs_table inputs tables required order))
     by None tables = tt
     by (Some inputs) tables = record { ok = tt; refused = inr (inl memory) }
 
@@ -181,12 +182,12 @@ inputs-memory IsOf olds news files required rows e memory keep = record {
 
 -- an input that wasn't opened
 inputs-refuse : (IsOf : Table → FileAndReport → Type 0) (fs : List SeenFile) (inputs : List (List ℕ)) (tables : List Table)
-    (required : List Required) (rows : Option (List (ℕ × ℕ))) (e : ColumnarError)
+    (required : List Required) (order : Option RowOrder) (e : ColumnarError)
     → all_told fs ≡ Some inputs → RefusesInputs fs e
-    → MakesIfRead {B = FileAndReport} IsOf (Err e) (inputs_table inputs tables required rows)
-inputs-refuse IsOf fs inputs tables required rows e told (inl memory) = record { ok = tt; refused = inr (inl memory) }
-inputs-refuse IsOf fs inputs tables required rows e told (inr (inl fault)) = record { ok = tt; refused = inl fault }
-inputs-refuse IsOf fs inputs tables required rows e told (inr (inr bad)) =
+    → MakesIfRead {B = FileAndReport} IsOf (Err e) (inputs_table inputs tables required order)
+inputs-refuse IsOf fs inputs tables required order e told (inl memory) = record { ok = tt; refused = inr (inl memory) }
+inputs-refuse IsOf fs inputs tables required order e told (inr (inl fault)) = record { ok = tt; refused = inl fault }
+inputs-refuse IsOf fs inputs tables required order e told (inr (inr bad)) =
     record { ok = tt; refused = inr (inr (invalid_data, rw (no_file-refused inputs (rw told at bad.1)) refl, bad.0)) }
 
 known-inputs : (fs : List SeenFile) (e : ColumnarError) → RefusesInputs fs e → IsMergeRefusal e
@@ -196,9 +197,9 @@ known-inputs fs e (inr (inr bad)) = inr (inr (invalid_data, ap refusal_of bad.0)
 
 -- a refusal to open the inputs is one of the merge
 pub inputs-unopened : (IsOf : Table → FileAndReport → Type 0) (fs now : List SeenFile) (rs : List SeenReader)
-    (files : List (List ℕ)) (required : List Required) (rows : Option (List (ℕ × ℕ))) (e : ColumnarError)
-    → OpensInputs fs (Err e) rs now → MergesInputs IsOf fs now files required rows (Err e)
-inputs-unopened IsOf fs now rs files required rows e h = record {
+    (files : List (List ℕ)) (required : List Required) (order : Option RowOrder) (e : ColumnarError)
+    → OpensInputs fs (Err e) rs now → MergesInputs IsOf fs now files required order (Err e)
+inputs-unopened IsOf fs now rs files required order e h = record {
   made = λ tables stand. by (all_told fs) refl tables;
   known = known-inputs fs e h.refused;
   read_fault = λ fault. h.read_fault (ap Err (same-error e ReadFault fault));
@@ -206,9 +207,9 @@ inputs-unopened IsOf fs now rs files required rows e h = record {
 }
   where
     by : (o : Option (List (List ℕ))) → all_told fs ≡ o → (tables : List Table)
-        → IfSome o (λ inputs. MakesIfRead IsOf (Err e) (inputs_table inputs tables required rows))
+        → IfSome o (λ inputs. MakesIfRead IsOf (Err e) (inputs_table inputs tables required order))
     by None told tables = tt
-    by (Some inputs) told tables = inputs-refuse IsOf fs inputs tables required rows e told h.refused
+    by (Some inputs) told tables = inputs-refuse IsOf fs inputs tables required order e told h.refused
 
 -- ---- handing back
 
@@ -257,21 +258,21 @@ told-each see (h ∷ hs) = ap (λ o. option_and_then (λ y. option_and_then (λ 
 
 -- what a script comes to, where its segments have these files
 pub script-made : {H : Type 0} (see : H → SeenFile) (olds : List H) (news : List SeenFile) (s : Script) (short : Bool)
-    (questions : List Question) (files : List (List ℕ)) (required : List Required) (rows : Option (List (ℕ × ℕ)))
+    (questions : List Question) (files : List (List ℕ)) (required : List Required) (order : Option RowOrder)
     (result : Result FileAndReport ColumnarError)
     → Makes (λ tables (fs : List (List ℕ)). AllZip StandsFor tables fs) (Ok files)
-    (each_ok segment_table s.segments) → s.required ≡ required → s.order ≡ rows → s.questions ≡ questions
-    → MergesInputs (IsMade short questions) (handed_in see olds) news files required rows result
+    (each_ok segment_table s.segments) → s.required ≡ required → s.order ≡ order → s.questions ≡ questions
+    → MergesInputs (IsMade short questions) (handed_in see olds) news files required order result
     → IfSome (all_told (map see olds)) (λ inputs. MakesIfRead (IsMade short s.questions) result (script_table inputs s))
-script-made see olds news s short questions files required rows result makes same_required same_rows same_questions merges = by makes.ok
+script-made see olds news s short questions files required order result makes same_required same_order same_questions merges = by makes.ok
   where
     in_script : (tables : List Table) → each_ok segment_table s.segments ≡ Ok tables → (inputs : List (List ℕ))
-        → MakesIfRead (IsMade short questions) result (inputs_table inputs tables required rows)
+        → MakesIfRead (IsMade short questions) result (inputs_table inputs tables required order)
         → MakesIfRead (IsMade short s.questions) result (script_table inputs s)
-    in_script tables segments inputs h = rw (segments, same_required, same_rows, same_questions) h
+    in_script tables segments inputs h = rw (segments, same_required, same_order, same_questions) h
 
     over : (o : Option (List (List ℕ))) (tables : List Table) → each_ok segment_table s.segments ≡ Ok tables
-        → IfSome o (λ inputs. MakesIfRead (IsMade short questions) result (inputs_table inputs tables required rows))
+        → IfSome o (λ inputs. MakesIfRead (IsMade short questions) result (inputs_table inputs tables required order))
         → IfSome o (λ inputs. MakesIfRead (IsMade short s.questions) result (script_table inputs s))
     over None tables segments h = tt
     over (Some inputs) tables segments h = in_script tables segments inputs h
@@ -281,5 +282,5 @@ script-made see olds news s short questions files required rows result makes sam
         (λ inputs. MakesIfRead (IsMade short s.questions) result (script_table inputs s))
     by (tables, segments, stand) =
         over (all_told (map see olds)) tables segments (subst (λ o. IfSome o
-        (λ inputs. MakesIfRead (IsMade short questions) result (inputs_table inputs tables required rows)))
+        (λ inputs. MakesIfRead (IsMade short questions) result (inputs_table inputs tables required order)))
         (told-each see olds) (merges.made tables stand))

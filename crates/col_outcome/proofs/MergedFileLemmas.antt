@@ -8,9 +8,10 @@ use Rattle.col_common.specs.declared.error.ColumnarError.TheVariants.{OutOfMemor
 use Rattle.col_file.specs.Readers.{SeenReader}
 use Rattle.col_merge.specs.Merges.{MergesFiles, AddsTable}
 use Rattle.col_merge.specs.Parts.{told_parts}
-use Rattle.col_merge.specs.Readings.{AllStay, SomeReaderRose}
+use Rattle.col_merge.specs.Readings.{AllRead, SomeReaderRose}
 use Rattle.col_merge.specs.Turns.{RefusesMerge, RefusesParts, refusal_of}
 use Rattle.col_model.specs.File.{Part, StandsFor}
+use Rattle.col_model.specs.Keys.{FileKeys}
 use Rattle.col_model.specs.Refusal.{Refusal}
 use Rattle.col_model.specs.Table.{Table}
 use Rattle.col_writer_columns.specs.Answers.{answer_of}
@@ -18,7 +19,7 @@ use Rattle.col_common.proofs.OnOkLemmas.{same-error}
 use Rattle.col_outcome.specs.Making.{MakesIfRead, MergesReaders}
 
 -- what is known of told parts is known of these
-on_parts : (o : Option (List Part)) (parts : List Part) (P : List Part → Type 0) → o ≡ Some parts → IfSome o P → P parts
+pub on_parts : (o : Option (List Part)) (parts : List Part) (P : List Part → Type 0) → o ≡ Some parts → IfSome o P → P parts
 on_parts o parts P told h = rw told at h
 
 -- a refusal stands for its answer
@@ -45,7 +46,7 @@ pub unfaulted : Rose 0 0 → ⊥
 unfaulted h = omega (arith, h)
 
 -- why a merge into memory refuses
-abbrev HasCause : {A : Type 0} → List SeenReader → List SeenReader → ColumnarError → (List Part → Result A Refusal) → Type 0
+abbrev pub HasCause : {A : Type 0} → List SeenReader → List SeenReader → ColumnarError → (List Part → Result A Refusal) → Type 0
 HasCause olds news e expected = (e ≡ OutOfMemory) ⊎ (((e ≡ ReadFault) × SomeReaderRose olds news) ⊎ RefusesParts olds e expected)
 
 cause : {A : Type 0} (olds news : List SeenReader) (xs ys : List ℕ) (e : ColumnarError)
@@ -69,7 +70,7 @@ cause olds news xs ys TieBreakerStart expected h = inr (inr h)
 cause olds news xs ys NotUtf8 expected h = inr (inr h)
 
 -- a refusal that stands for one of the definitions is no failed read
-parts-no_fault : {A : Type 0} (olds : List SeenReader) (e : ColumnarError) (expected : List Part → Result A Refusal)
+pub parts-no_fault : {A : Type 0} (olds : List SeenReader) (e : ColumnarError) (expected : List Part → Result A Refusal)
     → RefusesParts olds e expected → e ≡ ReadFault → ⊥
 parts-no_fault olds e expected h fault = by (sym (ap refusal_of fault) ∙ h.is)
   where
@@ -77,10 +78,10 @@ parts-no_fault olds e expected h fault = by (sym (ap refusal_of fault) ∙ h.is)
     by s = cc
 
 -- want of memory
-pub readers-memory : {A B : Type 0} (IsOf : A → B → Type 0) (olds news : List SeenReader) (e : ColumnarError)
-    (expected : List Part → Result A Refusal) → e ≡ OutOfMemory → AllStay olds news
-    → MergesReaders IsOf olds news (Err e) expected
-readers-memory IsOf olds news e expected memory stay = record {
+pub readers-memory : {A B : Type 0} (IsOf : A → B → Type 0) (times : FileKeys → ℕ) (olds news : List SeenReader)
+    (e : ColumnarError) (expected : List Part → Result A Refusal) → e ≡ OutOfMemory → AllRead times olds news
+    → MergesReaders IsOf times olds news (Err e) expected
+readers-memory IsOf times olds news e expected memory stay = record {
   made = λ parts told. record { ok = tt; refused = inr (inl memory) };
   known = inl memory;
   read_fault = λ fault. absurd (by (sym memory ∙ same-error e ReadFault fault));
@@ -91,14 +92,14 @@ readers-memory IsOf olds news e expected memory stay = record {
     by s = cc
 
 -- a merge that refuses
-pub readers-refused : {A B : Type 0} (IsOf : A → B → Type 0) (olds news : List SeenReader) (xs ys : List ℕ)
-    (e : ColumnarError) (expected : List Part → Result A Refusal)
-    → RefusesMerge olds news (in_memory xs) (in_memory ys) e expected → AllStay olds news
-    → MergesReaders IsOf olds news (Err e) expected
-readers-refused {A = A} {B = B} IsOf olds news xs ys e expected h stay = by (cause olds news xs ys e expected h)
+pub readers-refused : {A B : Type 0} (IsOf : A → B → Type 0) (times : FileKeys → ℕ) (olds news : List SeenReader)
+    (xs ys : List ℕ) (e : ColumnarError) (expected : List Part → Result A Refusal)
+    → RefusesMerge olds news (in_memory xs) (in_memory ys) e expected → AllRead times olds news
+    → MergesReaders IsOf times olds news (Err e) expected
+readers-refused {A = A} {B = B} IsOf times olds news xs ys e expected h stay = by (cause olds news xs ys e expected h)
   where
-    by : HasCause olds news e expected → MergesReaders {A = A} {B = B} IsOf olds news (Err e) expected
-    by (inl memory) = readers-memory IsOf olds news e expected memory stay
+    by : HasCause olds news e expected → MergesReaders {A = A} {B = B} IsOf times olds news (Err e) expected
+    by (inl memory) = readers-memory IsOf times olds news e expected memory stay
     by (inr (inl fault)) = record {
       made = λ parts told. record { ok = tt; refused = inl fault.0 };
       known = inr (inl fault.0);
@@ -121,11 +122,11 @@ readers-refused {A = A} {B = B} IsOf olds news xs ys e expected h stay = by (cau
     }
 
 -- the bytes that a merge wrote are the file
-pub readers-made : (olds news : List SeenReader) (xs ys bytes : List ℕ) (done : Unit {0})
+pub readers-made : (times : FileKeys → ℕ) (olds news : List SeenReader) (xs ys bytes : List ℕ) (done : Unit {0})
     (expected : List Part → Result Table Refusal) → xs ≡ [] → bytes ≡ ys
-    → MergesFiles olds news (in_memory xs) (in_memory ys) (Ok done) expected → AllStay olds news
-    → MergesReaders StandsFor olds news (Ok bytes) expected
-readers-made olds news xs ys bytes done expected none same h stay = record {
+    → MergesFiles olds news (in_memory xs) (in_memory ys) (Ok done) expected → AllRead times olds news
+    → MergesReaders StandsFor times olds news (Ok bytes) expected
+readers-made times olds news xs ys bytes done expected none same h stay = record {
   made = λ parts told. by parts (on_parts (told_parts olds) parts (λ ps. AddsTable (in_memory xs) (in_memory ys) (expected ps)) told h);
   known = tt;
   read_fault = λ e. cc;

@@ -1,20 +1,21 @@
 -- What is made, or refused, in place of what is expected.
-use Rattle.std.specs.Prelude.{◌≡◌, ◌⊎◌, ⊤, ℕ, Bool, List, ◌++◌, map, Option, Some, Result, Ok, Err, IfOk, IfErr, IfSome}
+use Rattle.std.specs.Prelude.{◌≡◌, ◌⊎◌, ⊤, ℕ, Bool, List, ◌++◌, length, map, Option, Some, Result, Ok, Err, IfOk, IfErr, IfSome}
 use Rattle.std.specs.List.{AllZip}
 use Rattle.col_common.specs.declared.error.ColumnarError.{ColumnarError}
 use Rattle.col_common.specs.declared.error.ColumnarError.TheVariants.{OutOfMemory, ReadFault}
 use Rattle.col_model.specs.File.{Part, StandsFor, part_of_table, parts_of}
-use Rattle.col_model.specs.Merge.{Required, merged, row_counts}
+use Rattle.col_model.specs.Keys.{FileKeys}
+use Rattle.col_model.specs.Merge.{Required, merged}
 use Rattle.col_program.specs.Outcome.{order_over}
 use Rattle.col_model.specs.Refusal.{Refusal, ◌>>=◌, or_refuse, each_ok, invalid_data}
 use Rattle.col_program.specs.Report.{report_of}
-use Rattle.col_program.specs.Script.{Question}
+use Rattle.col_program.specs.Script.{Question, RowOrder}
 use Rattle.col_model.specs.Table.{Table}
 use Rattle.col_writer_columns.specs.Answers.{answer_of, MayRefuse}
 use Rattle.col_common.specs.Outside.{SeenFile}
 use Rattle.col_file.specs.Readers.{SeenReader}
 use Rattle.col_merge.specs.Parts.{told_part, told_parts}
-use Rattle.col_merge.specs.Readings.{AllStay, SomeReaderRose}
+use Rattle.col_merge.specs.Readings.{AllRead, SomeReaderRose}
 pub use Rattle.col_merge.specs.Turns.{refusal_of}
 use Rattle.col_outcome.specs.Parts.{AllKeep, SomeFileRose, all_told}
 use Rattle.col_outcome.specs.declared.merging.FileAndReport.{FileAndReport}
@@ -62,33 +63,41 @@ abbrev pub IsMade : Bool → List Question → Table → FileAndReport → Type 
 IsMade short questions t made =
     StandsFor t made.file × (made.report.items ≡ report_of t questions short)
 
--- What open files merge to. Where they tell their parts, what is made is of what is expected of
--- these; each refusal is one that merges have, and ReadFault comes where some file's count of
--- faults rose.
-pub record MergesReaders {A B : Type 0} (IsOf : A → B → Type 0) (olds news : List SeenReader)
-    (result : Result B ColumnarError) (expected : List Part → Result A Refusal) : Type 0 where
+-- how often a file is read for its columns
+abbrev pub column_reads : FileKeys → ℕ
+column_reads k = length k.entries
+
+-- What open files merge to, each read at most so often. Where they tell their parts, what is made
+-- is of what is expected of these; each refusal is one that merges have, and ReadFault comes where
+-- some file's count of faults rose.
+pub record MergesReaders {A B : Type 0} (IsOf : A → B → Type 0) (times : FileKeys → ℕ)
+    (olds news : List SeenReader) (result : Result B ColumnarError)
+    (expected : List Part → Result A Refusal) : Type 0 where
   pub made : (parts : List Part) → told_parts olds ≡ Some parts →
       MakesIfRead IsOf result (expected parts)
   pub known : IfErr result IsMergeRefusal
   pub read_fault : result ≡ Err ReadFault → SomeReaderRose olds news
-  pub stay : AllStay olds news
+  pub stay : AllRead times olds news
 
--- the merged table of inputs and, behind them, of tables, by the rows that are named, or all
-abbrev pub inputs_table : List (List ℕ) → List Table → List Required → Option (List (ℕ × ℕ)) →
+-- the merged table of parts, in this order, or the first refusal: of the order, then of the merge
+abbrev pub merged_over : List Required → Option RowOrder → List Part → Result Table Refusal
+merged_over required order parts = order_over order parts >>= merged parts required
+
+-- the merged table of inputs and, behind them, of tables, in this order
+abbrev pub inputs_table : List (List ℕ) → List Table → List Required → Option RowOrder →
     Result Table Refusal
-inputs_table inputs tables required rows = do
+inputs_table inputs tables required order = do
   parts ← each_ok (λ bytes. or_refuse (parts_of bytes) invalid_data) inputs
-  let all = parts ++ map part_of_table tables
-  merged all required (order_over rows (row_counts all))
+  merged_over required order (parts ++ map part_of_table tables)
 
 -- What inputs, and files behind them, merge to. Where the inputs tell their bytes, and the files
 -- stand for tables, what is made is of the merged table of all.
 pub record MergesInputs (IsOf : Table → FileAndReport → Type 0) (olds news : List SeenFile)
-    (files : List (List ℕ)) (required : List Required) (rows : Option (List (ℕ × ℕ)))
+    (files : List (List ℕ)) (required : List Required) (order : Option RowOrder)
     (result : Result FileAndReport ColumnarError) : Type 0 where
   pub made : (tables : List Table) → AllZip StandsFor tables files →
       IfSome (all_told olds) (λ inputs.
-      MakesIfRead IsOf result (inputs_table inputs tables required rows))
+      MakesIfRead IsOf result (inputs_table inputs tables required order))
   pub known : IfErr result IsMergeRefusal
   pub read_fault : result ≡ Err ReadFault → SomeFileRose olds news
   pub kept : AllKeep olds news

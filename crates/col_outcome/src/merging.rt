@@ -2,18 +2,19 @@
 ghost use Rattle.std.specs.Prelude.{◌≡◌, ◌≤◌, ◌+◌, [], map, length, reverse, vec_len, vec_capacity, Some, Err, IfOk, IfErr, IfSome, option_map};
 ghost use Rattle.std.specs.List.{AllByRecursion};
 ghost use Rattle.col_model.specs.File.{StandsFor, table_of};
-ghost use Rattle.col_model.specs.Merge.{merged, row_counts};
-ghost use Rattle.col_program.specs.Outcome.{order_over, script_table, segment_table};
+ghost use Rattle.col_model.specs.Merge.{merged};
+ghost use Rattle.col_program.specs.Outcome.{script_table, segment_table};
 ghost use Rattle.col_model.specs.Refusal.{each_ok};
 ghost use Rattle.col_program.specs.Report.{report_of};
 ghost use Rattle.col_program.specs.Script as model;
 ghost use Rattle.col_questions.specs.Questions.{question_of};
 ghost use Rattle.col_merge_plan.specs.Slots.{required_of};
 ghost use Rattle.col_model.specs.Table.{Table};
-ghost use Rattle.col_order.specs.Orders.{address_of};
 ghost use Rattle.col_order.specs.RowOrders.{order_of};
+ghost use Rattle.col_lines.specs.RowOrders.{row_order_of};
 ghost use Rattle.col_script.specs.Scripts.{IsScript};
-ghost use Rattle.col_outcome.specs.Making.{MakesIfRead, MergesInputs, MergesReaders, IsMade, IsKnown, SegmentsDecide};
+ghost use Rattle.col_outcome.specs.Making.{MakesIfRead, MergesInputs, MergesReaders, IsMade, IsKnown, SegmentsDecide, column_reads, merged_over};
+ghost use Rattle.col_outcome.specs.Ordered.{merge_reads};
 ghost use Rattle.col_outcome.specs.Parts.{files_in, handed_in, all_files, all_told, AllKeep, IsUnfailed, SomeFileRose};
 
 use crate::inputs::{hand_back, open_file, open_files, open_inputs};
@@ -21,10 +22,10 @@ use crate::order::merge_row_order;
 use crate::part::Part;
 use crate::segments::segment_files;
 use bytes::Bytes;
-use col_common::{Buffer, ColumnarError, FileHandle, RowAddr};
-use col_file::{ColumnarReader, files_are_read};
+use col_common::{Buffer, ColumnarError, FileHandle};
+use col_file::ColumnarReader;
+use col_lines::RowOrder;
 use col_merge::merge_columnar;
-use col_merge_plan::row_counts;
 use col_order::MergeRowOrder;
 use col_questions::Question;
 use col_report::write_report;
@@ -76,7 +77,7 @@ fn merge_inputs<H: FileHandle>(
     inputs: &mut Vec<H>,
     files: &[Bytes],
     required: &[(String, ColumnType)],
-    rows: Option<Vec<RowAddr>>,
+    order: Option<RowOrder>,
     questions: &[Question],
     short: bool,
 ) -> Result<FileAndReport, ColumnarError>
@@ -84,7 +85,7 @@ fn merge_inputs<H: FileHandle>(
         (handed_in H.seen inputs.old.items)
         (handed_in H.seen inputs.new.items)
         files.now (required_of required.now)
-        (option_map (λ v. map address_of v.items) rows) result }
+        (option_map row_order_of order) result }
 {
     let Some(room) = inputs.len().checked_add(files.len()) else {
         return Err(ColumnarError::OutOfMemory);
@@ -97,7 +98,7 @@ fn merge_inputs<H: FileHandle>(
         files,
         &mut readers,
         required,
-        rows,
+        order,
         questions,
         short,
     );
@@ -112,7 +113,7 @@ fn merge_opened<H: FileHandle>(
     files: &[Bytes],
     readers: &mut Vec<ColumnarReader<Part<H>>>,
     required: &[(String, ColumnType)],
-    rows: Option<Vec<RowAddr>>,
+    order: Option<RowOrder>,
     questions: &[Question],
     short: bool,
 ) -> Result<FileAndReport, ColumnarError>
@@ -123,7 +124,7 @@ fn merge_opened<H: FileHandle>(
         (handed_in H.seen (reverse left.old.items))
         (all_files H.seen readers.new.items left.new.items)
         files.now (required_of required.now)
-        (option_map (λ v. map address_of v.items) rows) result }
+        (option_map row_order_of order) result }
     ensures kept { AllKeep
         (handed_in H.seen (reverse left.old.items))
         (all_files H.seen readers.new.items left.new.items) }
@@ -131,7 +132,7 @@ fn merge_opened<H: FileHandle>(
 {
     open_inputs(alloc, left, readers)?;
     open_files(alloc, files, readers)?;
-    merge_readers(alloc, readers, required, rows, questions, short)
+    merge_readers(alloc, readers, required, order, questions, short)
 }
 
 // Merges files, and reports on what the merged file says.
@@ -139,18 +140,16 @@ fn merge_readers<F: FileHandle>(
     alloc: Global,
     readers: &mut [ColumnarReader<F>],
     required: &[(String, ColumnType)],
-    rows: Option<Vec<RowAddr>>,
+    order: Option<RowOrder>,
     questions: &[Question],
     short: bool,
 ) -> Result<FileAndReport, ColumnarError>
-    ensures { MergesReaders (IsMade short (map question_of questions.now)) readers.old readers.new result
-        (λ parts. merged parts (required_of required.now)
-        (order_over (option_map (λ v. map address_of v.items) rows) (row_counts parts))) }
+    ensures { MergesReaders (IsMade short (map question_of questions.now))
+        (merge_reads (option_map row_order_of order)) readers.old readers.new result
+        (merged_over (required_of required.now) (option_map row_order_of order)) }
 {
-    files_are_read(readers);
-    let counts = row_counts(alloc, readers)?;
-    let order = merge_row_order(alloc, rows, &counts)?;
-    let file = merged_file(alloc, readers, required, order)?;
+    let row_order = merge_row_order(alloc, readers, order)?;
+    let file = merged_file(alloc, readers, required, row_order)?;
     let report = report_on(alloc, &file, questions, short)?;
     Ok(FileAndReport { file, report })
 }
@@ -162,7 +161,7 @@ fn merged_file<F: FileHandle>(
     required: &[(String, ColumnType)],
     order: MergeRowOrder,
 ) -> Result<Bytes, ColumnarError>
-    ensures { MergesReaders StandsFor readers.old readers.new result
+    ensures { MergesReaders StandsFor column_reads readers.old readers.new result
         (λ parts. merged parts (required_of required.now) (order_of order)) }
 {
     let mut file = Buffer::new(alloc);

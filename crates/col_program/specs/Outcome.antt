@@ -12,7 +12,9 @@ use Rattle.col_model.specs.Written.{written}
 use Rattle.col_model.specs.Recording.{content_after_all}
 use Rattle.col_model.specs.Order.{Order, stack, shuffle}
 use Rattle.col_model.specs.Merge.{merged, row_counts}
-use Rattle.col_program.specs.Script.{Script, Segment, script_of}
+use Rattle.col_model.specs.SortedOrder.{sorted_order}
+use Rattle.col_model.specs.Category.{slot_of}
+use Rattle.col_program.specs.Script.{Script, Segment, RowOrder, named, sorted, script_of}
 use Rattle.col_program.specs.Report.{report_of}
 use Rattle.col_model.specs.Refusal.{Refusal, ◌>>=◌, or_refuse, each_ok, invalid_data, status_of}
 
@@ -47,19 +49,21 @@ outcome_status (refused status) = status
 abbrev pub segment_table : Segment → Result Table Refusal
 segment_table s = content_after_all [] s.calls >>= λ w. written w s.count None
 
--- the order over these segments
-abbrev pub order_over : Option (List (ℕ × ℕ)) → List ℕ → Order
-order_over None counts = stack counts
-order_over (Some rows) counts = shuffle counts rows
+-- the order over these segments, or its first refusal
+abbrev pub order_over : Option RowOrder → List Part → Result Order Refusal
+order_over None parts = Ok (stack (row_counts parts))
+order_over (Some (named rows)) parts = Ok (shuffle (row_counts parts) rows)
+order_over (Some (sorted k)) parts = sorted_order parts (slot_of k.name k.column_type) k.reversed
 
 -- The merged table of the inputs followed by the script's segments, or the first refusal:
--- segments in order, inputs in order, the merge.
+-- segments in order, inputs in order, the order of the rows, the merge.
 abbrev pub script_table : List (List ℕ) → Script → Result Table Refusal
 script_table inputs s = do
   tables ← each_ok segment_table s.segments
   parts ← each_ok (λ bytes. or_refuse (parts_of bytes) invalid_data) inputs
   let all = parts ++ map part_of_table tables
-  merged all s.required (order_over s.order (row_counts all))
+  order ← order_over s.order all
+  merged all s.required order
 
 -- what a merged table or a refusal comes to
 abbrev pub with_report : Bool → Script → Result Table Refusal → Outcome

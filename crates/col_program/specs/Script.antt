@@ -1,11 +1,11 @@
 -- Scripts: segments to be made, required columns, an order and questions. States docs/RULES.md,
 -- Scripts.
-use Rattle.std.specs.Prelude.{ℕ, ◌==◌, ◌&&◌, nat_lt, nat_le, true, false, List, [], ◌∷◌, map, filter, filter_map, find, length, slice_get, codes, bytes_eq, Option, Some, None}
+use Rattle.std.specs.Prelude.{ℕ, ◌==◌, ◌&&◌, nat_lt, nat_le, Bool, true, false, List, [], ◌∷◌, map, filter, filter_map, find, length, slice_get, codes, bytes_eq, Option, Some, None}
 use Rattle.std.specs.List.{slice_split}
 use Rattle.std.specs.Str.{is_utf8}
 use Rattle.serde_json.specs.Data.{Data}
 use Rattle.serde_json.specs.Read.{read}
-use Rattle.serde_json.specs.Find.{as_number, as_str, as_i64}
+use Rattle.serde_json.specs.Find.{as_number, as_str, as_bool, as_i64}
 use Rattle.col_common.specs.Reading.{◌>>=◌, only_if}
 use Rattle.col_model.specs.ColumnType.{ColumnType, type_name, has_terms}
 use Rattle.col_model.specs.Table.{Cell}
@@ -36,11 +36,22 @@ pub data Question : Type 0 where
   facet : List ℕ → ColumnType → Question
   query : Query → Question
 
--- the order is a list of (segment, row), and a stack where there is none
+-- the column by whose values rows are sorted, rising or falling
+pub record SortKey : Type 0 where
+  pub name : List ℕ
+  pub column_type : ColumnType
+  pub reversed : Bool
+
+-- the rows, by segment and row; or all of them, sorted
+pub data RowOrder : Type 0 where
+  named : List (ℕ × ℕ) → RowOrder
+  sorted : SortKey → RowOrder
+
+-- without an order the merge is a stack
 pub record Script : Type 0 where
   pub segments : List Segment
   pub required : List Required
-  pub order : Option (List (ℕ × ℕ))
+  pub order : Option RowOrder
   pub questions : List Question
 
 -- what a line says
@@ -48,7 +59,7 @@ pub data Line : Type 0 where
   segment : ℕ → Line
   call : Call → Line
   require : Required → Line
-  order : List (ℕ × ℕ) → Line
+  order : RowOrder → Line
   ask : Question → Line
 
 -- ["segment",n]
@@ -96,8 +107,16 @@ as_address d = as_list d >>= pair
 
 -- ["order",[[s,r],..]]
 abbrev pub order_line : List Data → Option Line
-order_line (rows ∷ []) = as_list rows >>= for_each as_address >>= λ rows. Some (order rows)
+order_line (rows ∷ []) =
+    as_list rows >>= for_each as_address >>= λ rows. Some (order (named rows))
 order_line _ = None
+
+-- ["sort",name,t,reversed]
+abbrev pub sort_line : List Data → Option Line
+sort_line (name ∷ t ∷ reversed ∷ []) = as_str name >>= λ name. as_type t >>= λ t.
+    as_bool reversed >>= λ reversed.
+    Some (order (sorted (record { name = name; column_type = t; reversed = reversed })))
+sort_line _ = None
 
 -- ["find",name,t,lo,hi,from,to]
 abbrev pub find_line : List Data → Option Line
@@ -129,8 +148,8 @@ Shapes = List (List ℕ × (List Data → Option Line))
 abbrev pub shapes : Shapes
 shapes = (codes "segment", segment_line) ∷ (codes "type", type_line)
     ∷ (codes "sorted", sorted_line) ∷ (codes "tie", tie_line)
-    ∷ (codes "require", require_line) ∷ (codes "order", order_line) ∷ (codes "find", find_line)
-    ∷ (codes "facet", facet_line) ∷ (codes "query", query_line)
+    ∷ (codes "require", require_line) ∷ (codes "order", order_line)
+    ∷ (codes "sort", sort_line) ∷ (codes "find", find_line) ∷ (codes "facet", facet_line) ∷ (codes "query", query_line)
     ∷ map (λ t. (type_name t, value_line t)) all_types
 
 -- the line of an array that begins with the word of one of the shapes
@@ -164,7 +183,7 @@ segments_in (l ∷ ls) = with_line l (segments_in ls)
     with_line (segment n) p = ([], record { count = n; calls = p.0 } ∷ p.1)
     with_line (call c) p = (c ∷ p.0, p.1)
     with_line (require r) p = p
-    with_line (order rows) p = p
+    with_line (order o) p = p
     with_line (ask q) p = p
 
 -- the required column of a line
@@ -172,12 +191,12 @@ abbrev pub required_in : Line → Option Required
 required_in (require r) = Some r
 required_in (segment n) = None
 required_in (call c) = None
-required_in (order rows) = None
+required_in (order o) = None
 required_in (ask q) = None
 
 -- the order of a line
-abbrev pub order_in : Line → Option (List (ℕ × ℕ))
-order_in (order rows) = Some rows
+abbrev pub order_in : Line → Option RowOrder
+order_in (order o) = Some o
 order_in (segment n) = None
 order_in (call c) = None
 order_in (require r) = None
@@ -189,7 +208,7 @@ question_in (ask q) = Some q
 question_in (segment n) = None
 question_in (call c) = None
 question_in (require r) = None
-question_in (order rows) = None
+question_in (order o) = None
 
 -- The script of some lines: each record call has a segment line before it, and at most one line
 -- is an order.

@@ -8,7 +8,7 @@ use Rattle.col_model.specs.Merge.{Required}
 use Rattle.col_model.specs.Recording.{Call, content_after, content_after_all}
 use Rattle.col_model.specs.Refusal.{Refusal, ◌>>=◌}
 use Rattle.col_model.specs.Written.{Recorded}
-use Rattle.col_program.specs.Script.{Question, Line, segment, call, require, order, ask, segments_in, required_in, order_in, question_in}
+use Rattle.col_program.specs.Script.{Question, Line, RowOrder, segment, call, require, order, ask, segments_in, required_in, order_in, question_in}
 use Rattle.col_script.specs.Segments.{RecordedContent, Filled, filled, answered, content_behind, content_behind_all, after_call, after_calls}
 use Rattle.col_script.specs.Scripts.{summary_with, summary_from, has_segment, last_with}
 
@@ -34,7 +34,7 @@ behind-call (Ok w) c cs = go (content_after w c)
 after-one : (f : Filled) (c : Call) (cs : List Call) → after_calls f (c ∷ cs) ≡ after_calls (after_call f c) cs
 after-one f c cs = ap (λ k. record { count = f.count; content = k }) (behind-call f.content c cs)
 
-module _ (earlier : List Filled) (required : List Required) (orders : List (List (ℕ × ℕ))) (questions : List Question) where
+module _ (earlier : List Filled) (required : List Required) (orders : List RowOrder) (questions : List Question) where
   -- ---- a segment line
 
   -- a line of a segment puts the last segment to the earlier ones, and begins another
@@ -122,19 +122,19 @@ module _ (earlier : List Filled) (last : Option Filled) (required : List Require
   -- ---- an order
 
   -- the first line of an order is the order
-  pub with-order : (rows : List (ℕ × ℕ)) (ls : List Line)
-      → summary_with (record { earlier = earlier; last = last; required = required; orders = []; questions = questions }) (order rows ∷ ls)
-      ≡ summary_with (record { earlier = earlier; last = last; required = required; orders = rows ∷ []; questions = questions }) ls
+  pub with-order : (o : RowOrder) (ls : List Line)
+      → summary_with (record { earlier = earlier; last = last; required = required; orders = []; questions = questions }) (order o ∷ ls)
+      ≡ summary_with (record { earlier = earlier; last = last; required = required; orders = o ∷ []; questions = questions }) ls
   unfolding summary_with
-  with-order rows ls = refl
+  with-order o ls = refl
 
   -- a second line of an order makes no script
-  pub with-second : (first rows : List (ℕ × ℕ)) (ls : List Line)
+  pub with-second : (first o : RowOrder) (ls : List Line)
       → summary_with
       (record { earlier = earlier; last = last; required = required; orders = first ∷ []; questions = questions })
-      (order rows ∷ ls) ≡ None
+      (order o ∷ ls) ≡ None
   unfolding summary_with
-  with-second first rows ls =
+  with-second first o ls =
       let two : nat_le (suc (suc (length (filter_map order_in ls)))) 1 ≡ false =
       lt-leb (suc (suc (length (filter_map order_in ls)))) 1 (omega arith) in
       let bad : (has_segment last (segments_in ls).0 && nat_le (suc (suc (length (filter_map order_in ls)))) 1) ≡
@@ -144,14 +144,14 @@ module _ (earlier : List Filled) (last : Option Filled) (required : List Require
   -- ---- no more lines
 
   module _ (earlier_last : List Filled) where
-    ended : (o : Option (List (ℕ × ℕ))) (rs : List Required) (fs : List Question) → rs ≡ required → fs ≡ questions
+    ended : (o : Option RowOrder) (rs : List Required) (fs : List Question) → rs ≡ required → fs ≡ questions
         → summary_from true earlier_last rs (option_to_list o ++ []) fs
         ≡ Some (record { segments = earlier_last; required = required; order = o; questions = questions })
     ended None rs fs r f = rw (r, f) refl
-    ended (Some rows) rs fs r f = rw (r, f) refl
+    ended (Some o) rs fs r f = rw (r, f) refl
 
   -- where no line is left, the parts are the script
-  pub with-nothing : (o : Option (List (ℕ × ℕ)))
+  pub with-nothing : (o : Option RowOrder)
       → summary_with (record { earlier = earlier; last = last; required = required; orders = option_to_list o; questions = questions }) []
       ≡ Some (record { segments = earlier ++ option_to_list last; required = required; order = o; questions = questions })
   unfolding summary_with

@@ -6,7 +6,6 @@ use Rattle.std.specs.List.{slice_split}
 use Rattle.std.proofs.lemmas.Bool.{true≢false}
 use Rattle.std.proofs.lemmas.List.{map-append}
 use Rattle.col_common.specs.Reading.{◌>>=◌, only_if}
-use Rattle.col_common.specs.declared.row.RowAddr.{RowAddr}
 use Rattle.col_model.specs.File.{for_each}
 use Rattle.col_model.specs.Recording.{Call}
 use Rattle.col_program.specs.Script.{Line, segment, call, require, order, ask, line_spelled, pieces_of, script_of, script_of_lines, segments_in, required_in, order_in, question_in}
@@ -15,17 +14,14 @@ use Rattle.col_types.specs.declared.column_type.ColumnType as declared_types
 use Rattle.col_questions.specs.Questions.{question_of}
 use Rattle.col_questions.specs.declared.question.Question.{Question}
 use Rattle.col_lines.specs.Lines.{required_column_of}
-use Rattle.col_order.specs.Orders.{address_of}
+use Rattle.col_lines.specs.RowOrders.{row_order_of}
+use Rattle.col_lines.specs.declared.row_order.RowOrder.{RowOrder}
 use Rattle.col_script.specs.Segments.{Filled, segment_of, after_call}
 use Rattle.col_script.specs.Scripts.{DraftParts, no_parts, draft_parts, summary, summary_of, summary_with, summary_behind, TakesLine}
 use Rattle.col_script.specs.declared.segment.Segment.{Segment}
 use Rattle.col_script.specs.declared.draft.Draft.{Draft}
 use Rattle.col_script.specs.declared.script.Script.{Script}
 use Rattle.col_script.proofs.DraftLemmas.{with-segment, with-early, with-call, with-required, with-question, with-order, with-second, with-nothing}
-
--- the rows of an order
-abbrev rows_of : Vec RowAddr Global → List (ℕ × ℕ)
-rows_of rows = map address_of rows.items
 
 -- ---- the segments
 
@@ -115,34 +111,36 @@ module _ (old : Draft) where
   -- ---- an order
 
   -- the parts with this order
-  abbrev with_order : Option (Vec RowAddr Global) → DraftParts
+  abbrev with_order : Option RowOrder → DraftParts
   with_order o = record {
     earlier = (draft_parts old).earlier;
     last = (draft_parts old).last;
     required = (draft_parts old).required;
-    orders = option_to_list (option_map rows_of o);
+    orders = option_to_list (option_map row_order_of o);
     questions = (draft_parts old).questions;
   }
 
   -- a draft without an order takes one
-  pub takes-order : (rows : Vec RowAddr Global) → is_some old.order ≡ false
-      → TakesLine (order (rows_of rows)) old (record
-      { earlier = old.earlier; last = old.last; required = old.required; order = Some rows; questions = old.questions })
+  pub takes-order : (next : RowOrder) → is_some old.order ≡ false
+      → TakesLine (order (row_order_of next)) old (record
+      { earlier = old.earlier; last = old.last; required = old.required; order = Some next; questions = old.questions })
       true
-  takes-order rows none ls = go old.order none
+  takes-order next none ls = go old.order none
     where
-      go : (o : Option (Vec RowAddr Global)) → is_some o ≡ false
-          → summary_with (with_order o) (order (rows_of rows) ∷ ls) ≡ summary_with (with_order (Some rows)) ls
-      go None e = let p = draft_parts old in with-order p.earlier p.last p.required p.questions (rows_of rows) ls
+      go : (o : Option RowOrder) → is_some o ≡ false
+          → summary_with (with_order o) (order (row_order_of next) ∷ ls) ≡ summary_with (with_order (Some next)) ls
+      go None e = let p = draft_parts old in with-order p.earlier p.last p.required p.questions (row_order_of next) ls
       go (Some first) e = absurd (true≢false e)
 
   -- a draft with an order doesn't take another
-  pub takes-second : (new : Draft) (rows : Vec RowAddr Global) → is_some old.order ≡ true → TakesLine (order (rows_of rows)) old new false
-  takes-second new rows some ls = go old.order some
+  pub takes-second : (new : Draft) (next : RowOrder) → is_some old.order ≡ true → TakesLine (order (row_order_of next)) old new false
+  takes-second new next some ls = go old.order some
     where
-      go : (o : Option (Vec RowAddr Global)) → is_some o ≡ true → summary_with (with_order o) (order (rows_of rows) ∷ ls) ≡ None
+      go : (o : Option RowOrder) → is_some o ≡ true → summary_with (with_order o) (order (row_order_of next) ∷ ls) ≡ None
       go None e = absurd (true≢false (sym e))
-      go (Some first) e = let p = draft_parts old in with-second p.earlier p.last p.required p.questions (rows_of first) (rows_of rows) ls
+      go (Some first) e =
+          let p = draft_parts old in
+          with-second p.earlier p.last p.required p.questions (row_order_of first) (row_order_of next) ls
 
   -- ---- no more lines
 
@@ -154,7 +152,7 @@ module _ (old : Draft) where
       let p = draft_parts old in
       let same : map segment_of s.segments.items ≡ p.earlier ++ option_to_list p.last =
       ap (map segment_of) all ∙ all_segments old.earlier.items old.last in
-      rw (same, required, same_order, questions) (with-nothing p.earlier p.last p.required p.questions (option_map rows_of old.order))
+      rw (same, required, same_order, questions) (with-nothing p.earlier p.last p.required p.questions (option_map row_order_of old.order))
 
 -- ---- the whole script
 

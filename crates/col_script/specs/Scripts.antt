@@ -7,11 +7,11 @@ use Rattle.col_common.specs.Reading.{◌>>=◌, only_if}
 use Rattle.col_model.specs.File.{for_each}
 use Rattle.col_model.specs.Merge.{Required}
 use Rattle.col_model.specs.Recording.{Call}
-use Rattle.col_program.specs.Script.{Question, Line, segments_in, required_in, order_in, question_in, line_spelled}
+use Rattle.col_program.specs.Script.{Question, Line, RowOrder, segments_in, required_in, order_in, question_in, line_spelled}
 use Rattle.col_program.specs.Script as script
 use Rattle.col_questions.specs.Questions.{question_of}
 use Rattle.col_lines.specs.Lines.{required_column_of}
-use Rattle.col_order.specs.Orders.{address_of}
+use Rattle.col_lines.specs.RowOrders.{row_order_of}
 use Rattle.col_script.specs.Segments.{Filled, filled, segment_of, after_calls}
 use Rattle.col_script.specs.declared.draft.Draft.{Draft}
 use Rattle.col_script.specs.declared.script.Script.{Script}
@@ -20,7 +20,7 @@ use Rattle.col_script.specs.declared.script.Script.{Script}
 pub record Summary : Type 0 where
   pub segments : List Filled
   pub required : List Required
-  pub order : Option (List (ℕ × ℕ))
+  pub order : Option RowOrder
   pub questions : List Question
 
 -- a script with its segments filled
@@ -37,7 +37,7 @@ abbrev pub summary_of : Script → Summary
 summary_of s = record {
   segments = map segment_of s.segments.items;
   required = map required_column_of s.required.items;
-  order = option_map (λ rows. map address_of rows.items) s.order;
+  order = option_map row_order_of s.order;
   questions = map question_of s.questions.items;
 }
 
@@ -45,7 +45,7 @@ summary_of s = record {
 pub record IsScript (expected : script.Script) (found : Script) : Type 0 where
   pub segments : map filled expected.segments ≡ map segment_of found.segments.items
   pub required : expected.required ≡ map required_column_of found.required.items
-  pub order : expected.order ≡ option_map (λ rows. map address_of rows.items) found.order
+  pub order : expected.order ≡ option_map row_order_of found.order
   pub questions : expected.questions ≡ map question_of found.questions.items
 
 -- the script, where there is one
@@ -59,7 +59,7 @@ pub record DraftParts : Type 0 where
   pub earlier : List Filled
   pub last : Option Filled
   pub required : List Required
-  pub orders : List (List (ℕ × ℕ))
+  pub orders : List RowOrder
   pub questions : List Question
 
 -- before any line
@@ -72,7 +72,7 @@ draft_parts d = record {
   earlier = map segment_of d.earlier.items;
   last = option_map segment_of d.last;
   required = map required_column_of d.required.items;
-  orders = option_to_list (option_map (λ rows. map address_of rows.items) d.order);
+  orders = option_to_list (option_map row_order_of d.order);
   questions = map question_of d.questions.items;
 }
 
@@ -87,7 +87,7 @@ has_segment None calls = length calls == 0
 has_segment (Some f) calls = true
 
 -- what these come to, where there is at most one order
-abbrev pub summary_from : Bool → List Filled → List Required → List (List (ℕ × ℕ)) → List Question
+abbrev pub summary_from : Bool → List Filled → List Required → List RowOrder → List Question
     → Option Summary
 summary_from has segments required orders questions = only_if (has && nat_le (length orders) 1)
     (record { segments = segments; required = required; order = slice_get orders 0; questions = questions })

@@ -1,16 +1,15 @@
 //! What the lines of a script say so far.
-ghost use Rattle.std.specs.Prelude.{◌≡◌, ◌++◌, Some, IfOk, OnOk, map, [], ◌∷◌};
+ghost use Rattle.std.specs.Prelude.{◌≡◌, ◌++◌, Some, IfOk, OnOk, []};
 ghost use Rattle.std.specs.Option.{option_to_list};
 ghost use Rattle.col_program.specs.Script as model;
 ghost use Rattle.col_questions.specs.Questions.{question_of};
 ghost use Rattle.col_lines.specs.Lines.{script_line_of, call_of, required_column_of};
-ghost use Rattle.col_order.specs.Orders.{address_of};
+ghost use Rattle.col_lines.specs.RowOrders.{row_order_of};
 ghost use Rattle.col_script.specs.Scripts.{no_parts, draft_parts, summary_of, summary_with, TakesLine, TakesPiece};
 
 use crate::script::Script;
 use crate::segment::Segment;
-use col_common::RowAddr;
-use col_lines::{Call, Line, read_line};
+use col_lines::{Call, Line, RowOrder, read_line};
 use col_questions::Question;
 use col_types::ColumnType;
 use json::Scratch;
@@ -22,7 +21,7 @@ pub struct Draft {
     earlier: Vec<Segment>,
     last: Option<Segment>,
     required: Vec<(String, ColumnType)>,
-    order: Option<Vec<RowAddr>>,
+    order: Option<RowOrder>,
     questions: Vec<Question>,
 }
 
@@ -65,7 +64,7 @@ impl Draft {
             Line::Segment(num_docs) => self.take_segment(alloc, num_docs),
             Line::Record(call) => self.take_call(call),
             Line::Require { name, column_type } => self.take_required(name, column_type),
-            Line::Order(rows) => Ok(self.take_order(rows)),
+            Line::Order(order) => Ok(self.take_order(order)),
             Line::Ask(question) => self.take_question(question),
         }
     }
@@ -96,13 +95,13 @@ impl Draft {
         Ok(true)
     }
 
-    fn take_order(&mut self, rows: Vec<RowAddr>) -> bool
-        ensures { TakesLine (model.order (map address_of rows.items)) self.old self.new result }
+    fn take_order(&mut self, order: RowOrder) -> bool
+        ensures { TakesLine (model.order (row_order_of order)) self.old self.new result }
     {
         if self.order.is_some() {
             return false;
         }
-        self.order = Some(rows);
+        self.order = Some(order);
         true
     }
 

@@ -6,7 +6,7 @@ ghost use Rattle.col_script.specs.Scripts.{IsScriptOf, pieces_left};
 
 use crate::draft::Draft;
 use crate::segment::Segment;
-use col_common::RowAddr;
+use col_lines::RowOrder;
 use col_questions::Question;
 use col_types::ColumnType;
 use json::Scratch;
@@ -18,7 +18,7 @@ pub struct Script {
     pub segments: Vec<Segment>,
     pub required: Vec<(String, ColumnType)>,
     /// None is a stack.
-    pub order: Option<Vec<RowAddr>>,
+    pub order: Option<RowOrder>,
     pub questions: Vec<Question>,
 }
 

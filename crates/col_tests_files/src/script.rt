@@ -4,7 +4,7 @@ use std::alloc::{AllocError, Global};
 use std::test::Fail;
 
 // Lines, and what is printed of them.
-const LINES: [(&str, &str); 9] = [
+const LINES: [(&str, &str); 10] = [
     ("[\"segment\",4294967295]", "Segment(4294967295)"),
     (
         "[\"type\",\"a\",\"datetime\"]",
@@ -32,13 +32,24 @@ const LINES: [(&str, &str); 9] = [
     ),
     (
         "[\"order\",[[1,0],[0,4294967295]]]",
-        "Order([RowAddr { segment_ord: 1, row_id: 0 }, \
-            RowAddr { segment_ord: 0, row_id: 4294967295 }])",
+        "Order(Named([RowAddr { segment_ord: 1, row_id: 0 }, \
+            RowAddr { segment_ord: 0, row_id: 4294967295 }]))",
+    ),
+    (
+        "[\"sort\",\"w\",\"str\",false]",
+        "Order(Sorted(SortKey { name: \"w\", column_type: Str, reversed: false }))",
     ),
     (
         "[\"find\",\"a\",\"i64\",1,-1,4,3]",
         "Ask(Find(Find { name: \"a\", ends: I64 { lo: 1, hi: -1 }, from: 4, to: 3 }))",
     ),
+];
+
+// Lines that say nothing.
+const BAD_LINES: [&str; 3] = [
+    "[\"sort\",\"w\",\"str\",0]",
+    "[\"sort\",\"w\",\"str\"]",
+    "[\"sort\",\"w\",\"text\",true]",
 ];
 
 // What is printed of the line of a piece.
@@ -54,6 +65,15 @@ fn lines_are_calls_columns_orders_and_lookups(rt: HostRuntime) -> Result<(), Fai
     for (piece, text) in LINES {
         let printed = printed(rt.alloc(), piece)?;
         assert_eq!(rt; printed.as_deref(), Some(text));
+    }
+    Ok(())
+}
+
+#[test]
+fn a_sort_has_a_known_type_and_a_truth_value(rt: HostRuntime) -> Result<(), Fail> {
+    for piece in BAD_LINES {
+        let line = parse_line(rt.alloc(), piece.as_bytes())?;
+        assert!(rt; line.is_none());
     }
     Ok(())
 }

@@ -14,12 +14,13 @@ use Rattle.col_model.specs.Category.{Slot, slot_of, slot_cmp}
 use Rattle.col_model.specs.Table.{Column, Table}
 use Rattle.col_model.specs.File.{part_of_table}
 use Rattle.col_model.specs.Limits.{is_too_large, is_of_type}
-use Rattle.col_model.specs.Order.{Order, picks}
+use Rattle.col_model.specs.Order.{Order, shuffle, all_rows, picks}
 use Rattle.col_model.specs.Merge.{Required, kept_columns, all_cells, shared_type, required_type, joined_type, joined_content, has_bad_column, joined_column, all_slots, contradicts, required_refusal, row_counts, merged}
 use Rattle.col_program.specs.Outcome.{order_over, segment_table, script_table}
 use Rattle.col_model.specs.Recording.{Call, recorded, typed, tied, entry_of, forces_other, is_late, denies, content_after, content_after_all}
 use Rattle.col_model.specs.Refusal.{Refusal, status_of, ◌>>=◌, refuse_if, or_refuse, each_ok, invalid_data, bad_order, bad_name, required_conflict, cannot_coerce, numerical_conflict, too_large, forced_type, doc_order, doc_out_of_range, tie_breaker_start}
-use Rattle.col_program.specs.Script.{Script, Segment}
+use Rattle.col_model.specs.SortedOrder.{sorted_rows, sorted_order}
+use Rattle.col_program.specs.Script.{Script, Segment, RowOrder, SortKey, named, sorted}
 use Rattle.col_model.specs.Written.{Entry, Recorded, entry_content, entry_type, is_past_docs, is_past_ties, is_permutation, has_zero, written, written_column}
 use Rattle.col_model.proofs.ConflictLaws.{same_Err, ok_not_err}
 use Rattle.col_model.proofs.StackSeen.{none-bad}
@@ -177,12 +178,30 @@ valid-merged tables required order =
 
 -- ---- a script
 
+valid-sorted : (tables : List Table) (key : SortKey)
+    → IsValid (sorted_order (map part_of_table tables) (slot_of key.name key.column_type) key.reversed)
+unfolding sorted_order
+valid-sorted tables key =
+    let parts = map part_of_table tables in
+    let slot = slot_of key.name key.column_type in
+    let made : Result Order Refusal = Ok (shuffle (row_counts parts) (sorted_rows slot key.reversed parts)) in
+    let sound : Result Order Refusal = refuse_if (has_bad_column slot parts) invalid_data >>= λ _. made in
+    valid-test (nat_le (2 ^ 32) (length (all_rows (row_counts parts)))) too_large sound (λ h. cc)
+    (valid-unmet (has_bad_column slot parts) invalid_data made (none-bad slot tables) tt)
+
+valid-order : (tables : List Table) (o : Option RowOrder) → IsValid (order_over o (map part_of_table tables))
+valid-order tables None = tt
+valid-order tables (Some (named rows)) = tt
+valid-order tables (Some (sorted key)) = valid-sorted tables key
+
 valid-script : (s : Script) → IsValid (script_table [] s)
 valid-script s =
-    let rest : List Table → Result Table Refusal = λ tables. merged (map part_of_table tables) s.required
-    (order_over s.order (row_counts (map part_of_table tables))) in
+    let in_order : List Table → Order → Result Table Refusal = λ tables order. merged (map part_of_table tables) s.required order in
+    let rest : List Table → Result Table Refusal =
+    λ tables. order_over s.order (map part_of_table tables) >>= in_order tables in
     valid-then (each_ok segment_table s.segments) rest (valid-each segment_table s.segments valid-segment)
-    (λ tables. valid-merged tables s.required (order_over s.order (row_counts (map part_of_table tables))))
+    (λ tables. valid-then (order_over s.order (map part_of_table tables)) (in_order tables) (valid-order tables s.order)
+    (λ order. valid-merged tables s.required order))
 
 -- another refusal has another status
 other-status : (r : Refusal) → status_of r ≡ 6 → r ≡ invalid_data

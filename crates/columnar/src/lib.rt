@@ -29,6 +29,7 @@ pub use col_index::{CURRENT_VERSION, Cardinality, ColumnIndex, Version};
 pub use col_merge::{StackFromReaders, merge_columnar};
 pub use col_merge_terms::compute_merged_term_ord_mapping;
 pub use col_order::{MergeRowOrder, ShuffleMergeOrder, StackMergeOrder};
+pub use col_sort::sorted_order;
 pub use col_terms::{Dictionary, Streamer, TermOrdHit};
 pub use col_upgrade::upgrade;
 pub use col_values::{

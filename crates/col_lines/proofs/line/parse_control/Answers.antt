@@ -7,4 +7,4 @@ pub returns-in_default-word : goal.returns-in_default-word
 returns-in_default-word c =
     let w = c.in_default-word in
     sym (no_control (view c.args.head.now) (map view c.args.rest.now) c.in-Some.word.now (sym c.in-Some.ensures)
-    w.not-segment w.not-type w.not-sorted w.not-tie w.not-require w.not-order w.not-find w.not-facet w.not-query)
+    w.not-segment w.not-type w.not-sorted w.not-tie w.not-require w.not-order w.not-sort w.not-find w.not-facet w.not-query)

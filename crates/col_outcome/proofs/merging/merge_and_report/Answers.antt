@@ -1,7 +1,7 @@
 use Rattle.std.proofs.Common.{map, option_map, sym, ap, ◌∙◌}
 use Rattle.std.proofs.lemmas.Result.{err_from_is_err_and}
 use Rattle.col_questions.specs.Questions.{question_of}
-use Rattle.col_order.specs.Orders.{address_of}
+use Rattle.col_lines.specs.RowOrders.{row_order_of}
 use Rattle.col_script.specs.Segments.{segment_of}
 use Rattle.col_merge_plan.specs.Slots.{required_of}
 use Rattle.col_common.proofs.OnOkLemmas.{same-error}
@@ -26,7 +26,7 @@ returns-clause-made g c = λ s is.
     script-made g.H.FileHandle.seen c.args.inputs.now.items
     (handed_in g.H.FileHandle.seen c.merge_inputs.new.inputs.items) s c.args.short
     (map question_of c.args.script.questions.items) c.in_ok-files.files.items (required_of c.args.script.required.items)
-    (option_map (λ v. map address_of v.items) c.args.script.order) c.merge_inputs.result
+    (option_map row_order_of c.args.script.order) c.merge_inputs.result
     (record {
       ok =
           (c.in_ok-files.ensures s.segments (is.segments ∙ ap (map segment_of) (sym c.deref.ensures.value))).ok;

@@ -1,7 +1,7 @@
 use Rattle.std.proofs.Common.{map, option_map, arith}
 use Rattle.std.proofs.lemmas.Result.{err_from_is_err_and}
 use Rattle.col_questions.specs.Questions.{question_of}
-use Rattle.col_order.specs.Orders.{address_of}
+use Rattle.col_lines.specs.RowOrders.{row_order_of}
 use Rattle.col_merge_plan.specs.Slots.{required_of}
 use Rattle.col_outcome.specs.Making.{IsMade}
 use Rattle.col_outcome.specs.Parts.{handed_in}
@@ -15,7 +15,7 @@ returns-in_err-readers g c =
     let p = err_from_is_err_and c.from_residual.result c.from_residual.ensures.1 in
     rw p.1 (inputs-memory (IsMade c.args.short (map question_of c.args.questions.now))
     (handed_in see c.args.inputs.now.items) (handed_in see c.args.inputs.now.items) c.args.files.now
-    (required_of c.args.required.now) (option_map (λ v. map address_of v.items) c.args.rows) p.0 p.2
+    (required_of c.args.required.now) (option_map row_order_of c.args.order) p.0 p.2
     (all_keep-none (handed_in see c.args.inputs.now.items)))
 
 pub hand_back-requires : goal.hand_back-requires

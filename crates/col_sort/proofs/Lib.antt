@@ -1,0 +1,15 @@
+mod CellLemmas
+mod AgreeLemmas
+mod MovedLemmas
+mod FirstLemmas
+mod BlockLemmas
+mod ColumnLemmas
+mod TypedLemmas
+mod TermColumnLemmas
+mod AskedLemmas
+mod TermLemmas
+mod TermCountLemmas
+mod TextLemmas
+mod TakenLemmas
+mod OpenedLemmas
+mod SortLemmas

@@ -1,0 +1,4 @@
+pub mod Firsts
+pub mod Columns
+pub mod Texts
+pub mod Sorts
