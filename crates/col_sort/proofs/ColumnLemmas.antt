@@ -1,7 +1,7 @@
 -- Keys of columns stand for the columns' cells.
 use Rattle.std.proofs.Common.{◌≡◌, ◌<◌, ◌≤◌, ℕ, zero, suc, ◌+◌, not, Bool, List, [], ◌∷◌, map, refl, sym, ◌∙◌, ap, ap₂, subst, length, get_or, drop, add-one, replicate, arith, IsPermutation}
 use Rattle.std.specs.Prelude.{Option, Some, None, IfSome, slice_get, slice_index_or}
-use Rattle.std.specs.List.{AllZip}
+use Rattle.std.specs.List.{AllByRecursion, AllZip}
 use Rattle.std.specs.declared.cmp.Ordering.{Ordering}
 use Rattle.std.specs.declared.cmp.Ordering.TheVariants.{Less, Equal, Greater}
 use Rattle.std.specs.Ordering.{is_le, is_gt}
@@ -19,7 +19,7 @@ use Rattle.col_column.specs.Columns.{row_count}
 use Rattle.col_dynamic.specs.Dynamic.{content_of, dynamic_shape, value_count}
 use Rattle.col_dynamic.specs.declared.dynamic_column.DynamicColumn.{DynamicColumn}
 use Rattle.col_dynamic.proofs.RowLemmas.{seen-rows}
-use Rattle.col_merge_slot.specs.Segments.{IsOfCategory, HaveRows}
+use Rattle.col_merge_slot.specs.Segments.{HaveRows}
 use Rattle.col_sort_rows.specs.Keys.{SplitRows, added, rows_from, rows_of_all, rows_by_keys}
 use Rattle.col_sort.specs.Columns.{first_in, segment_keys, all_keys, AreOf, rows_by_cells, SortsColumns}
 use Rattle.col_sort.proofs.CellLemmas.{AgreesAs, Compare, cells-by-keys}
@@ -52,22 +52,22 @@ cells-at (o ∷ os) (n ∷ ns) (suc j) i e = cells-at os ns j i (omega arith)
 
 -- ---- keys for them
 
--- a column's keys stand for its cells, and are as many as its rows
-pub record AreKeysOf {K : Type 0} (category : Category) (R : Cell → K → Type 0) (keys : DynamicColumn → List (Option K))
-    : Type 0 where
-  pub agree : (c : DynamicColumn) → IsOfCategory category c
+-- the keys of columns of a kind stand for their cells, and those of any column are as many as its rows
+pub record AreKeysOf {K : Type 0} (P : DynamicColumn → Type 0) (R : Cell → K → Type 0)
+    (keys : DynamicColumn → List (Option K)) : Type 0 where
+  pub agree : (c : DynamicColumn) → P c
       → AllZip (AgreesAs R) (map (λ row. slice_get row 0) (content_of c).rows) (keys c)
   pub many : (c : DynamicColumn) → length (keys c) ≡ length (content_of c).rows
 
-module _ {K : Type 0} (category : Category) (R : Cell → K → Type 0) (keys : DynamicColumn → List (Option K))
-    (are : AreKeysOf category R keys) where
-  segment-agrees : (o : Option DynamicColumn) (n : ℕ) → IfSome o (IsOfCategory category)
+module _ {K : Type 0} (P : DynamicColumn → Type 0) (R : Cell → K → Type 0) (keys : DynamicColumn → List (Option K))
+    (are : AreKeysOf P R keys) where
+  segment-agrees : (o : Option DynamicColumn) (n : ℕ) → IfSome o P
       → AllZip (AgreesAs R) (first_cells o n) (segment_keys keys o n)
   unfolding first_cells
   segment-agrees (Some c) n h = are.agree c h
   segment-agrees None n h = none-agree R n
 
-  all-agree : (os : List (Option DynamicColumn)) (ns : List ℕ) → AreOf category os
+  all-agree : (os : List (Option DynamicColumn)) (ns : List ℕ) → AllByRecursion (λ o. IfSome o P) os
       → AllZip (λ cs ks. AllZip (AgreesAs R) cs ks) (all_cells os ns) (all_keys keys os ns)
   unfolding all_cells all_keys
   all-agree [] ns h = tt
@@ -91,11 +91,13 @@ module _ {K : Type 0} (category : Category) (R : Cell → K → Type 0) (keys : 
       (all-many os ns (record { segments = omega arith; rows = λ k c is. h.rows (suc k) c is }))
 
   -- rows by the keys of columns are those by the columns' cells
-  pub columns-sorted : (cmp : K → K → Ordering) → Compare cmp R → (reversed : Bool) (os : List (Option DynamicColumn))
-      (ns : List ℕ) (rows : List (ℕ × ℕ)) → HaveRows ns os → rows ≡ rows_by_keys cmp reversed (all_keys keys os ns)
+  pub columns-sorted : (category : Category) (cmp : K → K → Ordering) → Compare cmp R → (reversed : Bool)
+      (os : List (Option DynamicColumn)) (ns : List ℕ) (rows : List (ℕ × ℕ))
+      → (AreOf category os → AllByRecursion (λ o. IfSome o P) os) → HaveRows ns os
+      → rows ≡ rows_by_keys cmp reversed (all_keys keys os ns)
       → SortsColumns category ns os reversed rows
   unfolding rows_by_cells
-  columns-sorted cmp laws reversed os ns rows h is =
+  columns-sorted category cmp laws reversed os ns rows kind h is =
       let kss = all_keys keys os ns in
       let many = all-many os ns h in
       let by_cell = λ (a b : ℕ × ℕ). are_keys_in_order reversed (first_in os a) (first_in os b) in
@@ -105,7 +107,7 @@ module _ {K : Type 0} (category : Category) (R : Cell → K → Type 0) (keys : 
             ∙ cells-by-keys cmp R laws reversed (first_in os) kss
             (rows-agree R (first_in os) 0 (all_cells os ns) kss
             (λ j i. (let e : 0 + j ≡ j = omega arith in ap (λ m. first_in os (m, i)) e) ∙ cells-at os ns j i h.segments)
-            (all-agree os ns all)));
+            (all-agree os ns (kind all))));
       }
 
 -- ---- segments that are left

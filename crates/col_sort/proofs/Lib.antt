@@ -5,6 +5,7 @@ mod FirstLemmas
 mod BlockLemmas
 mod ColumnLemmas
 mod TypedLemmas
+mod NumberLemmas
 mod TermColumnLemmas
 mod AskedLemmas
 mod TermLemmas

@@ -24,12 +24,14 @@ use Rattle.col_sort.proofs.ColumnLemmas.{AreKeysOf, compare-cells, columns-sorte
 
 -- ---- how many there are
 
-many-firsts : {T K : Type 0} (key : T → K) (cell : T → Cell) (rows : List (List T))
+-- as many first values as rows
+pub many-firsts : {T K : Type 0} (key : T → K) (cell : T → Cell) (rows : List (List T))
     → length (first_keys key rows) ≡ length (map (map cell) rows)
 unfolding first_keys
 many-firsts key cell rows = length-map rows (λ row. option_map key (slice_get row 0)) ∙ sym (length-map rows (map cell))
 
-many-none : (K : Type 0) (c : DynamicColumn) → length (no_keys {K = K} c) ≡ length (content_of c).rows
+-- as many where none has a key
+pub many-none : (K : Type 0) (c : DynamicColumn) → length (no_keys {K = K} c) ≡ length (content_of c).rows
 many-none K c = length-replicate (length (content_of c).rows) None
 
 -- ---- numbers
@@ -53,7 +55,7 @@ numbers-many (columns.DateTime c) = many-none ℤ (columns.DateTime c)
 numbers-many (columns.Bytes c) = many-none ℤ (columns.Bytes c)
 numbers-many (columns.Str c) = many-none ℤ (columns.Str c)
 
-pub numbers-are_keys : AreKeysOf categories.numerical (λ c k. c ≡ number k) number_keys
+pub numbers-are_keys : AreKeysOf (IsOfCategory categories.numerical) (λ c k. c ≡ number k) number_keys
 numbers-are_keys = record { agree = numbers-agree; many = numbers-many }
 
 -- ---- flags
@@ -77,7 +79,7 @@ flags-many (columns.DateTime c) = many-none Bool (columns.DateTime c)
 flags-many (columns.Bytes c) = many-none Bool (columns.Bytes c)
 flags-many (columns.Str c) = many-none Bool (columns.Str c)
 
-pub flags-are_keys : AreKeysOf categories.bool (λ c k. c ≡ bool_cell k) bool_keys
+pub flags-are_keys : AreKeysOf (IsOfCategory categories.bool) (λ c k. c ≡ bool_cell k) bool_keys
 flags-are_keys = record { agree = flags-agree; many = flags-many }
 
 -- ---- points in time
@@ -101,7 +103,7 @@ times-many (columns.DateTime c) = many-firsts (λ t. t) number (rows_of_values n
 times-many (columns.Bytes c) = many-none ℤ (columns.Bytes c)
 times-many (columns.Str c) = many-none ℤ (columns.Str c)
 
-pub times-are_keys : AreKeysOf categories.datetime (λ c k. c ≡ number k) time_keys
+pub times-are_keys : AreKeysOf (IsOfCategory categories.datetime) (λ c k. c ≡ number k) time_keys
 times-are_keys = record { agree = times-agree; many = times-many }
 
 -- ---- addresses
@@ -126,7 +128,7 @@ addresses-many (columns.DateTime c) = many-none ℕ (columns.DateTime c)
 addresses-many (columns.Bytes c) = many-none ℕ (columns.Bytes c)
 addresses-many (columns.Str c) = many-none ℕ (columns.Str c)
 
-pub addresses-are_keys : AreKeysOf categories.ip (λ c k. c ≡ unsigned_cell k) address_keys
+pub addresses-are_keys : AreKeysOf (IsOfCategory categories.ip) (λ c k. c ≡ unsigned_cell k) address_keys
 addresses-are_keys = record { agree = addresses-agree; many = addresses-many }
 
 -- ---- they compare as their cells
@@ -144,16 +146,24 @@ addresses-compare = compare-cells nat_cmp unsigned_cell unsigned_cells
 
 pub numbers-sorted : (reversed : Bool) (os : List (Option DynamicColumn)) (ns : List ℕ) (rows : List (ℕ × ℕ)) → HaveRows ns os
     → rows ≡ rows_by_keys int_cmp reversed (all_keys number_keys os ns) → SortsColumns categories.numerical ns os reversed rows
-numbers-sorted = columns-sorted categories.numerical (λ c k. c ≡ number k) number_keys numbers-are_keys int_cmp numbers-compare
+numbers-sorted reversed os ns rows =
+    columns-sorted (IsOfCategory categories.numerical) (λ c k. c ≡ number k) number_keys numbers-are_keys categories.numerical int_cmp
+    numbers-compare reversed os ns rows (λ all. all)
 
 pub flags-sorted : (reversed : Bool) (os : List (Option DynamicColumn)) (ns : List ℕ) (rows : List (ℕ × ℕ)) → HaveRows ns os
     → rows ≡ rows_by_keys bool_cmp reversed (all_keys bool_keys os ns) → SortsColumns categories.bool ns os reversed rows
-flags-sorted = columns-sorted categories.bool (λ c k. c ≡ bool_cell k) bool_keys flags-are_keys bool_cmp flags-compare
+flags-sorted reversed os ns rows =
+    columns-sorted (IsOfCategory categories.bool) (λ c k. c ≡ bool_cell k) bool_keys flags-are_keys categories.bool bool_cmp
+    flags-compare reversed os ns rows (λ all. all)
 
 pub times-sorted : (reversed : Bool) (os : List (Option DynamicColumn)) (ns : List ℕ) (rows : List (ℕ × ℕ)) → HaveRows ns os
     → rows ≡ rows_by_keys int_cmp reversed (all_keys time_keys os ns) → SortsColumns categories.datetime ns os reversed rows
-times-sorted = columns-sorted categories.datetime (λ c k. c ≡ number k) time_keys times-are_keys int_cmp numbers-compare
+times-sorted reversed os ns rows =
+    columns-sorted (IsOfCategory categories.datetime) (λ c k. c ≡ number k) time_keys times-are_keys categories.datetime int_cmp
+    numbers-compare reversed os ns rows (λ all. all)
 
 pub addresses-sorted : (reversed : Bool) (os : List (Option DynamicColumn)) (ns : List ℕ) (rows : List (ℕ × ℕ)) → HaveRows ns os
     → rows ≡ rows_by_keys nat_cmp reversed (all_keys address_keys os ns) → SortsColumns categories.ip ns os reversed rows
-addresses-sorted = columns-sorted categories.ip (λ c k. c ≡ unsigned_cell k) address_keys addresses-are_keys nat_cmp addresses-compare
+addresses-sorted reversed os ns rows =
+    columns-sorted (IsOfCategory categories.ip) (λ c k. c ≡ unsigned_cell k) address_keys addresses-are_keys categories.ip nat_cmp
+    addresses-compare reversed os ns rows (λ all. all)

@@ -2,6 +2,7 @@
 use Rattle.std.specs.Prelude.{◌≡◌, ℕ, ℤ, pos, Bool, List, [], ◌∷◌, length, replicate, slice_get, slice_index_or, unwrap_or, option_map, Option, Some, None, IfSome, IsPermutation}
 use Rattle.std.specs.List.{AllByRecursion}
 use Rattle.col_model.specs.Category.{Category}
+use Rattle.col_model.specs.ColumnType.{ColumnType}
 use Rattle.col_model.specs.Lookup.{row_of}
 use Rattle.col_model.specs.Order.{all_rows}
 use Rattle.col_model.specs.Sorted.{sorted_items}
@@ -10,7 +11,7 @@ use Rattle.col_model.specs.Table.{Cell}
 use Rattle.col_numbers.specs.NumValues.{num_values_of}
 use Rattle.col_column.specs.Columns.{rows_of_values}
 use Rattle.col_column.specs.IpValues.{ip_values_of}
-use Rattle.col_dynamic.specs.Dynamic.{content_of}
+use Rattle.col_dynamic.specs.Dynamic.{content_of, type_of}
 use Rattle.col_dynamic.specs.declared.dynamic_column.DynamicColumn.{DynamicColumn}
 use Rattle.col_dynamic.specs.declared.dynamic_column.DynamicColumn.TheVariants as columns
 use Rattle.col_merge_slot.specs.Segments.{IsOfCategory}
@@ -34,6 +35,26 @@ number_keys (columns.IpAddr c) = no_keys (columns.IpAddr c)
 number_keys (columns.DateTime c) = no_keys (columns.DateTime c)
 number_keys (columns.Bytes c) = no_keys (columns.Bytes c)
 number_keys (columns.Str c) = no_keys (columns.Str c)
+
+-- the numbers of a column of u64
+abbrev pub unsigned_keys : DynamicColumn → List (Option ℕ)
+unsigned_keys (columns.U64 c) = first_keys (λ n. n) (rows_of_values num_values_of c)
+unsigned_keys (columns.I64 c) = no_keys (columns.I64 c)
+unsigned_keys (columns.Bool c) = no_keys (columns.Bool c)
+unsigned_keys (columns.IpAddr c) = no_keys (columns.IpAddr c)
+unsigned_keys (columns.DateTime c) = no_keys (columns.DateTime c)
+unsigned_keys (columns.Bytes c) = no_keys (columns.Bytes c)
+unsigned_keys (columns.Str c) = no_keys (columns.Str c)
+
+-- those of a column of i64
+abbrev pub signed_keys : DynamicColumn → List (Option ℤ)
+signed_keys (columns.I64 c) = first_keys (λ z. z) (rows_of_values num_values_of c)
+signed_keys (columns.U64 c) = no_keys (columns.U64 c)
+signed_keys (columns.Bool c) = no_keys (columns.Bool c)
+signed_keys (columns.IpAddr c) = no_keys (columns.IpAddr c)
+signed_keys (columns.DateTime c) = no_keys (columns.DateTime c)
+signed_keys (columns.Bytes c) = no_keys (columns.Bytes c)
+signed_keys (columns.Str c) = no_keys (columns.Str c)
 
 -- its flags
 abbrev pub bool_keys : DynamicColumn → List (Option Bool)
@@ -77,6 +98,10 @@ unfoldable pub all_keys : {K : Type 0} → (DynamicColumn → List (Option K))
 all_keys keys [] ns = []
 all_keys keys (o ∷ os) [] = []
 all_keys keys (o ∷ os) (n ∷ ns) = segment_keys keys o n ∷ all_keys keys os ns
+
+-- each column is of a type
+abbrev pub AreOfType : ColumnType → List (Option DynamicColumn) → Type 0
+AreOfType t os = AllByRecursion (λ o. IfSome o (λ c. type_of c ≡ t)) os
 
 -- each column is of a category
 abbrev pub AreOf : Category → List (Option DynamicColumn) → Type 0

@@ -2,7 +2,7 @@
 ghost use Rattle.std.specs.Prelude.{◌≡◌, List, Option, OnOk};
 ghost use Rattle.col_dynamic.specs.declared.dynamic_column.DynamicColumn.{DynamicColumn};
 ghost use Rattle.col_sort_rows.specs.Keys.{added, rows_from};
-ghost use Rattle.col_sort.specs.Columns.{number_keys, bool_keys, time_keys, address_keys};
+ghost use Rattle.col_sort.specs.Columns.{number_keys, unsigned_keys, signed_keys, bool_keys, time_keys, address_keys};
 
 use crate::firsts::push_firsts;
 use crate::key_bounds::stated_bounds;
@@ -68,6 +68,62 @@ impl ColumnKey for i128 {
         match column {
             DynamicColumn::I64(column) => stated_bounds(column, &WholeNumbers),
             DynamicColumn::U64(column) => stated_bounds(column, &WholeNumbers),
+            _ => None,
+        }
+    }
+}
+
+impl ColumnKey for u64 {
+    ghost keys = { unsigned_keys };
+
+    fn push_column(
+        alloc: Global,
+        column: &DynamicColumn,
+        segment_ord: u32,
+        rows: &mut KeyedRows<u64>,
+    ) -> Result<(), AllocError> {
+        match column {
+            DynamicColumn::U64(column) => push_firsts(alloc, column, &OwnKeys, segment_ord, rows),
+            DynamicColumn::I64(_)
+            | DynamicColumn::Bool(_)
+            | DynamicColumn::IpAddr(_)
+            | DynamicColumn::DateTime(_)
+            | DynamicColumn::Bytes(_)
+            | DynamicColumn::Str(_) => rows.push_without(segment_ord, column.num_docs()),
+        }
+    }
+
+    fn bounds(column: &DynamicColumn) -> Option<(u64, u64)> {
+        match column {
+            DynamicColumn::U64(column) => stated_bounds(column, &OwnKeys),
+            _ => None,
+        }
+    }
+}
+
+impl ColumnKey for i64 {
+    ghost keys = { signed_keys };
+
+    fn push_column(
+        alloc: Global,
+        column: &DynamicColumn,
+        segment_ord: u32,
+        rows: &mut KeyedRows<i64>,
+    ) -> Result<(), AllocError> {
+        match column {
+            DynamicColumn::I64(column) => push_firsts(alloc, column, &OwnKeys, segment_ord, rows),
+            DynamicColumn::U64(_)
+            | DynamicColumn::Bool(_)
+            | DynamicColumn::IpAddr(_)
+            | DynamicColumn::DateTime(_)
+            | DynamicColumn::Bytes(_)
+            | DynamicColumn::Str(_) => rows.push_without(segment_ord, column.num_docs()),
+        }
+    }
+
+    fn bounds(column: &DynamicColumn) -> Option<(i64, i64)> {
+        match column {
+            DynamicColumn::I64(column) => stated_bounds(column, &OwnKeys),
             _ => None,
         }
     }

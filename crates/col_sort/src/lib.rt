@@ -7,6 +7,7 @@ mod column_key;
 mod firsts;
 mod key_bounds;
 mod key_of;
+mod numbers;
 mod segment_texts;
 mod sort;
 mod texts;

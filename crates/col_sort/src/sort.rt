@@ -11,6 +11,7 @@ ghost use Rattle.col_sort.specs.Columns.{AreOf, SortsColumns, rows_by_cells};
 ghost use Rattle.col_sort.specs.Sorts.{SortsRows};
 
 use crate::by_columns::rows_by_columns;
+use crate::numbers::rows_by_numbers;
 use crate::texts::rows_by_texts;
 use col_common::{ColumnarError, DateTime, FileHandle, Ipv6Addr, RowAddr, RowId};
 use col_dynamic::DynamicColumn;
@@ -101,7 +102,7 @@ fn rows_in_order(
 {
     match column_type {
         ColumnType::I64 | ColumnType::U64 => {
-            Ok(rows_by_columns::<i128>(alloc, columns, counts, reversed)?)
+            Ok(rows_by_numbers(alloc, columns, counts, reversed)?)
         }
         ColumnType::Bool => Ok(rows_by_columns::<bool>(alloc, columns, counts, reversed)?),
         ColumnType::DateTime => Ok(rows_by_columns::<DateTime>(alloc, columns, counts, reversed)?),

@@ -1,16 +1,15 @@
 use Rattle.std.proofs.Common.{map}
 use Rattle.std.proofs.lemmas.Result.{IfOk-weaker}
 use Rattle.col_order.specs.Orders.{address_of}
-use Rattle.col_sort.proofs.TypedLemmas.{numbers-sorted, flags-sorted, times-sorted, addresses-sorted}
+use Rattle.col_sort.proofs.TypedLemmas.{flags-sorted, times-sorted, addresses-sorted}
 use Rattle.col_sort.proofs.AskedLemmas.{numbers-of, terms-of, type-of}
 use Rattle.col_sort.proofs.sort.rows_in_order.Goals as goal
 
-pub returns-in_ok-rows_by_columns-in-I64-clause-ok :
-    goal.returns-in_ok-rows_by_columns-in-I64-clause-ok
-returns-in_ok-rows_by_columns-in-I64-clause-ok c =
+pub returns-in_ok-rows_by_numbers-in-I64-clause-ok :
+    goal.returns-in_ok-rows_by_numbers-in-I64-clause-ok
+returns-in_ok-rows_by_numbers-in-I64-clause-ok c =
     numbers-of c.args.column_type c.args.counts.now c.args.columns.now c.args.reversed _ c.in-I64.is
-    (numbers-sorted c.args.reversed c.args.columns.now c.args.counts.now
-    (map address_of c.in_ok-rows_by_columns-in-I64.field-0.items) c.requires.rows c.in_ok-rows_by_columns-in-I64.ensures)
+    c.in_ok-rows_by_numbers-in-I64.ensures
 
 pub returns-in_ok-rows_by_columns-in-Bool-clause-ok :
     goal.returns-in_ok-rows_by_columns-in-Bool-clause-ok
