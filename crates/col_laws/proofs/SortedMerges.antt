@@ -1,8 +1,9 @@
--- Sorted merges by computed rows: ties, and what happens without the premise that columns are sound.
-use Rattle.std.specs.Prelude.{◌≡◌, ℕ, true, false, List, [], ◌∷◌, pos, Ok, refl}
+-- Sorted merges by computed rows: ties, numbers of two types, and what happens without the premise that columns are sound.
+use Rattle.std.specs.Prelude.{◌≡◌, ℕ, ℤ, true, false, List, [], ◌∷◌, pos, negsuc, Ok, refl}
 use Rattle.col_model.proofs.OnLiterals.{col_model_on_literals}
 use Rattle.col_model.specs.Category.{Slot}
 use Rattle.col_model.specs.Category as categories
+use Rattle.col_model.specs.ColumnType.{ColumnType}
 use Rattle.col_model.specs.ColumnType as types
 use Rattle.col_model.specs.File.{Part, part_of_table}
 use Rattle.col_model.specs.Merge.{merged}
@@ -45,6 +46,38 @@ rising = refl
 falling : sorted_order parts slot true ≡ Ok (shuffle (2 ∷ 2 ∷ []) ((0, 0) ∷ (1, 0) ∷ (1, 1) ∷ (0, 1) ∷ []))
 unfolding col_model_on_literals sorted_order sorted_rows
 falling = refl
+
+-- ---- numbers of two types
+
+-- a table of two rows, whose column "a" has one number each
+abbrev numbers : ColumnType → ℤ → ℤ → Table
+numbers t first second = record {
+  row_count = 2;
+  columns =
+      record {
+        name = 97 ∷ [];
+        column_type = t;
+        content = record {
+          cardinality = full;
+          terms = [];
+          rows = (number first ∷ []) ∷ (number second ∷ []) ∷ [];
+        };
+      } ∷ [];
+}
+
+-- 5 and -1 of i64, and 2 ^ 64 - 1 and 3 of u64
+abbrev mixed : List Part
+mixed =
+    part_of_table (numbers types.i64 (pos 5) (negsuc 0))
+    ∷ part_of_table (numbers types.u64 (pos 18446744073709551615) (pos 3)) ∷ []
+
+mixed_rising : sorted_order mixed slot false ≡ Ok (shuffle (2 ∷ 2 ∷ []) ((0, 1) ∷ (1, 1) ∷ (0, 0) ∷ (1, 0) ∷ []))
+unfolding col_model_on_literals sorted_order sorted_rows
+mixed_rising = refl
+
+mixed_falling : sorted_order mixed slot true ≡ Ok (shuffle (2 ∷ 2 ∷ []) ((1, 0) ∷ (0, 0) ∷ (1, 1) ∷ (0, 1) ∷ []))
+unfolding col_model_on_literals sorted_order sorted_rows
+mixed_falling = refl
 
 -- ---- without the premise that columns are sound: an i64 column has a text
 

@@ -63,7 +63,7 @@ fn sorted<F: FileHandle>(
     ensures { TakesOrder (Some (model.sorted (sort_key_of key.now)))
         readers.old readers.new result }
 {
-    // No memory holds as many files as 32 bits don't count.
+    // A program never has as many files: its words and its script are too short for them.
     if readers.len() > u32::MAX as usize {
         return Err(ColumnarError::OutOfMemory);
     }

@@ -28,8 +28,8 @@ use std::alloc::Global;
 /// points in time and addresses too, false before true, and texts byte by byte. Rows without a
 /// value are least. Rows whose values are equal stand by segment, then by row, also where the order
 /// is reversed. It answers TooLarge where 32 bits don't count the rows of all files, before any
-/// file is read, and InvalidData where some file's column is outside the grammar. Each file is read
-/// at most once.
+/// file is read, and InvalidData where some file's column is outside the grammar. It needs fewer
+/// than 2^32 readers, each of which is read at most once.
 pub fn sorted_order<F: FileHandle>(
     alloc: Global,
     columnar_readers: &mut [ColumnarReader<F>],

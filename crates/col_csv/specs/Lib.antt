@@ -1,0 +1,5 @@
+pub mod Csv
+pub mod Refused
+pub mod Putting
+pub mod Exports
+pub mod ReadBack
