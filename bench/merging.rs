@@ -44,7 +44,7 @@ fn take(len: usize, bytes: &mut &'static [u8]) -> &'static [u8] {
 // Where the values of each row start, and the last end, unless each row has one; and the values.
 pub struct Part<T> { starts: Option<Vec<u32>>, pub vals: Vec<T> }
 
-fn list(bytes: &'static [u8]) -> Vec<u64> { Numbers::open(bytes).unwrap().to_vec() }
+pub fn list(bytes: &'static [u8]) -> Vec<u64> { Numbers::open(bytes).unwrap().to_vec() }
 
 // The rows with a value, under either form.
 fn rows(bytes: &'static [u8]) -> Vec<u64> {
@@ -79,7 +79,7 @@ fn starts(bytes: &'static [u8], num_docs: u32) -> Option<Vec<u32>> {
 
 impl<T: Copy> Part<T> {
     // Of a file that lacks the column no row has a value.
-    fn open(bytes: Option<&'static [u8]>, num_docs: u32, vals: impl Fn(&'static [u8]) -> Vec<T>) -> Part<T> {
+    pub fn open(bytes: Option<&'static [u8]>, num_docs: u32, vals: impl Fn(&'static [u8]) -> Vec<T>) -> Part<T> {
         let Some(bytes) = bytes else {
             return Part { starts: Some(vec![0; num_docs as usize + 1]), vals: vec![] };
         };
@@ -89,7 +89,7 @@ impl<T: Copy> Part<T> {
     }
 
     #[inline(always)]
-    fn places(&self, row: u32) -> Range<usize> {
+    pub fn places(&self, row: u32) -> Range<usize> {
         match &self.starts {
             None => row as usize..row as usize + 1,
             Some(starts) => starts[row as usize] as usize..starts[row as usize + 1] as usize,
