@@ -25,7 +25,7 @@ appends_none a = told_none a.written
 pub appends_more : (a b c : SeenSink) (xs ys : List ℕ) → Appends a b xs → Appends b c ys → Appends a c (xs ++ ys)
 appends_more a b c xs ys first second = told_more a.written b.written c.written xs ys first second
 
-grows_more : (a b c : SeenSink) → Grows a b → Grows b c → Grows a c
+pub grows_more : (a b c : SeenSink) → Grows a b → Grows b c → Grows a c
 grows_more a b c first second = (first.0 ++ second.0, appends_more a b c first.0 second.0 first.1 second.1)
 
 -- a call behind one that was Ok

@@ -7,11 +7,11 @@ use Rattle.col_csv.specs.Csv.{csv_of, IsFlat}
 use Rattle.col_csv.proofs.OnLiterals.{col_csv_on_literals}
 
 -- the text of these lines
-abbrev lines : List (List ℕ) → List ℕ
+abbrev pub lines : List (List ℕ) → List ℕ
 lines ls = flat_map (λ l. l ++ 10 ∷ []) ls
 
 -- a column of a name and a type with these rows
-abbrev column_with : List ℕ → types.ColumnType → List (List ℕ) → List (List Cell) → Column
+abbrev pub column_with : List ℕ → types.ColumnType → List (List ℕ) → List (List Cell) → Column
 column_with name t terms rows = record {
   name = name;
   column_type = t;
@@ -19,18 +19,20 @@ column_with name t terms rows = record {
 }
 
 -- a flag in one row, a time in the other
-abbrev flag_and_time : Table
+abbrev pub flag_and_time : Table
 flag_and_time = record {
   row_count = 2;
   columns = column_with (codes "f") types.bool [] ([] ∷ (number (pos 1) ∷ []) ∷ [])
       ∷ column_with (codes "t") types.datetime [] ((number (negsuc 4) ∷ []) ∷ [] ∷ []) ∷ [];
 }
 
+-- its text
 flag_and_time_text :
     csv_of flag_and_time ≡ lines (codes "#,bool:f,datetime:t" ∷ codes "0,,=-5" ∷ codes "1,=true," ∷ [])
 unfolding col_csv_on_literals
 flag_and_time_text = refl
 
+-- the text says all of it
 flag_and_time_is_flat : IsFlat flag_and_time
 unfolding col_csv_on_literals
 flag_and_time_is_flat = (

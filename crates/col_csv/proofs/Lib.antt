@@ -1,8 +1,17 @@
 pub mod OnLiterals
 mod Exports
-mod TextLemmas
-mod PuttingLemmas
-mod RecordLemmas
-mod ExportLemmas
-mod FileLemmas
+mod Tables
 mod ReadBackLemmas
+mod ListLemmas
+mod RecordLemmas
+mod TurnLemmas
+mod ValueLemmas
+mod FieldLemmas
+mod HeadingLemmas
+mod HeaderLemmas
+mod LeadBackLemmas
+mod TableLemmas
+mod ExactLemmas
+mod HeldLemmas
+mod SizeLemmas
+mod SoundLemmas

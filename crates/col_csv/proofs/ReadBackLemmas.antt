@@ -27,6 +27,7 @@ text-reached (row ∷ rows) all =
       text-reached rows all.1,
     )
 
+-- records that are made so that each is kept
 all-kept : {X : Type 0} (f : X → List (List ℕ)) → ((x : X) → IsKept (f x)) → (xs : List X) → AllByRecursion IsKept (map f xs)
 all-kept f kept [] = tt
 all-kept f kept (x ∷ xs) = (kept x, all-kept f kept xs)
@@ -38,6 +39,7 @@ no-bom [] = refl
 no-bom (b ∷ []) = refl
 no-bom (b ∷ c ∷ rest) = refl
 
+-- The text of each table reads back.
 pub reads-back : TextsReadBack
 unfolding csv_of record_text next_record
 reads-back t = record {

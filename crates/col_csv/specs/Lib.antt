@@ -1,5 +1,4 @@
 pub mod Csv
+pub mod CsvTable
 pub mod Refused
-pub mod Putting
-pub mod Exports
 pub mod ReadBack

@@ -1,15 +1,9 @@
-//! Tables as CSV, written from open files. Contracts see the text of the definition.
+//! Tables as CSV: the texts of tables, the tables of texts, their laws, and why a table isn't
+//! exchanged with CSV. Contracts see the definitions.
 #![tactic(auto)]
 
 mod csv_error;
-mod export;
-mod fields;
 mod laws;
-mod output;
-mod records;
-mod term_texts;
-mod value_texts;
 
 pub use csv_error::CsvError;
-pub use export::export_csv;
-pub use laws::texts_read_back;
+pub use laws::{texts_are_exact, texts_are_sound, texts_lead_back, texts_read_back};

@@ -18,14 +18,16 @@ use Rattle.col_program.specs.Script.{Script, Segment, RowOrder, named, sorted, s
 use Rattle.col_program.specs.Report.{report_of}
 use Rattle.col_model.specs.Refusal.{Refusal, ◌>>=◌, or_refuse, each_ok, invalid_data, status_of}
 
--- what goes to the output: a file that stands for a table, or nothing
+-- what goes to the output: a file that stands for a table, a text, or nothing
 pub data Output : Type 0 where
   as_file : Table → Output
+  as_text : List ℕ → Output
   nothing : Output
 
 -- the bytes are such an output
 abbrev pub IsOutput : Output → List ℕ → Type 0
 IsOutput (as_file table) bytes = StandsFor table bytes
+IsOutput (as_text text) bytes = bytes ≡ text
 IsOutput nothing bytes = bytes ≡ []
 
 -- what goes to the output, with the report's bytes, or the status of a refusal

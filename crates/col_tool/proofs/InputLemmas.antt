@@ -57,7 +57,7 @@ input-rose olds news old new e expected before behind h four =
 -- ---- the one input
 
 -- the input was told where all inputs were
-one-told : (old : SeenFile) (P : List (List ℕ) → Type 0) → IfSome old.told (λ bytes. P (bytes ∷ [])) → IfSome (all_told (old ∷ [])) P
+pub one-told : (old : SeenFile) (P : List (List ℕ) → Type 0) → IfSome old.told (λ bytes. P (bytes ∷ [])) → IfSome (all_told (old ∷ [])) P
 one-told old P h = by old.told h
   where
     by : (o : Option (List ℕ)) → IfSome o (λ bytes. P (bytes ∷ [])) → IfSome (o >>= λ y. Some (y ∷ [])) P

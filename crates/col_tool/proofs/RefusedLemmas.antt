@@ -1,7 +1,7 @@
 -- The statuses of refusals.
-use Rattle.std.proofs.Common.{◌≡◌, ◌==◌, ℕ, suc, zero, Bool, true, false, [], ◌∷◌, Contains, inl, inr, refl, arith}
-use Rattle.std.specs.Prelude.{◌||◌}
-use Rattle.std.proofs.lemmas.List.Elements.{All-contains, All-from_recursion}
+use Rattle.std.proofs.Common.{◌≡◌, ◌==◌, ℕ, suc, zero, Bool, true, false, [], ◌∷◌, ◌++◌, Contains, inl, inr, refl, arith}
+use Rattle.std.specs.Prelude.{◌||◌, ◌⊎◌}
+use Rattle.std.proofs.lemmas.List.Elements.{All-contains, All-from_recursion, Contains-append_left, Contains-append_right}
 use Rattle.col_common.specs.Refused.{code_of}
 use Rattle.col_common.specs.declared.error.ColumnarError.{ColumnarError}
 use Rattle.col_common.specs.declared.error.ColumnarError.TheVariants.{OutOfMemory, ReadFault, WriteFault, InvalidData, BadOrder, BadName, RequiredConflict, CannotCoerce, NumericalConflict, TooLarge, NoCodec, ForcedType, DocOrder, DocOutOfRange, TieBreakerStart, NotUtf8}
@@ -45,6 +45,11 @@ known-among e (inl memory) = rw memory (0, omega arith, refl)
 known-among e (inr (inl fault)) = rw fault (1, omega arith, refl)
 known-among e (inr (inr known)) = rw (known.1, code-answer known.0) (status-among known.0)
 
+-- so has a script that isn't read
+pub read-among : (e : ColumnarError) → (e ≡ OutOfMemory) ⊎ (e ≡ ReadFault) → Contains refusals (code_of e)
+read-among e (inl memory) = rw memory (0, omega arith, refl)
+read-among e (inr fault) = rw fault (1, omega arith, refl)
+
 -- the statuses of refusals are among those of answers
 pub refusals-among : (status : ℕ) → Contains refusals status → Contains answers status
 refusals-among status (k, within, e) = (suc (suc k), omega (arith, within), e)
@@ -78,10 +83,13 @@ answers-among status (zero, within, e) = (0, omega arith, e)
 answers-among status (suc zero, within, e) = (4, omega arith, e)
 answers-among status (suc (suc zero), within, e) = (2, omega arith, e)
 answers-among status (suc (suc (suc zero)), within, e) = (3, omega arith, e)
-answers-among status (suc (suc (suc (suc k))), within, e) = (suc (suc (suc (suc (suc k)))), omega (arith, within), e)
+answers-among status (suc (suc (suc (suc k))), within, e) =
+    let others = 6 ∷ 7 ∷ 8 ∷ 9 ∷ 10 ∷ 11 ∷ 12 ∷ 14 ∷ 15 ∷ 16 ∷ 17 ∷ 20 ∷ 21 ∷ [] in
+    Contains-append_right (0 ∷ 2 ∷ 3 ∷ 4 ∷ 5 ∷ []) (others ++ 22 ∷ 23 ∷ []) status
+    (Contains-append_left others (22 ∷ 23 ∷ []) status (k, omega (arith, within), e))
 
 -- none is that of other words
-abbrev IsAsked : ℕ → Type 0
+abbrev pub IsAsked : ℕ → Type 0
 IsAsked n = (n == 2) ≡ false
 
 answers-asked : (status : ℕ) → Contains answers status → IsAsked status
@@ -101,13 +109,17 @@ answers-asked status among =
     ))
     among
 
--- where the words are known, the status isn't that of others
-pub asked-words : (status : ℕ) (asked : Bool) → Contains answers status → asked ≡ true → Exactly 2 status (asked ≡ false)
-asked-words status true among e = record {
-  only = λ two. let asked = rw two at (answers-asked status among) in cc;
+-- where the words are known, a status that isn't that of others
+pub asked-other : (status : ℕ) (asked : Bool) → IsAsked status → asked ≡ true → Exactly 2 status (asked ≡ false)
+asked-other status true other e = record {
+  only = λ two. let asked = rw two at other in cc;
   always = λ unasked. cc;
 }
-asked-words status false among e = cc
+asked-other status false other e = cc
+
+-- where the words are known, the status isn't that of others
+pub asked-words : (status : ℕ) (asked : Bool) → Contains answers status → asked ≡ true → Exactly 2 status (asked ≡ false)
+asked-words status asked among e = asked-other status asked (answers-asked status among) e
 
 -- where the words are none that are known, it is
 pub unknown-words : (status : ℕ) (known : Bool) → known ≡ false → status ≡ 2 → Exactly 2 status (known ≡ false)

@@ -2,7 +2,7 @@
 use Rattle.std.specs.Prelude.{◌≡◌, ℕ, List, [], ◌∷◌, ◌++◌, codes, flat_map, refl}
 use Rattle.col_program.proofs.OnLiterals.{col_program_on_literals}
 use Rattle.col_program.specs.Outcome.{Outcome, done, refused, outcome}
-use Rattle.col_tool.specs.Upgrades.{outcome_of_words}
+use Rattle.col_tool.specs.Expected.{outcome_of_words}
 
 -- the status, or the report's bytes
 abbrev answer_of : Outcome → List (List ℕ)

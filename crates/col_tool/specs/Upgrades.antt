@@ -1,8 +1,8 @@
--- A file that is written again, and what the program answers, whatever its words ask for. States
--- docs/RULES.md, The command line, Upgraded files and Statuses.
-use Rattle.std.specs.Prelude.{ℕ, ◌==◌, ◌&&◌, Bool, true, false, List, [], ◌∷◌, length, codes, bytes_eq, if◌then◌else◌, Option, Some, None}
+-- A file that is written again. States docs/RULES.md, The command line, Upgraded files and
+-- Statuses.
+use Rattle.std.specs.Prelude.{ℕ, ◌==◌, ◌&&◌, Bool, true, false, List, [], ◌∷◌, codes, bytes_eq, Option, Some, None}
 use Rattle.col_model.specs.File.{table_of}
-use Rattle.col_program.specs.Outcome.{Outcome, done, refused, as_file, outcome}
+use Rattle.col_program.specs.Outcome.{Outcome, done, refused, as_file}
 use Rattle.col_program.specs.Report.{report_of}
 use Rattle.col_model.specs.Table.{Table}
 
@@ -22,9 +22,3 @@ upgraded (Some t) = done (as_file t) (report_of t [] true)
 abbrev pub outcome_of_upgrade : List (List ℕ) → Outcome
 outcome_of_upgrade (bytes ∷ []) = upgraded (table_of bytes)
 outcome_of_upgrade _ = refused 2
-
--- The outcome of all words. An upgrade reads no script.
-unfoldable pub outcome_of_words : List (List ℕ) → List (List ℕ) → List ℕ → Outcome
-outcome_of_words words inputs script =
-    if are_upgrade_words words (length inputs) then outcome_of_upgrade inputs
-    else outcome words inputs script

@@ -20,7 +20,9 @@ pub use col_common::{
     ByteCount, ColumnarError, DateTime, DocId, InvalidData, Ipv6Addr, Iterable, RowAddr, RowId,
     Walk,
 };
-pub use col_csv::{CsvError, export_csv};
+pub use col_csv::CsvError;
+pub use col_csv_export::export_csv;
+pub use col_csv_import::{import_csv, import_text};
 pub use col_dynamic::{
     BytesColumn, Column, ColumnSpaceUsage, ColumnType, DynamicColumn, HasAssociatedColumnType,
     IpColumn, NumColumn, NumericalType, NumericalValue, StrColumn,

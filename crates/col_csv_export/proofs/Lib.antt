@@ -1,0 +1,6 @@
+mod TextLemmas
+mod PuttingLemmas
+mod RecordLemmas
+mod BlockLemmas
+mod ExportLemmas
+mod FileLemmas

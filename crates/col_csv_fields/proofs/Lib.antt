@@ -1,0 +1,7 @@
+mod NumberLemmas
+mod ValueLemmas
+mod SignedLemmas
+mod LowerLemmas
+mod DigitLemmas
+mod AddressLemmas
+mod HeadingLemmas

@@ -1,0 +1,12 @@
+pub use Rattle.col_csv.specs.CsvTable
+pub use Rattle.col_model.specs.Recording
+pub use Rattle.col_types.specs.Kinds
+pub mod Made
+pub mod Columns
+pub mod Rows
+pub mod Headings
+pub mod Recorders
+pub mod Seen
+pub mod Readers
+pub mod Filled
+pub mod Imports

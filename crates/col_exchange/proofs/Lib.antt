@@ -1,0 +1,3 @@
+mod ExportLemmas
+mod ImportLemmas
+mod ReportLemmas
