@@ -98,8 +98,8 @@ impl CompactSpaceDecompressor {
         self.params.num_vals()
     }
 
-    // The least and the greatest code, 0 without numbers.
-    pub(crate) fn code_bounds(&self) -> (u32, u32)
+    /// The least and the greatest code, 0 without numbers.
+    pub fn code_bounds(&self) -> (u32, u32)
         ensures least { result.0 ≡ least_of self.now.codes }
         ensures greatest { result.1 ≡ greatest_of self.now.codes }
     {
@@ -110,15 +110,15 @@ impl CompactSpaceDecompressor {
         (1, self.params.max_code())
     }
 
-    // The greatest code that a number may have.
-    pub(crate) fn max_code(&self) -> u32
+    /// The greatest code that a number may have.
+    pub fn max_code(&self) -> u32
         ensures { result ≡ code_count self.now.ranges }
     {
         self.params.max_code()
     }
 
-    // The number that a code stands for.
-    pub(crate) fn compact_to_u128(&self, compact: u32) -> u128
+    /// The number that a code stands for.
+    pub fn compact_to_u128(&self, compact: u32) -> u128
         requires first { 1 ≤ compact }
         requires last { compact ≤ code_count self.now.ranges }
         ensures { result ≡ coded_number self.now.ranges compact }

@@ -5,7 +5,7 @@ use Rattle.std.specs.declared.cmp.Ordering.{Ordering}
 use Rattle.std.specs.declared.cmp.Ordering.TheVariants.{Less, Equal, Greater}
 use Rattle.std.specs.Ordering.{match_ordering, nat_cmp}
 use Rattle.std.specs.Cmp.Lexicographic.{slice_cmp}
-use Rattle.std.proofs.lemmas.Bool.{and_left, leb-true, lt-leb, or_from}
+use Rattle.std.proofs.lemmas.Bool.{and_left, lt-leb, or_from}
 use Rattle.std.proofs.lemmas.List.Sums.{sum_by-cons}
 use Rattle.col_model.specs.AddressList.{codes_needed, least_codes}
 use Rattle.col_model.specs.ColumnType.{ColumnType}
@@ -15,6 +15,7 @@ use Rattle.col_model.specs.Sorted.{distinct_items, with_item}
 use Rattle.col_model.specs.Table.{Cell, number, text, Content}
 use Rattle.col_model.specs.U64List.{joined_lists}
 use Rattle.col_model.specs.Written.{text_of, texts_of}
+use Rattle.col_model.proofs.CodeCounts.{length-distinct, three-codes}
 use Rattle.col_model.proofs.ListLaws.{cell_count-cons}
 use Rattle.col_csv.proofs.FieldLemmas.{weights}
 use Rattle.col_csv.proofs.HeldLemmas.{weights-append}
@@ -84,33 +85,6 @@ dictionary-few cells =
 
 -- ---- codes
 
--- a number and the gap behind it need at most three codes
-needed-few : (xs : List ℕ) → codes_needed xs ≤ 3 * length xs
-needed-few [] = omega arith
-needed-few (x ∷ []) = omega arith
-needed-few (x ∷ y ∷ zs) = let gap = by (nat_le (y - x - 1) 2) refl in let later = needed-few (y ∷ zs) in omega (arith, gap, later)
-  where
-    by : (b : Bool) → nat_le (y - x - 1) 2 ≡ b → (if b then y - x - 1 else 0) ≤ 2
-    by true e = leb-true (y - x - 1) 2 e
-    by false e = omega arith
-
--- one more number
-with-few : (x : ℕ) (ys : List ℕ) → length (with_item nat_cmp x ys) ≤ suc (length ys)
-with-few x [] = omega arith
-with-few x (y ∷ ys) = by (nat_cmp x y) (with-few x ys)
-  where
-    by : (o : Ordering) → length (with_item nat_cmp x ys) ≤ suc (length ys)
-        → length (match_ordering o (x ∷ y ∷ ys) (y ∷ ys) (y ∷ with_item nat_cmp x ys)) ≤ suc (suc (length ys))
-    by Less later = omega arith
-    by Equal later = omega arith
-    by Greater later = omega (arith, later)
-
--- there are at most as many distinct numbers
-distinct-few : (xs : List ℕ) → length (distinct_items nat_cmp xs) ≤ length xs
-unfolding distinct_items
-distinct-few [] = omega arith
-distinct-few (x ∷ xs) = let one = with-few x (distinct_items nat_cmp xs) in let later = distinct-few xs in omega (arith, one, later)
-
 -- and at most as many numbers as cells
 numbers-few : (cells : List Cell) → length (filter_map unsigned_number cells) ≤ weights cells
 numbers-few [] = omega arith
@@ -122,8 +96,8 @@ numbers-few (text s ∷ cells) = let later = numbers-few cells in omega (arith, 
 codes-few : (cells : List Cell) → least_codes (filter_map unsigned_number cells) ≤ 1 + 3 * weights cells
 codes-few cells =
     let a = numbers-few cells in
-    let b = distinct-few (filter_map unsigned_number cells) in
-    let c = needed-few (distinct_items nat_cmp (filter_map unsigned_number cells)) in
+    let b = length-distinct (filter_map unsigned_number cells) in
+    let c = three-codes (distinct_items nat_cmp (filter_map unsigned_number cells)) in
     omega (arith, a, b, c)
 
 -- ---- limits

@@ -110,8 +110,8 @@ fn parse_key(alloc: Global, bytes: &[u8]) -> Result<ColumnKey, ColumnarError>
     Ok(ColumnKey { name, column_type })
 }
 
-// The bytes as a name.
-fn name_of(bytes: &[u8]) -> Option<&str>
+/// The bytes as a name: UTF-8 without a zero byte.
+pub fn name_of(bytes: &[u8]) -> Option<&str>
     ensures { option_map (λ name. name.now) result ≡ only_if (is_name bytes.now) bytes.now }
 {
     if !has_no_zero(bytes) {

@@ -18,7 +18,7 @@ pub use column_serializer::ColumnSerializer;
 pub use column_type_category::ColumnTypeCategory;
 pub use file_footer::{FOOTER_NUM_BYTES, Footer, read_footer, serialize_footer};
 pub use format_version::{VERSION_FOOTER_NUM_BYTES, footer, parse_footer};
-pub use key_table::{KeyedLength, parse_key_table, take_all};
+pub use key_table::{KeyedLength, name_of, parse_key_table, take_all};
 pub use laws::{categories_compare_as_their_places, keys_compare_by_name_then_code};
 pub use serializer::ColumnarSerializer;
 pub use slot_key::SlotKey;

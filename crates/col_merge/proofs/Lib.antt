@@ -1,5 +1,5 @@
 mod StackLemmas
-mod JoinedLemmas
+pub mod JoinedLemmas
 mod EachLemmas
 mod NameLemmas
 pub mod PartLemmas

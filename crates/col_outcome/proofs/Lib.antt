@@ -1,12 +1,12 @@
 pub mod PartLemmas
 mod DecidedLemmas
-mod InputLemmas
+pub mod InputLemmas
 mod MadeFileLemmas
 mod MakeLemmas
-mod MergedFileLemmas
+pub mod MergedFileLemmas
 mod MergedLemmas
 mod OpeningLemmas
-mod OrderLemmas
+pub mod OrderLemmas
 mod SegmentLemmas
 mod StayLemmas
 mod TakenLemmas

@@ -89,6 +89,21 @@ where
     }
 }
 
+impl<External, Internal, V, M> MonotonicColumn<External, Internal, V, M>
+where
+    External: PartialOrd + Copy,
+    Internal: PartialOrd + Copy,
+    V: ColumnValues<External>,
+    M: StrictlyMonotonicFn<External, Internal>,
+{
+    /// The list, and the map that it is seen through.
+    pub fn parts(&self) -> (&V, &M)
+        ensures { self.now.values ≡ map_by (M.there result.1.now) (V.values result.0.now) }
+    {
+        (&self.values, &self.mapping)
+    }
+}
+
 impl<Internal, V, M> MonotonicColumn<u64, Internal, V, M>
 where
     Internal: PartialOrd + Copy,

@@ -42,7 +42,8 @@ more : {X : Type 0} (t : ColumnType) (cell : X → Cell) (ps : List (ℕ × X)) 
 unfolding records_of
 more t cell ps d x = map-push _ ps (d, x)
 
-none-records : {X : Type 0} (t : ColumnType) (cell : X → Cell) → records_of t cell [] ≡ []
+-- no values are no records
+pub none-records : {X : Type 0} (t : ColumnType) (cell : X → Cell) → records_of t cell [] ≡ []
 unfolding records_of
 none-records t cell = refl
 

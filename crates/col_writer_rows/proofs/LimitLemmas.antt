@@ -2,21 +2,20 @@
 use Rattle.std.proofs.Common.{◌≡◌, ◌<◌, ◌≤◌, ℕ, suc, ◌+◌, ◌-◌, ◌*◌, ◌^◌, List, [], ◌∷◌, ◌++◌, length, map, sum, not, Bool, true, false, cond, refl, sym, ap, ◌∙◌, arith}
 use Rattle.std.specs.Prelude.{nat_le, max, ◌&&◌, ◌||◌, ◌==◌, count_by, filter_map}
 use Rattle.std.specs.List.{list_all, zip}
-use Rattle.std.specs.declared.cmp.Ordering.{Ordering}
-use Rattle.std.specs.declared.cmp.Ordering.TheVariants.{Less, Equal, Greater}
-use Rattle.std.specs.Ordering.{nat_cmp, match_ordering}
-use Rattle.std.proofs.lemmas.Bool.{leb-true, lt-leb}
+use Rattle.std.specs.Ordering.{nat_cmp}
+use Rattle.std.proofs.lemmas.Bool.{lt-leb}
 use Rattle.std.proofs.lemmas.List.Sums.{sum_by-cons, sum-map}
 use Rattle.std.proofs.lemmas.List.{length-map}
-use Rattle.col_model.specs.AddressList.{gap_codes, codes_needed, least_codes}
+use Rattle.col_model.specs.AddressList.{codes_needed, least_codes}
 use Rattle.col_model.specs.Column.{number_cell}
 use Rattle.col_model.specs.ColumnType.{ColumnType}
 use Rattle.col_model.specs.ColumnType as types
 use Rattle.col_model.specs.Limits.{tightest, cell_count, is_multivalued, dictionary_length, unsigned_number, has_many_codes, is_too_large}
 use Rattle.col_model.specs.Lookup.{is_at_most}
-use Rattle.col_model.specs.Sorted.{inserted, sorted_items, with_item, distinct_items}
+use Rattle.col_model.specs.Sorted.{inserted, sorted_items, distinct_items}
 use Rattle.col_model.specs.Table.{Cell, full, optional, multivalued}
 use Rattle.col_model.specs.U64List.{joined_lists}
+use Rattle.col_model.proofs.CodeCounts.{length-distinct, three-codes}
 use Rattle.col_model.proofs.ListLaws.{cell_count-cons}
 use Rattle.std.proofs.lemmas.List.Elements.{filter_map-append}
 use Rattle.col_writer_rows.specs.Documents.{docs_of}
@@ -157,33 +156,6 @@ codes-needed ds docs xs =
     ∙ ap (λ r. nat_le (2 ^ 32) (least_codes r)) (rows-again (picked_rows ds (zip docs xs)))
 
 -- ---- few addresses
-
-length-with_item : (x : ℕ) (ks : List ℕ) → length (with_item nat_cmp x ks) ≤ length ks + 1
-length-with_item x [] = omega arith
-length-with_item x (k ∷ ks) = go (nat_cmp x k) (length-with_item x ks)
-  where
-    go : (r : Ordering) → length (with_item nat_cmp x ks) ≤ length ks + 1
-        → length (match_ordering r (x ∷ k ∷ ks) (k ∷ ks) (k ∷ with_item nat_cmp x ks)) ≤ length (k ∷ ks) + 1
-    go Less h = omega arith
-    go Equal h = omega arith
-    go Greater h = omega arith
-
-length-distinct : (xs : List ℕ) → length (distinct_items nat_cmp xs) ≤ length xs
-unfolding distinct_items
-length-distinct [] = omega arith
-length-distinct (x ∷ xs) = omega (arith, length-distinct xs, length-with_item x (distinct_items nat_cmp xs))
-
-short-gap : (x y : ℕ) → gap_codes x y ≤ 2
-short-gap x y = go (nat_le (y - x - 1) 2) refl
-  where
-    go : (b : Bool) → nat_le (y - x - 1) 2 ≡ b → cond b (y - x - 1) 0 ≤ 2
-    go true e = leb-true (y - x - 1) 2 e
-    go false e = omega arith
-
-three-codes : (xs : List ℕ) → codes_needed xs ≤ 3 * length xs
-three-codes [] = omega arith
-three-codes (x ∷ []) = omega arith
-three-codes (x ∷ y ∷ zs) = omega (arith, short-gap x y, three-codes (y ∷ zs))
 
 -- so many addresses need few codes
 few-codes : (xs : List ℕ) → length xs ≤ 1431655765 → nat_le (2 ^ 32) (least_codes xs) ≡ false
