@@ -3,7 +3,7 @@ use Rattle.std.specs.Prelude.{◌≡◌, ℕ, pos, negsuc, List, [], ◌∷◌, 
 use Rattle.col_model.specs.ColumnType as types
 use Rattle.col_model.specs.Limits.{tightest}
 use Rattle.col_model.specs.Table.{Cell, number, text, Column, Table}
-use Rattle.col_csv.specs.Csv.{csv_of, IsFlat}
+use Rattle.col_csv.specs.Csv.{csv_of}
 use Rattle.col_csv.proofs.OnLiterals.{col_csv_on_literals}
 
 -- the text of these lines
@@ -31,14 +31,6 @@ flag_and_time_text :
     csv_of flag_and_time ≡ lines (codes "#,bool:f,datetime:t" ∷ codes "0,,=-5" ∷ codes "1,=true," ∷ [])
 unfolding col_csv_on_literals
 flag_and_time_text = refl
-
--- the text says all of it
-flag_and_time_is_flat : IsFlat flag_and_time
-unfolding col_csv_on_literals
-flag_and_time_is_flat = (
-  record { few = refl; cardinality = refl; terms = refl },
-  (record { few = refl; cardinality = refl; terms = refl }, tt),
-)
 
 -- a table with no columns and no rows
 nothing_text : csv_of (record { row_count = 0; columns = [] }) ≡ lines (codes "#" ∷ [])

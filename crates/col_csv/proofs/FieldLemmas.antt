@@ -4,7 +4,7 @@ use Rattle.std.specs.Prelude.{Result}
 use Rattle.std.specs.List.{list_all}
 use Rattle.std.specs.Result.{result_ok}
 use Rattle.std.specs.Int.Digits.{number_from_digits}
-use Rattle.std.proofs.lemmas.Bool.{and_parts, and_from, eqb-true, lt-ltb}
+use Rattle.std.proofs.lemmas.Bool.{and_parts, and_from, eqb-true}
 use Rattle.std.proofs.lemmas.Option.{none-some, same_Some}
 use Rattle.hex.specs.Hex.{IsBytes, decode_of}
 use Rattle.hex.specs.declared.error.FromHexError.{FromHexError}
@@ -15,6 +15,7 @@ use Rattle.col_model.specs.ColumnType as types
 use Rattle.col_model.specs.Limits.{is_of_type}
 use Rattle.col_model.specs.Sound.{are_bytes, has_bytes}
 use Rattle.col_model.specs.Table.{Cell, number, text}
+use Rattle.col_model.proofs.DecodedColumns.{bytes-are}
 use Rattle.col_model.proofs.DecodedNumbers.{if-of, step-of}
 use Rattle.col_model.proofs.OrderingLaws.{bytes_eq-true}
 use Rattle.col_csv.specs.Csv.{equals, field_of, value_text}
@@ -90,11 +91,6 @@ decoded-is s b e = by (decode_of s) refl e
         subst (λ x. IsBytes x × (length s ≡ 2 * length x)) (same_Some x b q) (ok.3, ok.2)
     by (Err x) p q = absurd (none-some b q)
 
--- places of bytes, as a test
-pub from-places : (s : List ℕ) → IsBytes s → are_bytes s ≡ true
-from-places [] h = refl
-from-places (b ∷ s) h = and_from _ (are_bytes s) (lt-ltb b 256 (h 0)) (from-places s (λ i. h (suc i)))
-
 -- how much a cell holds, with one for itself
 abbrev pub weight : Cell → ℕ
 weight (number z) = 1
@@ -123,7 +119,7 @@ spelled-held types.bytes s c e h =
     let d = step-of (digit_bytes s) (λ b. Some (text b)) c e in
     let is = decoded-is s d.x d.first in
     let long = is.1 in
-    subst (IsHeld (length s)) (same_Some _ c d.rest) (omega (arith, long), from-places d.x is.0)
+    subst (IsHeld (length s)) (same_Some _ c d.rest) (omega (arith, long), bytes-are d.x is.0)
 
 -- cells of a field hold no more than the field ..
 pub field-held : (t : ColumnType) (field : List ℕ) (cells : List Cell) → AreCellsOf t field cells → are_bytes field ≡ true

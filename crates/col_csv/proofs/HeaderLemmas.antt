@@ -14,14 +14,11 @@ use Rattle.col_model.specs.Table.{Column}
 use Rattle.col_model.proofs.DecodedNumbers.{if-of, step-of}
 use Rattle.col_model.proofs.ListLaws.{map-map, filter-map}
 use Rattle.col_model.proofs.OrderingLaws.{bytes_eq-true}
+use Rattle.col_model.proofs.SoundTables.{AreNamed}
 use Rattle.col_csv.specs.Csv.{header_fields, heading}
 use Rattle.col_csv.specs.CsvTable.{key_of_heading, keys_of_header}
 use Rattle.col_csv.proofs.HeadingLemmas.{heading-is, heading_text, key-again}
 use Rattle.col_csv.proofs.ListLemmas.{each-some, some-more}
-
--- names of columns
-abbrev pub AreNamed : List Column → Type 0
-AreNamed cs = AllByRecursion (λ c. is_name c.name ≡ true) cs
 
 -- the headings of columns lead back to their keys
 headings-again : (cs : List Column) → AreNamed cs → for_each key_of_heading (map heading cs) ≡ Some (map key_of_column cs)

@@ -6,7 +6,7 @@ use Rattle.std.proofs.lemmas.Bool.{and_parts, eqb-true, lt-ltb}
 use Rattle.std.proofs.lemmas.List.{drop_more, length-append, take-append-drop, take_at}
 use Rattle.std.proofs.lemmas.List.Quantifiers.{position-Some}
 use Rattle.col_common.specs.Reading.{◌>>=◌, only_if}
-use Rattle.col_model.specs.ColumnType.{ColumnType, is_numerical, type_name}
+use Rattle.col_model.specs.ColumnType.{ColumnType, type_name}
 use Rattle.col_model.specs.ColumnType as types
 use Rattle.col_model.specs.Keys.{Key, is_name}
 use Rattle.col_model.proofs.DecodedNumbers.{if-of, step-of}

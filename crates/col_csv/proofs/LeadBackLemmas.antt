@@ -15,11 +15,11 @@ use Rattle.col_model.specs.Lookup.{row_of}
 use Rattle.col_model.specs.Sound.{key_of_column, has_bytes, is_row_of, IsSoundColumn, IsSound}
 use Rattle.col_model.specs.Table.{Cell, Cardinality, full, optional, multivalued, Column, Table}
 use Rattle.col_model.proofs.OrderingLaws.{bytes_eq-same}
-use Rattle.col_model.proofs.SoundTables.{rows-bytes}
+use Rattle.col_model.proofs.SoundTables.{rows-bytes, sound-named}
 use Rattle.col_csv.specs.Csv.{csv_of, field_of, header_fields, heading, IsFlat, IsFlatColumn, records_of, row_fields, row_records}
 use Rattle.col_csv.specs.CsvTable.{cells_of_field, column_of_fields, flat_content, is_record_of, numbered, placed, table_of_csv, table_of_records, TextsLeadBack}
 use Rattle.col_csv.proofs.FieldLemmas.{field-again}
-use Rattle.col_csv.proofs.HeaderLemmas.{AreNamed, keys-again, sound-keys}
+use Rattle.col_csv.proofs.HeaderLemmas.{keys-again, sound-keys}
 use Rattle.col_csv.proofs.ListLemmas.{drop-step, some-more}
 use Rattle.col_csv.proofs.ReadBackLemmas.{reads-back}
 use Rattle.col_csv.proofs.TurnLemmas.{records-found}
@@ -145,11 +145,6 @@ are-whole : (n : ℕ) (cs : List Column) → AllByRecursion IsFlatColumn cs → 
 are-whole n [] f s = tt
 are-whole n (c ∷ cs) f s = (record { flat = f.0; sound = s.0 }, are-whole n cs f.1 s.1)
 
--- and has a name
-are-named : (n : ℕ) (cs : List Column) → AllByRecursion (IsSoundColumn n) cs → AreNamed cs
-are-named n [] s = tt
-are-named n (c ∷ cs) s = (s.0.name, are-named n cs s.1)
-
 -- the records of a table lead back to it
 records-again : (t : Table) → IsFlat t → IsSound t → table_of_records (records_of t.columns t.row_count) ≡ Some t
 records-again t flat sound =
@@ -160,7 +155,7 @@ records-again t flat sound =
     λ t. only_if (list_all (is_record_of (length (header_fields cs))) (numbered rows)) t in
     ap (λ o. o >>= λ keys. for_each (column_of_fields rows) (placed keys)
     >>= λ columns. whole (record { row_count = length rows; columns = columns }))
-    (keys-again cs (are-named n cs sound.columns) (sound-keys cs sound.ascending sound.one_numerical))
+    (keys-again cs (sound-named n cs sound.columns) (sound-keys cs sound.ascending sound.one_numerical))
     ∙ ap (λ o. o >>= λ columns. whole (record { row_count = length rows; columns = columns }))
     (columns-again cs n 1 cs (λ d. refl) (are-whole n cs flat sound.columns))
     ∙ ap (λ b. only_if b (record { row_count = length rows; columns = cs })) (numbers-again cs n 0 n)

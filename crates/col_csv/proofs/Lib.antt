@@ -5,7 +5,7 @@ mod ReadBackLemmas
 mod ListLemmas
 mod RecordLemmas
 mod TurnLemmas
-mod ValueLemmas
+pub mod ValueLemmas
 mod FieldLemmas
 mod HeadingLemmas
 mod HeaderLemmas

@@ -2,23 +2,23 @@
 use Rattle.std.proofs.Common.{◌≡◌, ℕ, ◌+◌, ◌*◌, ◌≤◌, ◌<◌, ◌^◌, Bool, true, false, List, [], ◌∷◌, map, filter_map, length, refl, sym, ◌∙◌, ap, subst, arith}
 use Rattle.std.specs.Prelude.{if◌then◌else◌}
 use Rattle.std.specs.List.{list_all, AllByRecursion}
-use Rattle.std.proofs.lemmas.Bool.{and_parts, and_from}
+use Rattle.std.proofs.lemmas.Bool.{and_parts}
 use Rattle.csv.specs.Reading.{default_config, is_bom, records, strip_bom}
 use Rattle.csv.specs.declared.parser.State.TheVariants as st
 use Rattle.col_common.specs.Ascending.{is_ascending}
-use Rattle.col_model.specs.ColumnType.{ColumnType, has_terms}
 use Rattle.col_model.specs.Keys.{is_name, key_bytes}
 use Rattle.col_model.specs.Limits.{is_of_type}
 use Rattle.col_model.specs.Sound.{are_bytes, has_bytes, is_among, is_row_of, key_of_column, IsSoundColumn, IsSound}
-use Rattle.col_model.specs.Table.{Cell, Column, Table}
+use Rattle.col_model.specs.Table.{Column, Table}
 use Rattle.col_model.specs.U64List.{joined_lists}
 use Rattle.col_model.specs.Written.{text_of, texts_of}
+use Rattle.col_model.proofs.DecodedColumns.{bytes-are}
 use Rattle.col_model.proofs.ListLaws.{map-map}
-use Rattle.col_model.proofs.SoundTables.{cells-among, distinct-ascend, is_number, rows-all, texts-bytes, tightest-rows}
-use Rattle.col_model.proofs.WrittenSound.{number-of, texts-none}
+use Rattle.col_model.proofs.MergedSound.{all-numbers}
+use Rattle.col_model.proofs.SoundTables.{cells-among, distinct-ascend, rows-all, texts-bytes, tightest-rows}
+use Rattle.col_model.proofs.WrittenSound.{texts-none}
 use Rattle.col_program.specs.Outcome.{max_script_length}
 use Rattle.col_csv.specs.CsvTable.{table_of_csv, TextsAreSound}
-use Rattle.col_csv.proofs.FieldLemmas.{from-places}
 use Rattle.col_csv.proofs.HeaderLemmas.{numbers-named}
 use Rattle.col_csv.proofs.HeldLemmas.{are-held}
 use Rattle.col_csv.proofs.RecordLemmas.{records-bytes, records-size, size, total}
@@ -26,14 +26,6 @@ use Rattle.col_csv.proofs.SizeLemmas.{within-limits}
 use Rattle.col_csv.proofs.TableLemmas.{IsTableOf, StandFrom, StandsAt, has-table}
 
 -- ---- columns
-
--- cells of a type without terms are numbers
-are-numbers : (t : ColumnType) (cells : List Cell) → has_terms t ≡ false → list_all (is_of_type t) cells ≡ true
-    → list_all is_number cells ≡ true
-are-numbers t [] e h = refl
-are-numbers t (c ∷ cells) e h =
-    let parts = and_parts (is_of_type t c) (list_all (is_of_type t) cells) h in
-    and_from _ _ (number-of t c e parts.0) (are-numbers t cells e parts.1)
 
 -- records of bytes that hold little
 pub record AreSmall (rows : List (List (List ℕ))) : Type 0 where
@@ -60,7 +52,7 @@ column-sound rows a c named small stands =
       ascending = ap is_ascending terms ∙ distinct-ascend (filter_map text_of cells);
       among = ap (λ terms. list_all (list_all (is_among terms)) found) terms
           ∙ sym (rows-all (is_among (texts_of cells)) found) ∙ cells-among cells;
-      without = λ e. terms ∙ texts-none cells (are-numbers t cells e (rows-all (is_of_type t) found ∙ held.of_type));
+      without = λ e. terms ∙ texts-none cells (all-numbers t cells e (rows-all (is_of_type t) found ∙ held.of_type));
       limits = within-limits t c.content stands.flat.few terms (omega (arith, little, few));
     }
 
@@ -144,5 +136,5 @@ pub are-sound : TextsAreSound
 unfolding table_of_csv
 are-sound bytes t is_bytes short e =
     let has = has-table (records default_config (strip_bom bytes)) t e in
-    let small = subst AreSmall has.are (records-small bytes (from-places bytes is_bytes) short) in
+    let small = subst AreSmall has.are (records-small bytes (bytes-are bytes is_bytes) short) in
     table-sound has.header has.rows t has.is (behind-first has.header has.rows small)

@@ -36,7 +36,7 @@ no-sign n h =
     (minus, ap (λ b. drop (cond b 1 0) (decimal n)) plus)
 
 -- a number that isn't negative is read again
-unsigned-again : (n : ℕ) → n < 2 ^ 64 → signed_digits_value 10 (decimal n) ≡ pos n
+pub unsigned-again : (n : ℕ) → n < 2 ^ 64 → signed_digits_value 10 (decimal n) ≡ pos n
 unsigned-again n h =
     let s = no-sign n h in
     let d = decimal_is_IsNumeral n h in
@@ -64,7 +64,7 @@ by-places (b ∷ s) h zero = ltb-true b 256 (and_parts _ (are_bytes s) h).0
 by-places (b ∷ s) h (suc i) = by-places s (and_parts _ (are_bytes s) h).1 i
 
 -- numbers below 256 are bytes
-below-places : (s : List ℕ) → AreBelow 256 s → IsBytes s
+pub below-places : (s : List ℕ) → AreBelow 256 s → IsBytes s
 below-places [] h i = omega arith
 below-places (b ∷ s) h zero = h.0
 below-places (b ∷ s) h (suc i) = below-places s h.1 i
