@@ -1,5 +1,5 @@
 -- Texts of hexadecimal digits as addresses.
-use Rattle.std.proofs.Common.{◌≡◌, ◌<◌, ◌^◌, ◌∙◌, ℕ, zero, suc, Bool, true, false, List, [], ◌∷◌, length, bytes_eq, Option, Some, None, Result, Ok, Err, refl, sym, ap, subst, arith}
+use Rattle.std.proofs.Common.{◌≡◌, ◌<◌, ◌^◌, ◌∙◌, ℕ, Bool, true, false, List, length, bytes_eq, Option, Some, None, Result, Ok, Err, refl, sym, ap, subst, arith}
 use Rattle.std.specs.Prelude.{◌&&◌}
 use Rattle.std.specs.Int.{to_be_bytes, w128}
 use Rattle.std.specs.Int.Digits.{number_from_digits}
@@ -11,15 +11,16 @@ use Rattle.std.proofs.lemmas.Slice.Eq.{bytes_eq-Decides}
 use Rattle.hex.specs.Hex.{IsBytes, decode_of, decode_sized, encode_lower}
 use Rattle.hex.specs.declared.error.FromHexError.{FromHexError}
 use Rattle.hex.proofs.HexLemmas.{decode_of-ok, decode_sized-twice, decode_sized-ok, decode_sized-encode_lower}
-use Rattle.col_common.specs.Ascending.{AreBelow}
 use Rattle.col_common.specs.Reading.{◌>>=◌, only_if}
 use Rattle.col_common.proofs.OctetLemmas.{octets_again, octets_closed, are_octets}
 use Rattle.col_model.specs.ColumnType as types
 use Rattle.col_model.specs.Limits.{is_of_type}
 use Rattle.col_model.specs.Table.{Cell}
+use Rattle.col_model.proofs.OneFormLaws.{bytes_by_recursion}
 use Rattle.col_types.specs.Cells.{unsigned_cell}
 use Rattle.col_csv.specs.Csv.{value_text}
 use Rattle.col_csv.specs.CsvTable.{value_of_text}
+use Rattle.col_csv.proofs.ValueLemmas.{below-places}
 use Rattle.col_csv_fields.specs.Fields.{is_lower_digit}
 use Rattle.col_csv_fields.proofs.LowerLemmas.{lower-again, lower-digits}
 
@@ -44,19 +45,9 @@ address-if s = go (decode_of s)
     go (Err e) = refl
     go (Ok b) = refl
 
--- bytes by their places
-is-bytes : (xs : List ℕ) → AreBelow 256 xs → IsBytes xs
-is-bytes [] h i = omega arith
-is-bytes (x ∷ xs) h zero = h.0
-is-bytes (x ∷ xs) h (suc i) = is-bytes xs h.1 i
-
--- and one by one
-are-below : (xs : List ℕ) → IsBytes xs → AreBelow 256 xs
-are-below [] h = tt
-are-below (x ∷ xs) h = (h 0, are-below xs (λ i. h (suc i)))
-
+-- the octets of an address are bytes
 octets-bytes : (n : ℕ) → IsBytes (to_be_bytes w128 n)
-octets-bytes n = is-bytes (to_be_bytes w128 n) (are_octets n)
+octets-bytes n = below-places (to_be_bytes w128 n) (are_octets n)
 
 -- a text that isn't that of an address
 no-address : (s : List ℕ) → ((n : ℕ) → address_digits n ≡ s → ⊥) → None ≡ value_of_text types.ip s
@@ -100,7 +91,7 @@ address-read s b n lower read is =
     let d : decode_of s ≡ Ok b = sym (decode_sized-twice s 16 twice) ∙ read in
     let told = decode_of-ok s b d in
     let sixteen : length b ≡ 16 = omega (arith, told.2, twice) in
-    let below = are-below b told.3 in
+    let below = bytes_by_recursion b told.3 in
     let m : ℕ = number_from_digits 256 b in
     let small : m < 2 ^ 128 = subst (λ k. m < 256 ^ k) sixteen (number_lt 256 b below) in
     let octets : to_be_bytes w128 m ≡ b =

@@ -1,14 +1,11 @@
 -- Headings.
-use Rattle.std.proofs.Common.{◌≡◌, ◌+◌, ◌-◌, ◌==◌, ◌∙◌, not, ℕ, Bool, true, List, length, take, drop, codes, Option, Some, None, refl, sym, ap, subst, arith}
+use Rattle.std.proofs.Common.{◌≡◌, ◌+◌, ◌-◌, ◌==◌, ◌∙◌, ℕ, List, length, take, drop, codes, Option, Some, None, refl, sym, ap, subst, arith}
 use Rattle.std.specs.Prelude.{position}
-use Rattle.std.specs.List.{list_all}
 use Rattle.std.specs.Str.{IsUtf8, is_utf8, chars}
 use lib.Utf8.{encode}
-use Rattle.std.proofs.lemmas.Bool.{and_from, and_left, false_from_ne_true}
 use Rattle.std.proofs.lemmas.List.{take_all, length-drop}
-use Rattle.std.proofs.lemmas.Str.{IsUtf8-from_is_utf8, is_utf8-from_IsUtf8}
-use Rattle.col_common.specs.Reading.{◌>>=◌, only_if}
-use Rattle.col_model.specs.Keys.{is_name}
+use Rattle.std.proofs.lemmas.Str.{IsUtf8-from_is_utf8}
+use Rattle.col_common.specs.Reading.{◌>>=◌}
 use Rattle.col_program.specs.Values.{type_named}
 use Rattle.col_questions.proofs.WordLemmas.{no_type}
 use Rattle.col_csv.specs.Csv.{colon}
@@ -37,17 +34,3 @@ no-word s other =
     (λ e. other (subst IsUtf8 (sym e) (IsUtf8-from_is_utf8 (codes "bool") refl)))
     (λ e. other (subst IsUtf8 (sym e) (IsUtf8-from_is_utf8 (codes "ip") refl)))
     (λ e. other (subst IsUtf8 (sym e) (IsUtf8-from_is_utf8 (codes "datetime") refl)))
-
--- no byte is 0
-abbrev pub has_no_zero : List ℕ → Bool
-has_no_zero bytes = list_all (λ b. not (b == 0)) bytes
-
--- a text without a zero byte is a name
-pub name-text : (bytes : List ℕ) → has_no_zero bytes ≡ true → IsUtf8 bytes → only_if (is_name bytes) bytes ≡ Some bytes
-name-text bytes z u = ap (λ b. only_if b bytes) (and_from (is_utf8 bytes) (has_no_zero bytes) (is_utf8-from_IsUtf8 bytes u) z)
-
--- bytes that aren't UTF-8 are no name
-pub no-name : (bytes : List ℕ) → (IsUtf8 bytes → ⊥) → only_if (is_name bytes) bytes ≡ None
-no-name bytes n =
-    ap (λ b. only_if b bytes)
-    (and_left (is_utf8 bytes) (has_no_zero bytes) (false_from_ne_true (is_utf8 bytes) (λ e. n (IsUtf8-from_is_utf8 bytes e))))

@@ -13,6 +13,7 @@ use Rattle.std.proofs.lemmas.Slice.Eq.{bytes_eq-Decides}
 use Rattle.std.proofs.lemmas.Str.{digit_value_digit}
 use Rattle.std.proofs.lemmas.Str.Parse.{IsNumeralModel, numerals_by_value, tells_digits, digit_at, digits_value-take-le}
 use Rattle.col_common.specs.Reading.{only_if}
+use Rattle.col_model.proofs.ItemLaws.{only_if-none}
 use Rattle.col_csv_fields.specs.Fields.{IsNumberOf}
 
 -- a text isn't empty, and has no zero before other bytes
@@ -61,11 +62,6 @@ only-some : {A : Type 0} (t : Bool) (x y : A) → Some y ≡ only_if t x → (t 
 only-some true x y h = (refl, cc)
 only-some false x y h = cc
 
--- and what it doesn't
-only-none : {A : Type 0} (t : Bool) (x : A) → None ≡ only_if t x → t ≡ false
-only-none true x h = cc
-only-none false x h = refl
-
 -- a number with one digit more
 abbrev pub with-digit : ℕ → ℕ → Option ℕ
 with-digit n d = only_if (nat_lt (n * 10 + d) (2 ^ 64)) (n * 10 + d)
@@ -96,7 +92,7 @@ pub too-great : (s : List ℕ) (i n d : ℕ) → i < length s → IsReadTo s i n
     → d ≡ slice_index s i - 48 → None ≡ with-digit n d → IsNumberOf s None
 too-great s i n d inside read digit is none m small same =
     let more = value-more s i n d inside read digit is in
-    let much = ltb-false (n * 10 + d) (2 ^ 64) (only-none (nat_lt (n * 10 + d) (2 ^ 64)) (n * 10 + d) none) in
+    let much = ltb-false (n * 10 + d) (2 ^ 64) (only_if-none (nat_lt (n * 10 + d) (2 ^ 64)) (n * 10 + d) none) in
     let value : digits_value 10 s ≡ m = ap (digits_value 10) (sym same) ∙ (decimal_is_IsNumeral m small).1 in
     let fewer = digits_value-take-le 10 s (i + 1) (omega arith) in
     omega arith

@@ -7,7 +7,6 @@ use Rattle.std.proofs.lemmas.Bool.{ltb-true, ltb-false, eq-eqb, eqb-true}
 use Rattle.std.proofs.lemmas.Fmt.{decimal_injective}
 use Rattle.std.proofs.lemmas.List.{take_all}
 use Rattle.col_common.specs.Reading.{◌>>=◌, only_if}
-use Rattle.col_model.specs.ColumnType.{ColumnType}
 use Rattle.col_model.specs.ColumnType as types
 use Rattle.col_model.specs.Limits.{is_of_type}
 use Rattle.col_model.specs.Table.{number}

@@ -1,13 +1,13 @@
 -- Texts of numbers as values.
-use Rattle.std.proofs.Common.{◌≡◌, ◌<◌, ◌^◌, ◌==◌, ◌∙◌, ℕ, suc, ℤ, pos, negsuc, neg_ℤ, cond, Bool, true, false, List, drop, slice_index, bytes_eq, decimal, Option, Some, None, refl, sym, ap, arith}
+use Rattle.std.proofs.Common.{◌≡◌, ◌<◌, ◌^◌, ◌∙◌, ℕ, suc, ℤ, pos, negsuc, neg_ℤ, Bool, true, false, List, slice_index, bytes_eq, decimal, Option, Some, None, refl, sym, ap, arith}
 use Rattle.std.specs.Prelude.{◌&&◌, option_map}
 use Rattle.std.specs.Fmt.{signed_decimal}
-use Rattle.std.specs.Str.Parse.{digits_value, signed_digits_value, without_leading_plus}
-use Rattle.std.proofs.lemmas.Bool.{and_parts, lt-ltb, ltb-true, ne_eqb}
+use Rattle.std.specs.Str.Parse.{signed_digits_value}
+use Rattle.std.proofs.lemmas.Bool.{and_parts, lt-ltb, ltb-true}
 use Rattle.std.proofs.lemmas.Bool.Decides.{nat_tests}
 use Rattle.std.proofs.lemmas.Fmt.{decimal_is_IsNumeral}
 use Rattle.std.proofs.lemmas.Slice.Eq.{bytes_eq-Decides}
-use Rattle.std.proofs.lemmas.Str.Parse.{digit_at, without_leading_plus_none}
+use Rattle.std.proofs.lemmas.Str.Parse.{digit_at}
 use Rattle.col_common.specs.Reading.{only_if}
 use Rattle.col_model.specs.ColumnType.{ColumnType}
 use Rattle.col_model.specs.ColumnType as types
@@ -15,6 +15,7 @@ use Rattle.col_model.specs.Limits.{is_of_type}
 use Rattle.col_model.specs.Table.{Cell, number}
 use Rattle.col_types.specs.Cells.{unsigned_cell}
 use Rattle.col_csv.specs.CsvTable.{value_of_text}
+use Rattle.col_csv.proofs.ValueLemmas.{unsigned-again}
 use Rattle.col_csv_fields.specs.Fields.{IsNumberOf}
 
 -- which numbers an i64 may be
@@ -56,19 +57,10 @@ no-sign n c small below is =
     let k = decimal_is_IsNumeral n small in
     omega (arith, digit_at (decimal n) 0 k.0.1 k.0.0)
 
--- the number of a text without a sign
-pub plain-read : (n : ℕ) → n < 2 ^ 64 → signed_digits_value 10 (decimal n) ≡ pos n
-plain-read n small =
-    let s : List ℕ = decimal n in
-    let minus : (slice_index s 0 == 45) ≡ false = ne_eqb (slice_index s 0) 45 (no-sign n 45 small (omega arith)) in
-    ap (λ b. let n = digits_value 10 (cond b (drop 1 s) (without_leading_plus s)) in cond b (neg_ℤ (pos n)) (pos n)) minus
-    ∙ ap (λ ds. pos (digits_value 10 ds)) (without_leading_plus_none s (no-sign n 43 small (omega arith)))
-    ∙ ap pos (decimal_is_IsNumeral n small).1
-
 -- the number of its own text
 pub number-read : (z : ℤ) (s : List ℕ) → is_of_type types.i64 (number z) ≡ true → signed_decimal z ≡ s → signed_digits_value 10 s ≡ z
 number-read (pos n) s fits same =
-    ap (signed_digits_value 10) (sym same) ∙ plain-read n (omega (arith, below-half n fits))
+    ap (signed_digits_value 10) (sym same) ∙ unsigned-again n (omega (arith, below-half n fits))
 number-read (negsuc n) s fits same =
     ap (signed_digits_value 10) (sym same)
     ∙ ap (λ m. neg_ℤ (pos m)) (decimal_is_IsNumeral (suc n) (omega (arith, above-half n fits))).1
@@ -77,7 +69,7 @@ number-read (negsuc n) s fits same =
 pub unsigned-value : (s : List ℕ) (o : Option ℕ) → IsNumberOf s o → option_map unsigned_cell o ≡ value_of_text types.u64 s
 unsigned-value s (Some n) h =
     is-value types.u64 s (pos n) (grind (arith, nat_tests)) h.1
-    ∙ ap (number_if types.u64 s) (sym (ap (signed_digits_value 10) (sym h.1) ∙ plain-read n h.0))
+    ∙ ap (number_if types.u64 s) (sym (ap (signed_digits_value 10) (sym h.1) ∙ unsigned-again n h.0))
 unsigned-value s None h = no-value types.u64 s (signed_digits_value 10 s) (never (signed_digits_value 10 s))
   where
     never : (z : ℤ) → is_of_type types.u64 (number z) ≡ true → signed_decimal z ≡ s → ⊥

@@ -1,14 +1,12 @@
 //! Headings of the first record: a type, a colon and a name.
-ghost use Rattle.std.specs.Prelude.{◌≡◌, ◌<◌, ◌==◌, not, length, position, option_map, IfSome};
-ghost use Rattle.std.specs.List.{list_all};
-ghost use Rattle.col_common.specs.Reading.{only_if};
-ghost use Rattle.col_model.specs.Keys.{is_name};
+ghost use Rattle.std.specs.Prelude.{◌≡◌, ◌<◌, ◌==◌, length, position, option_map, IfSome};
 ghost use Rattle.col_program.specs.Values.{type_named};
 ghost use Rattle.col_types.specs.Kinds.{kind_of};
 ghost use Rattle.col_csv.specs.Csv.{colon};
 ghost use Rattle.col_csv.specs.CsvTable.{key_of_heading};
 ghost use Rattle.col_csv_fields.specs.Fields.{parts_at_colon, spelled_key};
 
+use col_keys::name_of;
 use col_questions::type_named;
 use col_types::ColumnType;
 
@@ -46,23 +44,4 @@ fn type_of(word: &[u8]) -> Option<ColumnType>
         Ok(word) => type_named(word),
         Err(_) => None,
     }
-}
-
-// The bytes as a name.
-fn name_of(bytes: &[u8]) -> Option<&str>
-    ensures { option_map (λ name. name.now) result ≡ only_if (is_name bytes.now) bytes.now }
-{
-    if !has_no_zero(bytes) {
-        return None;
-    }
-    match str::from_utf8(bytes) {
-        Ok(name) => Some(name),
-        Err(_) => None,
-    }
-}
-
-fn has_no_zero(bytes: &[u8]) -> bool
-    ensures { result ≡ list_all (λ b. not (b == 0)) bytes.now }
-{
-    bytes.iter().all(|byte| *byte != 0)
 }

@@ -2,6 +2,7 @@
 use Rattle.std.proofs.Common.{◌≡◌, ◌+◌, ◌==◌, ◌&&◌, ℕ, Bool, true, false, List, [], ◌∷◌, map, take, drop, codes, bytes_eq, Some, None, refl, sym, ap₂, subst, arith}
 use Rattle.std.specs.Prelude.{Option, option_map, position}
 use Rattle.std.specs.List.{AllByRecursion}
+use Rattle.std.proofs.lemmas.Option.{same_Some}
 use Rattle.col_common.specs.Reading.{◌>>=◌, only_if}
 use Rattle.col_model.specs.ColumnType.{ColumnType}
 use Rattle.col_model.specs.File.{for_each}
@@ -12,7 +13,6 @@ use Rattle.col_csv.specs.CsvTable.{key_of_heading, keys_of_header}
 use Rattle.col_csv_import.specs.Columns.{FilledColumn, HasRoom, no_values}
 use Rattle.col_csv_import.proofs.EachLemmas.{made-parts}
 use Rattle.col_csv_import.proofs.KeyLemmas.{are_named}
-use Rattle.col_csv_import.proofs.RowLemmas.{same_some}
 
 -- a heading that spells a key has a name
 heading-named : (s : List ℕ) (k : Key) → key_of_heading s ≡ Some k → is_name k.name ≡ true
@@ -20,7 +20,7 @@ heading-named s k e = at (position (λ b. b == colon) s) e
   where
     test : (i : ℕ) (t : ColumnType) (b : Bool) → is_name (drop (i + 1) s) ≡ b
         → only_if b (record { name = drop (i + 1) s; column_type = t }) ≡ Some k → is_name k.name ≡ true
-    test i t true is e = subst (λ (k : Key). is_name k.name ≡ true) (same_some (record { name = drop (i + 1) s; column_type = t }) k e) is
+    test i t true is e = subst (λ (k : Key). is_name k.name ≡ true) (same_Some (record { name = drop (i + 1) s; column_type = t }) k e) is
     test i t false is e = absurd (cc e)
 
     typed : (i : ℕ) (o : Option ColumnType)
@@ -36,7 +36,7 @@ heading-named s k e = at (position (λ b. b == colon) s) e
 
 -- the keys of headings have names
 pub headings-named : (ss : List (List ℕ)) (ks : List Key) → for_each key_of_heading ss ≡ Some ks → are_named ks ≡ true
-headings-named [] ks e = subst (λ ks. are_named ks ≡ true) (same_some [] ks e) refl
+headings-named [] ks e = subst (λ ks. are_named ks ≡ true) (same_Some [] ks e) refl
 headings-named (s ∷ ss) ks e =
     let (k, rest, own, more, is) = made-parts key_of_heading s ss ks e in
     subst (λ ks. are_named ks ≡ true) (sym is)
@@ -54,7 +54,7 @@ header-is (mark ∷ headings) ks e = by (for_each key_of_heading headings) refl 
   where
     test : (made : List Key) (b c : Bool) → for_each key_of_heading headings ≡ Some made → are_keys made ≡ c
         → only_if (b && c) made ≡ Some ks → IsHeader (mark ∷ headings) ks
-    test made true true is keys e = subst (IsHeader (mark ∷ headings)) (same_some made ks e)
+    test made true true is keys e = subst (IsHeader (mark ∷ headings)) (same_Some made ks e)
         (record { named = headings-named headings made is; keys = keys })
     test made false c is keys e = absurd (cc e)
     test made true false is keys e = absurd (cc e)
@@ -73,4 +73,4 @@ room-first (k ∷ ks) = (record { before = refl; few = omega arith }, room-first
 pub room-header : (o : Option (List Key)) (cs : List FilledColumn) → option_map (map no_values) o ≡ Some cs
     → AllByRecursion (HasRoom 0) cs
 room-header None cs e = absurd (cc e)
-room-header (Some ks) cs e = subst (AllByRecursion (HasRoom 0)) (same_some (map no_values ks) cs e) (room-first ks)
+room-header (Some ks) cs e = subst (AllByRecursion (HasRoom 0)) (same_Some (map no_values ks) cs e) (room-first ks)

@@ -1,7 +1,6 @@
 -- Keys of one file have slots that rise.
-use Rattle.std.proofs.Common.{◌≡◌, ◌∙◌, ◌<◌, ◌==◌, ◌-◌, ℕ, Bool, true, false, cond, not, List, [], ◌∷◌, map, filter, refl, sym, ap, arith}
+use Rattle.std.proofs.Common.{◌≡◌, ◌∙◌, ◌<◌, ◌==◌, ◌-◌, ℕ, Bool, true, false, cond, List, [], ◌∷◌, map, filter, refl, sym, ap, arith}
 use Rattle.std.specs.List.{list_all}
-use Rattle.std.specs.Str.{is_utf8}
 use Rattle.std.specs.declared.cmp.Ordering.{Ordering}
 use Rattle.std.specs.declared.cmp.Ordering.TheVariants.{Less, Equal, Greater}
 use Rattle.std.specs.Ordering.{is_lt, nat_cmp, ordering_then}
@@ -12,9 +11,10 @@ use Rattle.col_model.specs.Category.{Slot, category_of, category_place, slot_cmp
 use Rattle.col_model.specs.ColumnType.{ColumnType, is_numerical, type_code}
 use Rattle.col_model.specs.ColumnType as types
 use Rattle.col_model.specs.Keys.{Key, are_keys, is_name, key_bytes}
-use Rattle.col_model.proofs.KeyLaws.{has_no_zero, slice_cmp-keys}
+use Rattle.col_model.proofs.KeyLaws.{has_no_zero, place-code, slice_cmp-keys}
 use Rattle.col_model.proofs.ListLaws.{ascending-tail}
 use Rattle.col_model.proofs.OrderingLaws.{nat_cmp-less, nat_less}
+use Rattle.col_model.proofs.SoundTables.{no-zero}
 
 -- the slot of a key
 abbrev pub key_slot : Key → Slot
@@ -27,20 +27,6 @@ slots_rise a b = is_lt (slot_cmp a b)
 -- each key has a name
 abbrev pub are_named : List Key → Bool
 are_named ks = list_all (λ k. is_name k.name) ks
-
--- a name has no zero byte
-no-zero : (name : List ℕ) → is_name name ≡ true → has_no_zero name ≡ true
-no-zero name e = (and_parts (is_utf8 name) (list_all (λ b. not (b == 0)) name) e).1
-
--- the place of a category, by the code of a type
-place-code : (t : ColumnType) → category_place (category_of t) ≡ type_code t - 2
-place-code types.i64 = refl
-place-code types.u64 = refl
-place-code types.bytes = refl
-place-code types.str = refl
-place-code types.bool = refl
-place-code types.ip = refl
-place-code types.datetime = refl
 
 -- no type has the code 2
 no-two : (t : ColumnType) → (type_code t == 2) ≡ false

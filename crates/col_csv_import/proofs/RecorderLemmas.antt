@@ -1,12 +1,11 @@
 -- Columns without values, and columns that are open for more.
 use Rattle.std.proofs.Common.{◌≡◌, ◌∙◌, ◌<◌, ◌-◌, ◌^◌, ℕ, Bool, true, false, List, [], length, None, Ok, Err, refl, sym, ap, arith}
-use Rattle.std.specs.Prelude.{Result}
 use Rattle.col_common.specs.declared.error.ColumnarError.{ColumnarError}
 use Rattle.col_model.specs.ColumnType.{ColumnType}
 use Rattle.col_model.specs.Recording.{is_late, no_records}
-use Rattle.col_model.specs.Refusal.{Refusal}
 use Rattle.col_model.specs.Table.{Cell, text}
 use Rattle.col_model.specs.Written.{Entry}
+use Rattle.col_model.proofs.RefusalLaws.{same_Ok}
 use Rattle.col_types.specs.Kinds.{numerical_kind_of}
 use Rattle.col_types.specs.declared.numerical_type.NumericalType.{NumericalType}
 use Rattle.col_types.specs.declared.numerical_type.NumericalType.TheVariants as kinds
@@ -15,16 +14,13 @@ use Rattle.col_writer_columns.specs.Columns.{forced_type_of, plain_entry, record
 use Rattle.col_writer_columns.specs.Entries.{typed_entry}
 use Rattle.col_writer_columns.specs.Texts.{RecordedTexts}
 use Rattle.col_writer_columns.specs.declared.plain_column_writer.PlainColumnWriter.{PlainColumnWriter}
+use Rattle.col_writer_columns.proofs.EntryLemmas.{none-records}
 use Rattle.col_csv_import.specs.Columns.{FilledColumn, HasRoom, IsOpen, column_entry}
 use Rattle.col_csv_import.proofs.RecordLemmas.{not-late}
 
 -- ---- without values
 
--- no values are no records
-no-records : {X : Type 0} (t : ColumnType) (cell : X → Cell) → records_of t cell [] ≡ []
-unfolding records_of
-no-records t cell = refl
-
+-- the entry of a column with these values
 abbrev entry_by : {X : Type 0} → ColumnType → (X → Cell) → Bool → Bool → List (ℕ × X) → Entry
 entry_by t cell forced sorts ps =
     record { records = records_of t cell ps; forced = forced_type_of t forced; sorts = sorts; tie_start = None }
@@ -33,7 +29,7 @@ entry_by t cell forced sorts ps =
 entry-new : {X : Type 0} (t : ColumnType) (cell : X → Cell) (forced sorts : Bool) (ps : List (ℕ × X)) → ps ≡ [] → forced ≡ true
     → sorts ≡ false → entry_by t cell forced sorts ps ≡ column_entry t []
 entry-new t cell forced sorts ps none is plain =
-    (λ i. entry_by t cell (is i) (plain i) (none i)) ∙ ap (column_entry t) (no-records t cell)
+    (λ i. entry_by t cell (is i) (plain i) (none i)) ∙ ap (column_entry t) (none-records t cell)
 
 -- texts without values
 pub text-new : (t k : ColumnType) (w : RecordedTexts) → k ≡ t → w.values ≡ [] → w.is_forced ≡ true → w.sorts ≡ false
@@ -53,14 +49,6 @@ unfolding typed_entry
 typed-new kinds.I64 = refl
 typed-new kinds.U64 = refl
 
--- what stands in one answer stands in an equal one
-same-ok : (x y : Entry) → ◌≡◌ {A = Result Entry Refusal} (Ok x) (Ok y) → x ≡ y
-same-ok x y e = ap (or_entry x) e
-  where
-    or_entry : Entry → Result Entry Refusal → Entry
-    or_entry d (Ok x) = x
-    or_entry d (Err r) = d
-
 -- numbers without values refuse no type
 pub numbers-refuse_none : (k : NumericalType) (old new : Entry) (e : ColumnarError) → old ≡ no_records
     → RecordsExactly old new (Err e) (typed_entry old (numerical_kind_of k) false) → ⊥
@@ -72,7 +60,7 @@ numbers-refuse_none k old new e none h =
 pub numbers-new : (k : NumericalType) (old new : Entry) (done : Unit {0}) → old ≡ no_records
     → RecordsExactly old new (Ok done) (typed_entry old (numerical_kind_of k) false) → new ≡ column_entry (numerical_kind_of k) []
 numbers-new k old new done none h =
-    same-ok new (column_entry (numerical_kind_of k) [])
+    same_Ok new (column_entry (numerical_kind_of k) [])
     (sym h.ok ∙ ap (λ e. typed_entry e (numerical_kind_of k) false) none ∙ typed-new k)
 
 -- ---- room

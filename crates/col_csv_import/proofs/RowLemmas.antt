@@ -2,6 +2,7 @@
 use Rattle.std.proofs.Common.{◌≡◌, ◌∙◌, ◌≤◌, ◌+◌, ◌==◌, ◌&&◌, ℕ, Bool, true, false, cond, List, [], ◌∷◌, ◌++◌, length, get_or, Some, None, refl, sym, ap, ap₂, subst, arith, append_assoc, append-nil}
 use Rattle.std.specs.Prelude.{Option, option_map}
 use Rattle.std.specs.List.{list_all, range_with_len, zip}
+use Rattle.std.proofs.lemmas.Option.{same_Some}
 use Rattle.col_common.specs.Reading.{◌>>=◌, only_if}
 use Rattle.col_csv.specs.CsvTable.{cells_of_field, is_record_of, value_of_text}
 use Rattle.col_csv.specs.Csv.{equals}
@@ -14,23 +15,13 @@ use Rattle.col_csv_import.proofs.RecordLemmas.{room-more, row_records}
 
 -- ---- room
 
--- what stands in an option, or else this
-or_else : {X : Type 0} → X → Option X → X
-or_else d None = d
-or_else d (Some x) = x
-
--- what stands in one option stands in an equal one
-pub same_some : {X : Type 0} (x y : X) → Some x ≡ Some y → x ≡ y
-unfolding or_else
-same_some x y e = ap (or_else x) e
-
 -- a field has at most one value
 few-cells : (t : ColumnType) (s : List ℕ) (cells : List Cell) → cells_of_field t s ≡ Some cells → length cells ≤ 1
-few-cells t [] cells e = subst (λ cs. length cs ≤ 1) (same_some [] cells e) (omega arith)
+few-cells t [] cells e = subst (λ cs. length cs ≤ 1) (same_Some [] cells e) (omega arith)
 few-cells t (mark ∷ s) cells e = by (value_of_text t s) (mark == equals) e
   where
     one : (c : Cell) (b : Bool) → only_if b (c ∷ []) ≡ Some cells → length cells ≤ 1
-    one c true e = subst (λ cs. length cs ≤ 1) (same_some (c ∷ []) cells e) (omega arith)
+    one c true e = subst (λ cs. length cs ≤ 1) (same_Some (c ∷ []) cells e) (omega arith)
     one c false e = absurd (cc e)
 
     by : (o : Option Cell) (b : Bool) → (o >>= λ c. only_if b (c ∷ [])) ≡ Some cells → length cells ≤ 1
@@ -45,7 +36,7 @@ field-room d s c x h e = by (cells_of_field c.key.column_type s) refl e
         → option_map (λ cells. with_cells d cells c) o ≡ Some x → HasRoom (d + 1) x
     by None is e = absurd (cc e)
     by (Some cells) is e =
-        subst (HasRoom (d + 1)) (same_some (with_cells d cells c) x e) (room-more d c cells (few-cells c.key.column_type s cells is) h)
+        subst (HasRoom (d + 1)) (same_Some (with_cells d cells c) x e) (room-more d c cells (few-cells c.key.column_type s cells is) h)
 
 -- ---- columns
 

@@ -1,6 +1,7 @@
 -- The table of a text is what is written of the columns that its records fill.
 use Rattle.std.proofs.Common.{◌≡◌, ◌∙◌, ◌<◌, ◌≤◌, ℕ, Bool, true, false, cond, List, [], ◌∷◌, map, length, get_or, Some, None, refl, sym, ap, subst}
 use Rattle.std.specs.Prelude.{Option, option_map}
+use Rattle.std.proofs.lemmas.Option.{same_Some}
 use Rattle.col_common.specs.Ascending.{all_adjacent}
 use Rattle.col_common.specs.Reading.{◌>>=◌, only_if}
 use Rattle.csv.specs.Reading.{default_config, records, strip_bom}
@@ -19,7 +20,7 @@ use Rattle.col_csv_import.proofs.ColumnLemmas.{Alike, AreColumnsOf, alike}
 use Rattle.col_csv_import.proofs.HeaderLemmas.{header-is}
 use Rattle.col_csv_import.proofs.KeyLemmas.{rise-keys, slots_rise}
 use Rattle.col_csv_import.proofs.SlotLemmas.{rise-sorted}
-use Rattle.col_csv_import.proofs.RowLemmas.{are_rows, columns_rows, rows-by_columns, same_some}
+use Rattle.col_csv_import.proofs.RowLemmas.{are_rows, columns_rows, rows-by_columns}
 use Rattle.col_csv_import.proofs.WrittenLemmas.{slots-are, table-written}
 
 -- the columns of keys, and of records behind the first
@@ -86,7 +87,7 @@ module _ (bytes : List ℕ) (header : List (List ℕ)) (rows : List (List (List 
       by : (o : Option (List Key)) → keys_of_header header ≡ o → option_map (map no_values) o ≡ Some cs → table_of_csv bytes ≡ None
       by None is e = absurd (cc e)
       by (Some ks) is e =
-          none-filled ks is (ap (with_rows (length header) 0 rows) (same_some (map no_values ks) cs e) ∙ none)
+          none-filled ks is (ap (with_rows (length header) 0 rows) (same_Some (map no_values ks) cs e) ∙ none)
 
   -- a record behind the first is refused
   pub rows-refused : (cs : List FilledColumn) (e : CsvError) → option_map (map no_values) (keys_of_header header) ≡ Some cs
@@ -117,7 +118,7 @@ module _ (bytes : List ℕ) (header : List (List ℕ)) (rows : List (List (List 
       by true (Some ds) None h e t = absurd h
       by true (Some ds) (Some xs) h e t = record {
         columns = xs;
-        are = subst (λ cs. AreColumnsOf (length rows) ks cs xs) (same_some ds cs e) h;
+        are = subst (λ cs. AreColumnsOf (length rows) ks cs xs) (same_Some ds cs e) h;
         is = t;
       }
 
@@ -148,7 +149,7 @@ module _ (bytes : List ℕ) (header : List (List ℕ)) (rows : List (List (List 
           → FillsTable (map slotted ds) (length rows) (table_of_csv bytes)
       by None is e = absurd (cc e)
       by (Some ks) is e =
-          fills ks ds small short sound is (ap (with_rows (length header) 0 rows) (same_some (map no_values ks) cs e) ∙ some)
+          fills ks ds small short sound is (ap (with_rows (length header) 0 rows) (same_Some (map no_values ks) cs e) ∙ some)
 
 -- a text without records has no table
 pub nothing-read : (bytes : List ℕ) → records default_config (strip_bom bytes) ≡ [] → table_of_csv bytes ≡ None

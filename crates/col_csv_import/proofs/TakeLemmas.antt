@@ -1,7 +1,8 @@
 -- Rows that are taken one after another.
-use Rattle.std.proofs.Common.{◌≡◌, ◌≢◌, ◌∙◌, ◌<◌, ◌≤◌, ◌+◌, ◌-◌, ◌^◌, ◌&&◌, ℕ, Bool, true, false, cond, List, [], ◌∷◌, length, get_or, bytes_eq, decimal, Some, None, IfSome, Err, refl, sym, ap, subst, arith}
+use Rattle.std.proofs.Common.{◌≡◌, ◌≢◌, ◌∙◌, ◌<◌, ◌≤◌, ◌+◌, ◌-◌, ◌^◌, ◌&&◌, ℕ, Bool, false, cond, List, [], ◌∷◌, length, get_or, bytes_eq, decimal, Some, None, IfSome, Err, refl, sym, ap, subst, arith}
 use Rattle.std.specs.List.{AllByRecursion}
 use Rattle.std.proofs.lemmas.Bool.{eq-eqb, ne_eqb}
+use Rattle.std.proofs.lemmas.Option.{same_Some}
 use Rattle.csv.specs.Reading.{expected_len}
 use Rattle.col_common.specs.Reading.{◌>>=◌}
 use Rattle.col_csv.specs.declared.csv_error.CsvError.{CsvError}
@@ -10,17 +11,8 @@ use Rattle.col_csv_import.specs.Columns.{FilledColumn, HasRoom}
 use Rattle.col_csv_import.specs.Made.{IsRefused}
 use Rattle.col_csv_import.specs.Readers.{IsReading, IsUneven, ReadsRecord, TextReader, TookFields, left_of}
 use Rattle.col_csv_import.specs.Rows.{with_fields, with_row, with_rows}
-use Rattle.col_csv_import.proofs.RowLemmas.{same_some}
 
 -- ---- one row
-
--- the first field is the number of the row
-pub row-numbered : (d : ℕ) (fields : List (List ℕ)) (cs : List FilledColumn) (b : Bool)
-    → b ≡ bytes_eq (get_or fields 0 []) (decimal d) → b ≡ true → with_row (length fields) d fields cs ≡ with_fields d fields 1 cs
-row-numbered d fields cs b is e =
-    ap (λ a. cond (a && bytes_eq (get_or fields 0 []) (decimal d)) (with_fields d fields 1 cs) None)
-    (eq-eqb (length fields) (length fields) refl)
-    ∙ ap (λ a. cond a (with_fields d fields 1 cs) None) (sym is ∙ e)
 
 -- its first field isn't the number of the row
 pub row-other : (d : ℕ) (fields : List (List ℕ)) (cs : List FilledColumn) (b : Bool)
@@ -35,14 +27,6 @@ row-uneven : (width d : ℕ) (fields : List (List ℕ)) (cs : List FilledColumn)
 row-uneven width d fields cs other =
     ap (λ a. cond (a && bytes_eq (get_or fields 0 []) (decimal d)) (with_fields d fields 1 cs) None)
     (ne_eqb (length fields) width (λ e. other (sym e)))
-
--- a row that is refused
-pub row-refused : (d : ℕ) (fields : List (List ℕ)) (cs : List FilledColumn) (b : Bool) (e : CsvError)
-    → b ≡ bytes_eq (get_or fields 0 []) (decimal d) → b ≡ true
-    → IsRefused e (with_fields d fields 1 cs) → IsRefused e (with_row (length fields) d fields cs)
-row-refused d fields cs b OutOfMemory is e m = tt
-row-refused d fields cs b BadCsv is e m = row-numbered d fields cs b is e ∙ m
-row-refused d fields cs b _ is e m = absurd m
 
 -- ---- all rows
 
@@ -77,7 +61,7 @@ module _ (width : ℕ) (all : List (List (List ℕ))) (first : List FilledColumn
   -- the next record has another number of fields
   pub taking-uneven : IsUneven rdr → with_rows width 0 all first ≡ None
   taking-uneven u =
-      let same : u.width ≡ width = same_some u.width width (sym u.expected ∙ h.width_is) in
+      let same : u.width ≡ width = same_Some u.width width (sym u.expected ∙ h.width_is) in
       behind-one u.fields u.rest u.left
       ∙ ap (λ o. o >>= λ next. with_rows width (count + 1) u.rest next)
       (row-uneven width count u.fields cs (λ e. u.other (same ∙ e)))

@@ -1,10 +1,11 @@
 -- Values that are recorded.
-use Rattle.std.proofs.Common.{◌≡◌, ◌∙◌, ◌-◌, ◌^◌, ◌&&◌, ℤ, to_z, of_z, w64, ℕ, Bool, true, false, List, length, bytes_eq, Some, None, Ok, Err, refl, sym, ap, subst, arith, inl, inr}
+use Rattle.std.proofs.Common.{◌≡◌, ◌∙◌, ◌-◌, ◌^◌, ◌&&◌, ℤ, to_z, of_z, w64, ℕ, Bool, true, false, List, length, bytes_eq, Some, Ok, Err, refl, sym, ap, subst, arith, inl, inr}
 use Rattle.std.specs.Prelude.{nat_le, option_map, Result}
 use Rattle.std.specs.Str.Parse.{signed_digits_value}
 use Rattle.std.proofs.lemmas.Bool.{lt-leb}
 use Rattle.std.proofs.lemmas.Bool.Decides.{nat_tests}
 use Rattle.std.proofs.lemmas.Int.{ints}
+use Rattle.std.proofs.lemmas.Option.{same_Some}
 use Rattle.col_common.specs.declared.error.ColumnarError.{ColumnarError}
 use Rattle.col_common.specs.declared.error.ColumnarError.TheVariants as store
 use Rattle.col_common.specs.Reading.{only_if}
@@ -17,25 +18,15 @@ use Rattle.col_model.specs.Table.{Cell}
 use Rattle.col_model.specs.Table as cells
 use Rattle.col_model.specs.Written.{Entry}
 use Rattle.col_model.proofs.OrderingLaws.{bytes_eq-same}
+use Rattle.col_model.proofs.RefusalLaws.{same_Ok}
 use Rattle.col_writer_columns.specs.Answers.{MayRefuse, RecordsOrRefuses}
 use Rattle.col_writer_columns.specs.Entries.{recorded_entry}
+use Rattle.col_writer_columns.proofs.EntryLemmas.{own_type}
 use Rattle.col_csv.specs.Csv.{value_text}
 use Rattle.col_csv.specs.CsvTable.{value_of_text}
 use Rattle.col_csv.specs.Refused.{refusal_of}
 use Rattle.col_csv.specs.declared.csv_error.CsvError.{CsvError}
-use Rattle.col_csv.specs.declared.csv_error.CsvError.TheVariants as refusals
 use Rattle.col_csv_import.specs.Columns.{IsOpen, TakesText, with_value}
-use Rattle.col_csv_import.proofs.RowLemmas.{same_some}
-
--- a type doesn't force another than itself
-own-type : (t : ColumnType) → forces_other (Some t) t ≡ false
-own-type types.i64 = refl
-own-type types.u64 = refl
-own-type types.bytes = refl
-own-type types.str = refl
-own-type types.bool = refl
-own-type types.ip = refl
-own-type types.datetime = refl
 
 -- an entry that is open refuses nothing of its type
 recorded-open : (t : ColumnType) (d : ℕ) (e : Entry) (cell : Cell) → IsOpen t d e → recorded_entry e d t cell ≡ Ok (with_value t d e cell)
@@ -45,16 +36,8 @@ recorded-open t d e cell h =
     let order : Bool → Result Entry Refusal =
     λ b. refuse_if b doc_order >>= λ _. last (nat_le (2 ^ 32 - 1) (length e.records)) in
     let typed : Bool → Result Entry Refusal = λ b. refuse_if b forced_type >>= λ _. order (is_late e.records d) in
-    ap typed (ap (λ o. forces_other o t) h.forced ∙ own-type t) ∙ ap order h.in_order
+    ap typed (ap (λ o. forces_other o t) h.forced ∙ own_type t true) ∙ ap order h.in_order
     ∙ ap last (lt-leb (2 ^ 32 - 1) (length e.records) h.few)
-
--- what stands in one answer stands in an equal one
-same-ok : (x y : Entry) → ◌≡◌ {A = Result Entry Refusal} (Ok x) (Ok y) → x ≡ y
-same-ok x y e = ap (or_entry x) e
-  where
-    or_entry : Entry → Result Entry Refusal → Entry
-    or_entry d (Ok x) = x
-    or_entry d (Err r) = d
 
 -- a value that was recorded
 pub value-taken : (t : ColumnType) (d : ℕ) (old new : Entry) (s : List ℕ) (cell : Cell) (done : Unit {0}) → IsOpen t d old
@@ -62,7 +45,7 @@ pub value-taken : (t : ColumnType) (d : ℕ) (old new : Entry) (s : List ℕ) (c
     → TakesText t d old new (Ok tt) s
 value-taken t d old new s cell done free is h = record {
   made = ap (option_map (with_value t d old)) is
-      ∙ ap Some (same-ok _ _ (sym (recorded-open t d old cell free) ∙ h.ok));
+      ∙ ap Some (same_Ok _ _ (sym (recorded-open t d old cell free) ∙ h.ok));
   kept = tt;
 }
 
@@ -76,16 +59,6 @@ value-refused t d old new s cell e r is free h =
   where
     out : MayRefuse (recorded_entry old d t cell) e → e ≡ store.OutOfMemory
     out m = elim m [ inl same ↦ same | inr other ↦ absurd (cc (sym other.1 ∙ recorded-open t d old cell free)) ]
-
--- a text that spells no value
-pub value-bad : (t : ColumnType) (d : ℕ) (old new : Entry) (s : List ℕ) → new ≡ old → value_of_text t s ≡ None
-    → TakesText t d old new (Err refusals.BadCsv) s
-value-bad t d old new s same is = record { made = ap (option_map (with_value t d old)) is; kept = same }
-
--- memory was wanting before anything was recorded
-pub value-unread : (t : ColumnType) (d : ℕ) (old new : Entry) (s : List ℕ) → new ≡ old
-    → TakesText t d old new (Err refusals.OutOfMemory) s
-value-unread t d old new s same = record { made = tt; kept = same }
 
 -- a text is a value of its own
 pub text-spelled : (s : List ℕ) → value_of_text types.str s ≡ Some (cells.text s)
@@ -105,7 +78,7 @@ of-type z s c e = by (is_of_type types.i64 c) (bytes_eq (value_text types.i64 c)
   where
     by : (a b : Bool) → is_of_type types.i64 c ≡ a → only_if (a && b) c ≡ Some (cells.number z)
         → is_of_type types.i64 (cells.number z) ≡ true
-    by true true is e = subst (λ c. is_of_type types.i64 c ≡ true) (same_some c (cells.number z) e) is
+    by true true is e = subst (λ c. is_of_type types.i64 c ≡ true) (same_Some c (cells.number z) e) is
     by true false is e = absurd (cc e)
     by false b is e = absurd (cc e)
 
