@@ -195,7 +195,8 @@ module _ (ms : List RangeMapping) (space : IsSpace ms) where
   abbrev rs : List (ℕ × ℕ)
   rs = ranges_of ms
 
-  rising : (a b : ℕ) → 1 ≤ a → a < b → b ≤ code_count rs → coded_number rs a < coded_number rs b
+  -- a greater code stands for a greater number
+  pub rising : (a b : ℕ) → 1 ≤ a → a < b → b ≤ code_count rs → coded_number rs a < coded_number rs b
   rising a b one less upto = number_less 0 1 ms (2 ^ 128 + 3) (1 + code_count rs) a b space.mapped one less upto
 
   first_is : coded_number rs 1 ≡ first_start rs

@@ -16,6 +16,11 @@ pub record Coded : Type 0 where
 abbrev pub numbers_of : Coded → List ℕ
 numbers_of d = map (coded_number d.ranges) d.codes
 
+-- a greater code stands for a greater number
+abbrev pub NumbersRise : List (ℕ × ℕ) → Type 0
+NumbersRise rs = (j k : ℕ) → 1 ≤ j → j < k → k ≤ code_count rs
+    → coded_number rs j < coded_number rs k
+
 -- each is a code, and the bounds of the footer are those of the numbers
 abbrev pub are_codes : AddressFooter → List ℕ → Bool
 are_codes f codes =

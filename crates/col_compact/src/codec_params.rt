@@ -5,7 +5,7 @@ ghost use Rattle.col_bits.specs.Packed.{width};
 ghost use Rattle.col_model.specs.AddressList.{address_footer_at, address_footer, are_zeros, are_bounds, code_count, coded_number, first_start, last_end};
 ghost use Rattle.col_compact.specs.Params.{behind_flags, head_at, footer_of, CountFits};
 ghost use Rattle.col_model.specs.Stats.{least_of, greatest_of};
-ghost use Rattle.col_compact.specs.Coded.{are_codes};
+ghost use Rattle.col_compact.specs.Coded.{are_codes, NumbersRise};
 ghost use Rattle.col_compact.specs.Hits.{hit_at};
 ghost use Rattle.col_compact.specs.Heads.{head_seen};
 
@@ -87,14 +87,17 @@ impl IPCodecParams {
         self.bit_unpacker
     }
 
-    // That codes have the width of their count, how many there are, and where they begin and end.
+    // That codes have the width of their count, how many there are, where they begin and end, and
+    // that they rise with their numbers.
     pub(crate) fn codes_have_their_width(&self)
         ensures width { self.now.code_width ≡ width (code_count self.now.ranges) }
         ensures few { code_count self.now.ranges < 2 ^ 32 }
         ensures ends { (codes : List ℕ) → 0 < length codes → are_codes self.now codes ≡ true →
             (least_of codes ≡ 1) × (greatest_of codes ≡ code_count self.now.ranges) }
+        ensures rising { NumbersRise self.now.ranges }
     {
         self.compact_space.codes_end_as_ranges_do();
+        self.compact_space.numbers_rise();
         // That codes have the width of their count, and that it has 32 bits, is known of both.
         let _width = &self.bit_unpacker;
         let _count = self.compact_space.amplitude_compact_space();

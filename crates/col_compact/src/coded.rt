@@ -6,7 +6,7 @@ ghost use Rattle.col_common.specs.Reading.{parts_by_second, back};
 ghost use Rattle.col_bits.specs.Packed.{items};
 ghost use Rattle.col_model.specs.Stats.{least_of, greatest_of};
 ghost use Rattle.col_model.specs.AddressList.{code_count};
-ghost use Rattle.col_compact.specs.Coded.{are_codes, coded_by, coded_list, coded_in, CodesAreRead, IsFrontOf};
+ghost use Rattle.col_compact.specs.Coded.{are_codes, coded_by, coded_list, coded_in, CodesAreRead, IsFrontOf, NumbersRise};
 
 use crate::codec_params::{IPCodecParams, read_footer};
 use crate::compact_space::CompactSpace;
@@ -130,6 +130,14 @@ impl CompactSpace {
             && (least_of (map (coded_number self.now) codes) == first_start self.now)
             && (greatest_of (map (coded_number self.now) codes) == last_end self.now)) ≡ true →
             (least_of codes ≡ 1) × (greatest_of codes ≡ code_count self.now) }
+    {
+        // That the ranges stand apart, in order, is known of a space.
+        let _ranges = &self.ranges_mapping;
+    }
+
+    // That a greater code stands for a greater number.
+    pub(crate) fn numbers_rise(&self)
+        ensures { NumbersRise self.now }
     {
         // That the ranges stand apart, in order, is known of a space.
         let _ranges = &self.ranges_mapping;

@@ -10,7 +10,7 @@ ghost use Rattle.col_model.specs.Stats.{least_of, greatest_of};
 ghost use Rattle.col_model.specs.AddressList.{coded_values, code_count, coded_number};
 ghost use Rattle.col_values.specs.Codes.{number_cmp};
 ghost use Rattle.col_values.specs.Values.{hits_between};
-ghost use Rattle.col_compact.specs.Coded.{coded_list, numbers_of};
+ghost use Rattle.col_compact.specs.Coded.{coded_list, numbers_of, NumbersRise};
 ghost use Rattle.col_compact.specs.Hits.{hit_at};
 
 use crate::codec_params::IPCodecParams;
@@ -115,6 +115,13 @@ impl CompactSpaceDecompressor {
         ensures { result ≡ code_count self.now.ranges }
     {
         self.params.max_code()
+    }
+
+    /// That a greater code stands for a greater number.
+    pub fn numbers_rise(&self)
+        ensures { NumbersRise self.now.ranges }
+    {
+        self.params.codes_have_their_width();
     }
 
     /// The number that a code stands for.
