@@ -14,6 +14,7 @@ pub mod KindLemmas
 pub mod TableLemmas
 pub mod NumberLemmas
 pub mod PlaceLemmas
+mod AddressLemmas
 pub mod DocLemmas
 pub mod FacetLemmas
 pub mod CountingLemmas

@@ -1,13 +1,14 @@
 -- Tables of counts: how often the cell of each place stands.
-use Rattle.std.specs.Prelude.{◌≡◌, ℕ, suc, ◌+◌, ◌-◌, ◌<◌, ◌≤◌, Bool, ◌==◌, List, [], ◌∷◌, slice_get, unwrap_or, Option, if◌then◌else◌}
+use Rattle.std.specs.Prelude.{◌≡◌, ℕ, suc, ◌+◌, ◌-◌, ◌<◌, ◌≤◌, nat_lt, Bool, ◌==◌, List, [], ◌∷◌, slice_get, unwrap_or, Option, if◌then◌else◌}
 use Rattle.std.specs.List.{AllByRecursion}
 use Rattle.std.specs.declared.cmp.Ordering.{Ordering}
 use Rattle.std.specs.declared.cmp.Ordering.TheVariants.{Less}
+use Rattle.col_model.specs.AddressList.{code_count, coded_number}
 use Rattle.col_values.specs.Monotonic.{Passes}
 use Rattle.col_values.specs.Values.{IsAtMost}
 use Rattle.col_facet.specs.Cells.{cell_cmp}
 use Rattle.col_facet.specs.declared.facet_cell.FacetCell.{FacetCell}
-use Rattle.col_facet.specs.declared.facet_cell.FacetCell.TheVariants.{Term}
+use Rattle.col_facet.specs.declared.facet_cell.FacetCell.TheVariants.{Addr, Term}
 use Rattle.col_facet.specs.declared.facet_cell.FacetCount.{FacetCount}
 
 -- the cells of the places from one on whose counts aren't 0
@@ -20,6 +21,15 @@ counted_from cell at (n ∷ ns) =
 -- the term of an ordinal
 abbrev pub term_at : List (List ℕ) → ℕ → FacetCell
 term_at terms n = Term (unwrap_or (slice_get terms n) [])
+
+-- the address of the code behind a place; 0 behind the last
+abbrev pub address_at : List (ℕ × ℕ) → ℕ → FacetCell
+address_at ranges n =
+    Addr (if nat_lt n (code_count ranges) then coded_number ranges (suc n) else 0)
+
+-- all are codes of the ranges
+abbrev pub AreCodesIn : List (ℕ × ℕ) → List ℕ → Type 0
+AreCodesIn ranges codes = AllByRecursion (λ k. (1 ≤ k) × (k ≤ code_count ranges)) codes
 
 -- the cells of so many places ascend
 abbrev pub AreRising : (ℕ → FacetCell) → ℕ → Type 0

@@ -1,19 +1,22 @@
-//! Facets of addresses, by how far they lie above the least one where 64 bits tell it: such
-//! distances are sorted in a third of the time that addresses take.
+//! Facets of addresses: of a list by its codes where they are few, else by how far they lie above
+//! the least one where 64 bits tell it: such distances are sorted in a third of the time that
+//! addresses take.
 ghost use Rattle.std.specs.Prelude.{◌≡◌, ◌+◌, ℕ, true, map, ◌++◌, IfOk, IfSome};
 ghost use Rattle.col_common.specs.Ascending.{AreBelow, is_rising};
 ghost use Rattle.col_column.specs.Columns.{rows_of_values, num_docs_in};
+ghost use Rattle.col_column.specs.IpValues.{ip_values_of};
 ghost use Rattle.col_facet.specs.Facets.{facets_of};
 ghost use Rattle.col_facet.specs.Values.{values_in_rows};
 ghost use Rattle.col_facet.specs.declared.facet_cell.FacetCell.{FacetCell};
 ghost use Rattle.col_facet.specs.declared.facet_cell.FacetCell.TheVariants as cells;
 
 use crate::blocks::{read_docs_block, read_list_block};
+use crate::codes::facets_of_codes;
 use crate::facet_cell::{FacetCell, FacetCount};
 use crate::place_cells::PlaceCells;
 use crate::runs::{facets_of_list, facets_of_places, value_facets};
 use crate::table::{counted_facets, counts_of_places, places_of};
-use col_column::Column;
+use col_column::{Column, IpValues};
 use col_common::{DocId, Ipv6Addr};
 use col_values::ColumnValues;
 use std::alloc::{AllocError, Global};
@@ -65,8 +68,25 @@ impl PlaceCells<u64> for AddressesFrom {
     }
 }
 
-/// How often the cells of the addresses of a list stand there.
-pub(crate) fn facets_of_addresses<V: ColumnValues<Ipv6Addr>>(
+/// How often the cells of the addresses of a list stand there: by its codes where they are few.
+pub(crate) fn facets_of_addresses(
+    alloc: Global,
+    list: &IpValues,
+) -> Result<Vec<FacetCount>, AllocError>
+    ensures { IfOk result (λ facets. facets.items
+        ≡ facets_of (map (λ n. cells.Addr n) (ip_values_of list.now))) }
+{
+    if let IpValues::Read(view) = list {
+        let (codes, _map) = view.parts();
+        if let Some(facets) = facets_of_codes(alloc, codes)? {
+            return Ok(facets);
+        }
+    }
+    facets_by_value(alloc, list)
+}
+
+// The same by how far they lie above the least.
+fn facets_by_value<V: ColumnValues<Ipv6Addr>>(
     alloc: Global,
     list: &V,
 ) -> Result<Vec<FacetCount>, AllocError>

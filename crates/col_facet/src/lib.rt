@@ -4,6 +4,7 @@
 
 mod addresses;
 mod blocks;
+mod codes;
 mod counting;
 mod facet_cell;
 mod facet_number;

@@ -53,9 +53,9 @@ fn tally_each<T: MonotonicallyMappableToU64>(values: &[T], base: u64, counts: &m
     }
 }
 
-// Counts a number, where it is one of those from a base on.
+/// Counts a number, where it is one of those from a base on.
 #[inline(always)]
-fn count_number(number: u64, base: u64, counts: &mut [u64])
+pub(crate) fn count_number(number: u64, base: u64, counts: &mut [u64])
     requires { (i : ℕ) → slice_index counts.old i + 1 < 2 ^ 64 }
     ensures { (i : ℕ) → i < length counts.old → slice_index counts.new i
         ≡ slice_index counts.old i + (if number == base + i then 1 else 0) }
