@@ -1,5 +1,5 @@
 -- Rows that are taken one after another.
-use Rattle.std.proofs.Common.{◌≡◌, ◌≢◌, ◌∙◌, ◌<◌, ◌≤◌, ◌+◌, ◌-◌, ◌^◌, ◌&&◌, ℕ, Bool, false, cond, List, [], ◌∷◌, length, get_or, bytes_eq, decimal, Some, None, IfSome, Err, refl, sym, ap, subst, arith}
+use Rattle.std.proofs.Common.{◌≡◌, ◌≢◌, ◌∙◌, ◌<◌, ◌≤◌, ◌+◌, ◌-◌, ◌^◌, ◌&&◌, ℕ, Bool, true, cond, List, [], ◌∷◌, length, get_or, bytes_eq, decimal, Some, None, IfSome, Err, refl, sym, ap, subst, arith}
 use Rattle.std.specs.List.{AllByRecursion}
 use Rattle.std.proofs.lemmas.Bool.{eq-eqb, ne_eqb}
 use Rattle.std.proofs.lemmas.Option.{same_Some}
@@ -14,13 +14,21 @@ use Rattle.col_csv_import.specs.Rows.{with_fields, with_row, with_rows}
 
 -- ---- one row
 
--- its first field isn't the number of the row
-pub row-other : (d : ℕ) (fields : List (List ℕ)) (cs : List FilledColumn) (b : Bool)
-    → b ≡ bytes_eq (get_or fields 0 []) (decimal d) → b ≡ false → with_row (length fields) d fields cs ≡ None
-row-other d fields cs b is e =
+-- the first field is the number of the row
+pub row-numbered : (d : ℕ) (fields : List (List ℕ)) (cs : List FilledColumn) (b : Bool)
+    → b ≡ bytes_eq (get_or fields 0 []) (decimal d) → b ≡ true → with_row (length fields) d fields cs ≡ with_fields d fields 1 cs
+row-numbered d fields cs b is e =
     ap (λ a. cond (a && bytes_eq (get_or fields 0 []) (decimal d)) (with_fields d fields 1 cs) None)
     (eq-eqb (length fields) (length fields) refl)
     ∙ ap (λ a. cond a (with_fields d fields 1 cs) None) (sym is ∙ e)
+
+-- a field of such a row is refused
+pub row-refused : (d : ℕ) (fields : List (List ℕ)) (cs : List FilledColumn) (b : Bool) (e : CsvError)
+    → b ≡ bytes_eq (get_or fields 0 []) (decimal d) → b ≡ true
+    → IsRefused e (with_fields d fields 1 cs) → IsRefused e (with_row (length fields) d fields cs)
+row-refused d fields cs b OutOfMemory is e m = tt
+row-refused d fields cs b BadCsv is e m = row-numbered d fields cs b is e ∙ m
+row-refused d fields cs b _ is e m = absurd m
 
 -- a record of another number of fields
 row-uneven : (width d : ℕ) (fields : List (List ℕ)) (cs : List FilledColumn) → width ≢ length fields → with_row width d fields cs ≡ None

@@ -7,7 +7,7 @@ ghost use Rattle.col_csv_import.specs.Columns.{HasRoom};
 ghost use Rattle.col_csv_import.specs.Made.{Makes};
 ghost use Rattle.col_csv_import.specs.Readers.{IsReading, ReadsRecord, TakesAll};
 ghost use Rattle.col_csv_import.specs.Readers.{left_of, refusal_of_kind};
-ghost use Rattle.col_csv_import.specs.Rows.{with_fields, with_row};
+ghost use Rattle.col_csv_import.specs.Rows.{with_row};
 
 use crate::field_texts::{field_at, is_row_number_at};
 use crate::import_column::ImportColumn;
@@ -78,7 +78,7 @@ pub(crate) fn take_records(
     unreachable!()
 }
 
-// Takes the record of a row.
+// Takes the record of a row, each field behind the row's number into its column.
 fn take_record(
     columns: &mut [ImportColumn],
     row: DocId,
@@ -94,22 +94,6 @@ fn take_record(
     if !is_row_number_at(fields, row) {
         return Err(CsvError::BadCsv);
     }
-    take_fields(columns, row, fields, bytes)
-}
-
-// Takes the fields of a row behind its number, each into its column.
-fn take_fields(
-    columns: &mut [ImportColumn],
-    row: DocId,
-    fields: &ByteRecord,
-    bytes: &mut Vec<u8>,
-) -> Result<(), CsvError>
-    requires few { row < 2 ^ 32 - 1 }
-    requires room { AllByRecursion (HasRoom row) columns.old }
-    ensures taken { Makes (λ _. columns.new) result
-        (with_fields row (fields_of fields.now) 1 columns.old) }
-    ensures room { OnOk result (AllByRecursion (HasRoom (row + 1)) columns.new) }
-{
     for place in 0..columns.len() {
         let field = field_at(fields, place + 1);
         columns[place].take_field(row, field, bytes)?;

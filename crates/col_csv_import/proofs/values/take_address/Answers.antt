@@ -12,7 +12,8 @@ returns-in_err-record c =
     let p = err_from_is_err_and c.from_residual.result c.from_residual.ensures.1 in
     rw p.1 (value-refused types.ip c.args.row (plain_entry types.ip unsigned_cell c.args.column.now)
     (plain_entry types.ip unsigned_cell c.record.new.self) c.args.text.now (unsigned_cell c.in-Some.address)
-    c.in_err-record.field-0.0 p.0 p.2 c.requires (plain-answers types.ip unsigned_cell c.args.column.now c.record.new.self c.args.row c.in-Some.address _
+    c.in_err-record.field-0.0 p.0 p.2 c.requires
+    (plain-answers types.ip unsigned_cell c.args.column.now c.record.new.self c.args.row c.in-Some.address _
     c.in_err-record.ensures.column c.in_err-record.ensures.forced))
 
 pub returns : goal.returns

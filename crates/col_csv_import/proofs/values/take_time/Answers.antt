@@ -11,7 +11,8 @@ returns-in_err-record c =
     let p = err_from_is_err_and c.from_residual.result c.from_residual.ensures.1 in
     rw p.1 (value-refused types.datetime c.args.row (plain_entry types.datetime time_cell c.args.column.now)
     (plain_entry types.datetime time_cell c.record.new.self) c.args.text.now (time_cell c.time_code.result)
-    c.in_err-record.field-0.0 p.0 p.2 c.requires (plain-answers types.datetime time_cell c.args.column.now c.record.new.self c.args.row c.time_code.result _
+    c.in_err-record.field-0.0 p.0 p.2 c.requires
+    (plain-answers types.datetime time_cell c.args.column.now c.record.new.self c.args.row c.time_code.result _
     c.in_err-record.ensures.column c.in_err-record.ensures.forced))
 
 pub returns : goal.returns
