@@ -1,0 +1,8 @@
+use Rattle.std.proofs.Common.{◌≡◌, rules}
+use Rattle.col_disk.proofs.HistoryLemmas.{kept_first}
+use Rattle.col_disk.proofs.mem_disk.MemDisk.new.Goals as goal
+
+pub invariant_of-result-clause-kept : goal.invariant_of-result-clause-kept
+invariant_of-result-clause-kept c =
+    let same : c.in_ok-first.first.items ≡ c.args.bytes.items = search rules in
+    kept_first _ _ _ same c.new.ensures.items

@@ -1,0 +1,4 @@
+pub mod ChangeLemmas
+pub mod SettledLemmas
+pub mod AppendLemmas
+pub mod ReadingLemmas
