@@ -1,135 +1,182 @@
 -- What a disk in memory tells.
-use Rattle.std.proofs.Common.{◌≡◌, ◌↔◌, inl, inr, ⊎_elim, ℕ, ◌+◌, ◌-◌, ◌≤◌, Bool, true, false, IsTrue, List, [], ◌∷◌, ◌++◌, length, take, drop, Some, Result, Ok, Err, IsOkUnless, OnOk, refl, sym, ◌∙◌, ap, subst, arith, append_assoc, length-append}
+use Rattle.std.proofs.Common.{◌≡◌, inl, inr, ⊎_elim, ℕ, ◌+◌, ◌<◌, ◌≤◌, ◌^◌, max, Bool, true, false, List, [], ◌∷◌, ◌++◌, length, Some, Ok, Err, OnOk, IsOkUnless, refl, sym, ◌∙◌, ap, subst, arith, length-append}
 use Rattle.std.proofs.lemmas.Bool.{cases_lt}
-use Rattle.std.proofs.lemmas.List.{take_all, take_at, take-append-le, drop_at, drop-drop, length-take-le}
+use Rattle.std.proofs.lemmas.List.{take_all, take-append-le}
+use Rattle.col_common.specs.Causes.{HasCause}
+use Rattle.col_common.specs.declared.outside.HandleError.TheVariants.{Failed, Memory}
 use Rattle.col_disk.specs.declared.history.Entry.{Entry}
 use Rattle.col_disk.specs.declared.history.Entry.TheVariants.{Wrote, Synced}
 use Rattle.col_disk.specs.declared.history.Write.{Write}
-use Rattle.col_disk.specs.Crash.{Images, Elapses, AddsNone, Tears, Torn, Only, WriteLeaves, WriteMayLeave, overwritten}
-use Rattle.col_disk.specs.History.{State, moved, moved_by, state_of, IsImage, IsClean, IsKept, images_of}
-use Rattle.col_disk.specs.HistoryLaws.{is_a_moment}
-use Rattle.col_disk.proofs.TearLemmas.{length-overwritten, image_before, image_written, clean_only, image_synced}
-use Rattle.col_common.specs.declared.outside.HandleError.{HandleError}
-use Rattle.col_common.specs.declared.outside.HandleError.TheVariants.{Failed, Memory}
+use Rattle.col_disk.specs.Crash.{Elapses, AddsNone, Tears, Torn, Only, overwritten}
+use Rattle.col_disk.specs.Disks.{Answer, Syncs, WriteLeaves, WritesAt}
+use Rattle.col_disk.specs.History.{State, all_synced, state_after, state_after_all, state_of, IsLeftIn, IsClean, IsHistory, IsMade, images_after, told_by_history}
+use Rattle.col_disk.proofs.ImageLemmas.{image_before, image_written, clean_only, image_synced}
+use Rattle.col_disk.proofs.Moments.{adds_nothing}
+use Rattle.col_disk.proofs.TornLemmas.{length-overwritten, torn_part}
 
-pub moved-more : (s : State) (entries : List Entry) (entry : Entry) → moved_by s (entries ++ entry ∷ []) ≡ moved (moved_by s entries) entry
-unfolding moved_by
-moved-more s [] entry = refl
-moved-more s (first ∷ entries) entry = moved-more (moved s first) entries entry
+after-more : (s : State) (entries : List Entry) (entry : Entry)
+    → state_after_all s (entries ++ entry ∷ []) ≡ state_after (state_after_all s entries) entry
+unfolding state_after_all
+after-more s [] entry = refl
+after-more s (first ∷ entries) entry = after-more (state_after s first) entries entry
 
-pub state-more : (first : List ℕ) (entries : List Entry) (entry : Entry) → state_of first (entries ++ entry ∷ []) ≡ moved (state_of first entries) entry
-state-more first entries entry = moved-more (record { base = first; ranges = []; bytes = first }) entries entry
+-- the state after one entry more
+state-more : (first : List ℕ) (entries : List Entry) (entry : Entry) → state_of first (entries ++ entry ∷ []) ≡ state_after (state_of first entries) entry
+state-more first entries entry = after-more (all_synced first) entries entry
 
 module _ (first : List ℕ) (entries : List Entry) where
-  -- one entry more
-  pub elapses_one : (entry : Entry) → Elapses (images_of first entries) (images_of first (entries ++ entry ∷ []))
-  elapses_one entry = record {
-    later = omega (arith, length-append entries (entry ∷ []));
-    nothing_else = λ t c le left. ⊎_elim
-        (λ now. inr (subst (λ es. IsImage (state_of first es) c) (take_all left.0 (entries ++ entry ∷ []) (omega (arith, length-append entries (entry ∷ [])))) left.3))
-        (λ past. inl (left.0, left.1, past, subst (λ es. IsImage (state_of first es) c) (take-append-le left.0 entries (entry ∷ []) past) left.3))
-        (cases_lt (length entries) left.0);
-    keeps = λ t c le left. (left.0, left.1, omega (arith, left.2, length-append entries (entry ∷ [])), subst (λ es. IsImage (state_of first es) c) (sym (take-append-le left.0 entries (entry ∷ []) left.2)) left.3);
-  }
+  abbrev LeftAfter : List ℕ → List Entry → Type 0
+  LeftAfter c es = IsLeftIn (state_of first es) c
 
-  -- a write
-  pub tears : (w : Write) → w.pos ≤ length (state_of first entries).bytes → length w.bytes.items ≤ w.size → IsImage (state_of first entries) (state_of first entries).bytes
-      → Tears w.pos w.size (images_of first entries) (images_of first (entries ++ Wrote w ∷ []))
-  tears w le fits image = record {
-    time = elapses_one (Wrote w);
-    from = λ c left. let was = image_before (state_of first entries) (state_of first (entries ++ Wrote w ∷ [])) w.pos w.size w.bytes.items c le fits image.no_shorter (state-more first entries (Wrote w)) left in (_, was.0, was.1);
-  }
-
-  -- a sync that finds a write pending
-  pub synced_only : (c : List ℕ) → IsImage (state_of first (entries ++ Synced ∷ [])) c → c ≡ (state_of first entries).bytes
-  synced_only c left = clean_only (moved (state_of first entries) Synced) c (record { ranges = refl; base = refl }) (subst (λ s. IsImage s c) (state-more first entries Synced) left)
-
-  pub syncs : IsImage (state_of first entries) (state_of first entries).bytes → AddsNone (images_of first entries) (images_of first (entries ++ Synced ∷ []))
-  syncs image =
-      let fewer : (c : List ℕ) → IsImage (state_of first (entries ++ Synced ∷ [])) c → IsImage (state_of first entries) c = λ c left. subst (IsImage (state_of first entries)) (sym (synced_only c left)) image in
-      let time = elapses_one Synced in
+  -- one entry more is one moment more
+  elapses_one : (entry : Entry) → Elapses (images_after first entries) (images_after first (entries ++ entry ∷ []))
+  elapses_one entry =
+      let more : List Entry = entries ++ entry ∷ [] in
+      let size : length more ≡ length entries + 1 = length-append entries (entry ∷ []) in
       record {
-        later = time.later;
-        nothing_new = λ t c le left. ⊎_elim (λ was. was) (λ now. is_a_moment first entries t c le (fewer c now)) (time.nothing_else t c le left);
-        keeps = time.keeps;
-        fewer = fewer;
+        later = omega (arith, size);
+        nothing_else = λ t c le left. ⊎_elim
+            (λ now. inr (subst (LeftAfter c) (take_all left.0 more (omega (arith, size, now))) left.3))
+            (λ past. inl (left.0, left.1, past, subst (LeftAfter c) (take-append-le left.0 entries (entry ∷ []) past) left.3))
+            (cases_lt (length entries) left.0);
+        keeps = λ t c le left.
+            (left.0, left.1, omega (arith, left.2, size), subst (LeftAfter c) (sym (take-append-le left.0 entries (entry ∷ []) left.2)) left.3);
       }
 
-pub kept_first : (first bytes : List ℕ) (entries : List Entry) → first ≡ bytes → entries ≡ [] → IsKept first entries bytes false
-unfolding moved_by
+-- what is kept of a disk that nothing was written to
+pub kept_first : (first bytes : List ℕ) (entries : List Entry) → first ≡ bytes → entries ≡ [] → IsHistory first entries bytes false
+unfolding state_after_all
 kept_first first bytes entries same none =
-    let kept : IsKept first [] first false = record { replayed = refl; image = image_synced first; clean = λ p. record { ranges = refl; base = refl } } in
-    subst (λ es. IsKept first es bytes false) (sym none) (subst (λ b. IsKept first [] b false) same kept)
+    let clean : IsClean (all_synced first) = record { ranges = refl; base = refl } in
+    let kept : IsHistory first [] first false = record { replayed = refl; image = image_synced first; clean = λ idle. clean } in
+    subst (λ es. IsHistory first es bytes false) (sym none) (subst (λ b. IsHistory first [] b false) same kept)
 
-module _ {first bytes : List ℕ} {entries : List Entry} {pending : Bool} (kept : IsKept first entries bytes pending) where
-  image_of : IsImage (state_of first entries) (state_of first entries).bytes
-  image_of = subst (IsImage (state_of first entries)) (sym kept.replayed) kept.image
+module _ {first bytes : List ℕ} {entries : List Entry} {pending : Bool} (kept : IsHistory first entries bytes pending) where
+  abbrev s : State
+  s = state_of first entries
 
-  pub kept_written : (w : Write) (later : List Entry) (new : List ℕ) → w.pos ≤ length bytes → length w.bytes.items ≤ w.size → later ≡ entries ++ Wrote w ∷ [] → new ≡ overwritten w.pos w.bytes.items bytes → IsKept first later new true
-  kept_written w later new le fits more is =
-      let s = state_of first entries in
-      let state : state_of first later ≡ moved s (Wrote w) = ap (state_of first) more ∙ state-more first entries (Wrote w) in
-      let new_is : (moved s (Wrote w)).bytes ≡ new = ap (overwritten w.pos w.bytes.items) kept.replayed ∙ sym is in
-      record {
-        replayed = ap (λ u. u.bytes) state ∙ new_is;
-        image = subst (λ u. IsImage u new) (sym state) (subst (IsImage (moved s (Wrote w))) new_is (image_written s w.pos w.size w.bytes.items (omega (arith, le, ap length kept.replayed)) fits image_of));
-        clean = λ p. absurd (cc p);
-      }
+  image : IsLeftIn s s.bytes
+  image = subst (IsLeftIn s) (sym kept.replayed) kept.image
 
-  pub kept_synced : (later : List Entry) → later ≡ entries ++ Synced ∷ [] → IsKept first later bytes false
-  kept_synced later more =
-      let s = state_of first entries in
-      let state : state_of first later ≡ moved s Synced = ap (state_of first) more ∙ state-more first entries Synced in
-      record {
-        replayed = ap (λ u. u.bytes) state ∙ kept.replayed;
-        image = subst (λ u. IsImage u bytes) (sym state) (subst (IsImage (moved s Synced)) kept.replayed (image_synced s.bytes));
-        clean = λ p. subst IsClean (sym state) (record { ranges = refl; base = refl });
-      }
+  -- a write of its bytes or of a part of them
+  module _ {at : ℕ} {asked new : List ℕ} {w : Write} (later : List Entry) (made : IsMade at asked bytes w new) (le : at ≤ length bytes)
+      (more : later ≡ entries ++ Wrote w ∷ []) where
+    there : w.pos ≤ length bytes
+    there = omega (arith, made.pos, le)
 
-  pub write_tears : (w : Write) (later : List Entry) → w.pos ≤ length bytes → length w.bytes.items ≤ w.size → later ≡ entries ++ Wrote w ∷ [] → Tears w.pos w.size (images_of first entries) (images_of first later)
-  write_tears w later le fits more = subst (λ es. Tears w.pos w.size (images_of first entries) (images_of first es)) (sym more) (tears first entries w (omega (arith, le, ap length kept.replayed)) fits image_of)
+    inside : w.pos ≤ length s.bytes
+    inside = omega (arith, there, ap length kept.replayed)
 
-  pub sync_only : (later : List Entry) → later ≡ entries ++ Synced ∷ [] → Only bytes (images_of first later)
-  sync_only later more c left = synced_only first entries c (subst (λ es. IsImage (state_of first es) c) more left) ∙ kept.replayed
+    pub kept_written : IsHistory first later new true
+    kept_written =
+        let state : state_of first later ≡ state_after s (Wrote w) = ap (state_of first) more ∙ state-more first entries (Wrote w) in
+        let new_is : (state_after s (Wrote w)).bytes ≡ new = ap (overwritten w.pos w.bytes.items) kept.replayed ∙ sym made.new_is in
+        let left : IsLeftIn (state_after s (Wrote w)) new =
+        subst (IsLeftIn (state_after s (Wrote w))) new_is (image_written s w.pos w.size w.bytes.items inside made.fits image) in
+        record {
+          replayed = ap (λ (u : State). u.bytes) state ∙ new_is;
+          image = subst (λ u. IsLeftIn u new) (sym state) left;
+          clean = λ p. absurd (cc p);
+        }
 
-  pub sync_adds : (later : List Entry) → later ≡ entries ++ Synced ∷ [] → AddsNone (images_of first entries) (images_of first later)
-  sync_adds later more = subst (λ es. AddsNone (images_of first entries) (images_of first es)) (sym more) (syncs first entries image_of)
+    write_tears : Tears at (length asked) (images_after first entries) (images_after first later)
+    write_tears =
+        let tears : Tears w.pos w.size (images_after first entries) (images_after first (entries ++ Wrote w ∷ [])) = record {
+          time = elapses_one first entries (Wrote w);
+          from = λ c left. image_before s (state_of first (entries ++ Wrote w ∷ [])) w.pos w.size w.bytes.items c inside made.fits
+              image.no_shorter (state-more first entries (Wrote w)) left;
+        } in
+        let after : Tears w.pos w.size (images_after first entries) (images_after first later) =
+        subst (λ es. Tears w.pos w.size (images_after first entries) (images_after first es)) (sym more) tears in
+        subst (λ n. Tears at n (images_after first entries) (images_after first later)) made.size
+        (subst (λ p. Tears p w.size (images_after first entries) (images_after first later)) made.pos after)
 
-  pub idle_only : pending ≡ false → Only bytes (images_of first entries)
-  idle_only idle c left = clean_only (state_of first entries) c (kept.clean idle) left ∙ kept.replayed
+    long : length new ≡ max (length bytes) (at + length w.bytes.items)
+    long = omega (arith, ap length made.new_is, length-overwritten w.pos w.bytes.items bytes there, made.pos)
 
--- a write that was cut short
-torn_part : (at n : ℕ) (put old : List ℕ) → at ≤ length old → length put ≤ n → Torn at n old (overwritten at put old)
-torn_part at n put old le fits =
-    let front : List ℕ = take at old in
-    let back : List ℕ = drop (at + length put) old in
-    let new : List ℕ = overwritten at put old in
-    let size : length front ≡ at = length-take-le at old le in
-    let both : length (front ++ put) ≡ at + length put = omega (arith, length-append front put, size) in
-    let turn : at + length put + (n - length put) ≡ at + n = omega arith in
-    let long = length-overwritten at put old le in
-    record {
-      before = ap (take at) (append_assoc front put back) ∙ take_at front (put ++ back) at size;
-      behind = ap (λ (k : ℕ). drop k new) (sym turn) ∙ sym (drop-drop (n - length put) (at + length put) new) ∙ ap (drop (n - length put)) (drop_at (front ++ put) back (at + length put) both) ∙ drop-drop (n - length put) (at + length put) old ∙ ap (λ (k : ℕ). drop k old) turn;
-      no_shorter = omega (arith, long);
-      no_longer = omega (arith, long, fits);
+    new_at : new ≡ overwritten at w.bytes.items bytes
+    new_at = made.new_is ∙ ap (λ p. overwritten p w.bytes.items bytes) made.pos
+
+    -- what a write leaves of what is told: its bytes, or a part of them after a fault
+    write_leaves : (r : Answer) (fails : Bool) (faults now : ℕ) → IsOkUnless r Failed → OnOk r (fails ≡ false)
+        → (fails ≡ false → w.bytes.items ≡ asked) → length new < 2 ^ 64
+        → WriteLeaves (told_by_history first entries bytes faults) (told_by_history first later new now) at asked r
+    write_leaves (Ok done) fails faults now failed done_is whole small =
+        let same = whole done_is in
+        record {
+          told = ap Some (new_at ∙ ap (λ put. overwritten at put bytes) same);
+          images = write_tears;
+          reaches = omega (arith, long, ap length same);
+          fits = omega (arith, long, ap length same, small);
+        }
+    write_leaves (Err Failed) fails faults now failed done_is whole small =
+        let torn = torn_part at (length asked) w.bytes.items bytes le (omega (arith, made.fits, made.size)) in
+        record { told = (new, refl, subst (Torn at (length asked) bytes) (sym new_at) torn); images = write_tears }
+    write_leaves (Err Memory) fails faults now failed done_is whole small = absurd (cc failed)
+
+    pub writes : (r : Answer) (fails : Bool) (faults now : ℕ) → IsOkUnless r Failed → OnOk r (fails ≡ false)
+        → (fails ≡ false → w.bytes.items ≡ asked) → length new < 2 ^ 64
+        → HasCause faults now r → WritesAt (told_by_history first entries bytes faults) (told_by_history first later new now) at asked r
+    writes r fails faults now failed done_is whole small cause = record {
+      leaves = write_leaves r fails faults now failed done_is whole small;
+      grows = omega (arith, long);
+      cause = cause;
     }
 
--- what a write leaves of what is told
-pub write_content : {L : Type 0} (r : Result (Unit {0}) HandleError) (fails : Bool) (at : ℕ) (bytes put old : List ℕ) → IsOkUnless r Failed → (fails ≡ false → put ≡ bytes) → length put ≤ length bytes → at ≤ length old
-    → (r ≡ Err Failed) ↔ L → IsTrue fails ↔ L → WriteLeaves (Some old) (Some (overwritten at put old)) r at bytes
-write_content (Ok done) true at bytes put old failed whole fits le listed told = absurd (cc (listed.1 (told.0 refl)))
-write_content (Ok done) false at bytes put old failed whole fits le listed told = ap (λ (p : List ℕ). Some (overwritten at p old)) (whole refl)
-write_content (Err Failed) fails at bytes put old failed whole fits le listed told = (overwritten at put old, refl, torn_part at (length bytes) put old le fits)
-write_content (Err Memory) fails at bytes put old failed whole fits le listed told = absurd (cc failed)
+  -- a sync that finds a write pending
+  module _ (later : List Entry) (more : later ≡ entries ++ Synced ∷ []) where
+    state : state_of first later ≡ all_synced s.bytes
+    state = ap (state_of first) more ∙ state-more first entries Synced
 
-pub write_images : (r : Result (Unit {0}) HandleError) (at n : ℕ) (old new : Images) → IsOkUnless r Failed → Tears at n old new → WriteMayLeave old new r at n
-write_images (Ok done) at n old new failed t = t
-write_images (Err Failed) at n old new failed t = t
-write_images (Err Memory) at n old new failed t = absurd (cc failed)
+    pub kept_synced : IsHistory first later bytes false
+    kept_synced = record {
+      replayed = ap (λ (u : State). u.bytes) state ∙ kept.replayed;
+      image = subst (λ u. IsLeftIn u bytes) (sym state) (subst (IsLeftIn (all_synced s.bytes)) kept.replayed (image_synced s.bytes));
+      clean = λ p. subst IsClean (sym state) (record { ranges = refl; base = refl });
+    }
 
-pub write_reaches : {L : Type 0} (r : Result (Unit {0}) HandleError) (fails : Bool) (at : ℕ) (bytes put old : List ℕ) → (fails ≡ false → put ≡ bytes) → at ≤ length old
-    → (r ≡ Err Failed) ↔ L → IsTrue fails ↔ L → OnOk r (at + length bytes ≤ length (overwritten at put old))
-write_reaches (Ok done) true at bytes put old whole le listed told = absurd (cc (listed.1 (told.0 refl)))
-write_reaches (Ok done) false at bytes put old whole le listed told = omega (arith, length-overwritten at put old le, ap length (whole refl))
-write_reaches (Err e) fails at bytes put old whole le listed told = tt
+    sync_only : Only bytes (images_after first later)
+    sync_only c left =
+        let clean : IsClean (all_synced s.bytes) = record { ranges = refl; base = refl } in
+        clean_only (all_synced s.bytes) c clean (subst (λ u. IsLeftIn u c) state left) ∙ kept.replayed
+
+    sync_adds : AddsNone (images_after first entries) (images_after first later)
+    sync_adds =
+        let time : Elapses (images_after first entries) (images_after first later) =
+        subst (λ es. Elapses (images_after first entries) (images_after first es)) (sym more) (elapses_one first entries Synced) in
+        let fewer : (c : List ℕ) → IsLeftIn (state_of first later) c → IsLeftIn s c =
+        λ c left. subst (IsLeftIn s) (sym (sync_only c left)) kept.image in
+        record {
+          later = time.later;
+          nothing_new = λ t c le left. ⊎_elim (λ was. was) (λ now. (
+            length entries,
+            le,
+            omega arith,
+            subst (LeftAfter first entries c) (sym (take_all (length entries) entries (omega arith))) (fewer c now),
+          ))
+              (time.nothing_else t c le left);
+          keeps = time.keeps;
+          fewer = fewer;
+        }
+
+    pub sync_pending : (faults now : ℕ) → HasCause {T = Unit {0}} faults now (Ok tt)
+        → Syncs (told_by_history first entries bytes faults) (told_by_history first later bytes now) (Ok tt)
+    sync_pending faults now cause = record {
+      durable = sync_only;
+      stays = record { told = refl; size = refl; images = sync_adds };
+      failed = tt;
+      cause = cause;
+    }
+
+  -- one that finds none
+  idle_only : pending ≡ false → Only bytes (images_after first entries)
+  idle_only idle c left = clean_only s c (kept.clean idle) left ∙ kept.replayed
+
+  pub sync_idle : pending ≡ false → (faults now : ℕ) → HasCause {T = Unit {0}} faults now (Ok tt)
+      → Syncs (told_by_history first entries bytes faults) (told_by_history first entries bytes now) (Ok tt)
+  sync_idle idle faults now cause = record {
+    durable = idle_only idle;
+    stays = record { told = refl; size = refl; images = adds_nothing (images_after first entries) };
+    failed = tt;
+    cause = cause;
+  }

@@ -1,3 +1,6 @@
 pub mod Moments
-pub mod TearLemmas
-pub mod HistoryLemmas
+mod TornLemmas
+pub mod PutLemmas
+mod ImageLemmas
+mod HistoryLemmas
+mod UntoldLemmas

@@ -1,3 +1,4 @@
 pub mod Crash
+pub mod Disks
 pub mod History
-pub mod HistoryLaws
+pub mod DiskLaws

@@ -1,9 +1,10 @@
 //! A disk that is a file of the system. No contract says what it holds.
-ghost use Rattle.std.specs.Prelude.{◌≡◌, ◌≤◌, None, IfOk};
-ghost use Rattle.col_common.specs.Causes.{Rose};
-ghost use Rattle.col_disk.specs.Crash.{anything};
+ghost use Rattle.std.specs.Prelude.{◌≡◌, IfOk};
+ghost use Rattle.col_disk.specs.DiskLaws.{untold_is_disk};
+ghost use Rattle.col_disk.specs.Disks.{untold_disk};
 
 use crate::Disk;
+use crate::faults::counted;
 use bytes::Bytes;
 use col_common::HandleError;
 use std::alloc::Global;
@@ -21,11 +22,11 @@ pub struct DiskOnFile<F: Read + Write + Seek + OpenFile> {
 }
 
 impl<F: Read + Write + Seek + OpenFile> DiskOnFile<F> {
-    /// Opens a file to be read and written, which is made where there is none.
+    /// Opens a file to be read and written, which is made where there is none. It has not failed.
     pub fn open<R: Files<File = F>>(files: &R, path: &str) -> io::Result<DiskOnFile<F>>
     where
         F: Drop,
-        ensures { IfOk result (λ d. ⟦<DiskOnFile<F> as Disk>⟧.faults d ≡ 0) }
+        ensures { IfOk result (λ d. (⟦<DiskOnFile<F> as Disk>⟧.seen d).faults ≡ 0) }
     {
         let mut how = OpenOptions::new();
         how.read(true).write(true).create(true);
@@ -40,21 +41,9 @@ impl<F: Read + Write + Seek + OpenFile> DiskOnFile<F> {
 }
 
 impl<F: Read + Write + Seek + OpenFile> Disk for DiskOnFile<F> {
-    ghost content = { λ _. None };
+    ghost seen = { λ d. untold_disk d.len d.faults };
 
-    ghost size = { λ d. d.len };
-
-    ghost images = { λ _. anything };
-
-    ghost faults = { λ d. d.faults };
-
-    ghost told_whole = { λ _. tt };
-
-    ghost read_is_left = { λ _. tt };
-
-    ghost counts_now = { λ _ t c le left. tt };
-
-    ghost only_now = { λ _ c left. tt };
+    ghost laws = { λ d. untold_is_disk d.len d.faults };
 
     fn len(&self) -> u64 {
         self.len
@@ -62,39 +51,25 @@ impl<F: Read + Write + Seek + OpenFile> Disk for DiskOnFile<F> {
 
     fn read(&mut self, alloc: Global, start: u64, end: u64) -> Result<Bytes, HandleError> {
         let mut part = vec![in alloc; 0; (end - start) as usize]?;
-        if read_from(&mut self.file, start, &mut part).is_err() {
-            return Err(fault(&mut self.faults));
-        }
+        let done = read_from(&mut self.file, start, &mut part);
+        counted(&mut self.faults, done.is_err())?;
         Ok(Bytes::from_vec(part)?)
     }
 
     fn write_at(&mut self, pos: u64, bytes: &[u8]) -> Result<(), HandleError> {
         let Some(end) = pos.checked_add(bytes.len() as u64) else {
-            return Err(fault(&mut self.faults));
+            return counted(&mut self.faults, true);
         };
-        if write_from(&mut self.file, pos, bytes).is_err() {
-            return Err(fault(&mut self.faults));
-        }
+        let done = write_from(&mut self.file, pos, bytes);
+        counted(&mut self.faults, done.is_err())?;
         self.len = self.len.max(end);
         Ok(())
     }
 
     fn sync(&mut self) -> Result<(), HandleError> {
-        if self.file.sync_all().is_err() {
-            return Err(fault(&mut self.faults));
-        }
-        Ok(())
+        let done = self.file.sync_all();
+        counted(&mut self.faults, done.is_err())
     }
-}
-
-// Counts a failure.
-fn fault(faults: &mut u64) -> HandleError
-    ensures failed { result ≡ HandleError.Failed }
-    ensures later { faults.old ≤ faults.new }
-    ensures rose { Rose faults.old faults.new }
-{
-    *faults = faults.saturating_add(1);
-    HandleError::Failed
 }
 
 fn read_from<F: Read + Seek>(file: &mut F, start: u64, part: &mut [u8]) -> io::Result<()> {

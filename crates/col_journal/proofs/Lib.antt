@@ -1,4 +1,5 @@
-pub mod ChangeLemmas
+mod ChangeLemmas
 pub mod SettledLemmas
-pub mod AppendLemmas
-pub mod ReadingLemmas
+mod AppendLemmas
+mod ReadingLemmas
+mod BehindLemmas

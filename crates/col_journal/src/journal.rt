@@ -1,74 +1,73 @@
 //! Changes on a disk, each behind a gate that is opened once the change is on the disk.
-ghost use Rattle.std.specs.Prelude.{◌≡◌, ◌<◌, ◌≤◌, ◌+◌, ◌^◌, List, [], ◌∷◌, ◌++◌, length, IfOk, OnOk};
-ghost use Rattle.col_common.specs.Causes.{HasCause};
-ghost use Rattle.col_disk.specs.Crash.{LeavesOnly, TellsAlike};
-ghost use Rattle.col_journal.specs.Journal.{Change, spelled, IsBeforeOrAfter};
-ghost use Rattle.col_journal.specs.Settled.{IsSettled};
+ghost use Rattle.std.specs.Prelude.{◌≡◌, ◌<◌, ◌≤◌, ◌+◌, ◌^◌, ◌∷◌, ◌++◌, List, length};
+ghost use Rattle.std.specs.Int.{w64, to_le_bytes};
+ghost use Rattle.col_disk.specs.Disks.{GoesOn, Puts};
+ghost use Rattle.col_journal.specs.Journal.{Change};
+ghost use Rattle.col_journal.specs.Settled.{AddsChange, IsSettled, behind_gate};
 
-use col_disk::{Disk, write_synced};
+use crate::gates::{HEAD_LEN, OPEN, SHUT};
 use col_common::HandleError;
-use std::alloc::{AllocError, Global};
+use col_disk::{Disk, write_synced};
 
-/// A journal that ends at a gate which isn't open.
+/// Changes on a disk, one behind another, each behind a gate: a byte that is 1 once the change is on
+/// the disk. The journal ends at the first gate that isn't 1, and what follows counts for nothing.
+/// So a crash in the midst of a change leaves the journal without it or with it, and never with a
+/// part of it. This one ends at `gate`.
 #[derive(Drop)]
 pub struct Journal<D: Disk> {
-    alloc: Global,
     pub disk: D,
     pub gate: u64,
+    ghost within: { gate < (D.seen disk).size },
     ghost fits: { gate + 1 < 2 ^ 64 },
 }
 
 impl<D: Disk> Journal<D> {
     /// A journal that ends at this gate.
-    pub fn at(alloc: Global, disk: D, gate: u64) -> Journal<D>
-        requires { gate + 1 < 2 ^ 64 }
+    pub fn at(disk: D, gate: u64) -> Journal<D>
+        requires within { gate < (D.seen disk).size }
+        requires fits { gate + 1 < 2 ^ 64 }
         ensures disk { result.disk ≡ disk }
         ensures gate { result.gate ≡ gate }
     {
-        Journal { alloc, disk, gate }
+        Journal { disk, gate }
     }
 
-    /// Adds a change. After a fault of the disk, open the journal again.
+    /// Adds a change, of a kind, with its bytes. It takes no memory itself; where the disk wants
+    /// some and has none, the journal is as before. After a fault of the disk the change may stand
+    /// or not: open the journal again.
     pub fn append(&mut self, kind: u8, bytes: &[u8]) -> Result<(), HandleError>
-        requires { self.old.gate < D.size self.old.disk }
-
-        ensures ok { (changes : List Change)
-            → IsSettled (D.content self.old.disk) (D.images self.old.disk) self.old.gate changes
-            → OnOk result (IsSettled (D.content self.new.disk) (D.images self.new.disk) self.new.gate
-            (changes ++ record { kind = kind; bytes = bytes.now } ∷ [])) }
-
-        // A crash at any moment of the call leaves the changes from before it, with the new one or without.
-        ensures any_moment { (changes : List Change)
-            → IsSettled (D.content self.old.disk) (D.images self.old.disk) self.old.gate changes
-            → LeavesOnly (D.images self.old.disk) (D.images self.new.disk)
-            (IsBeforeOrAfter changes (record { kind = kind; bytes = bytes.now })) }
-
-        // Without a fault it may go on.
-        ensures memory { (changes : List Change)
-            → IsSettled (D.content self.old.disk) (D.images self.old.disk) self.old.gate changes
-            → result ≡ Err HandleError.Memory
-            → IsSettled (D.content self.new.disk) (D.images self.new.disk) self.new.gate changes }
-
-        ensures tells { TellsAlike (D.content self.old.disk) (D.content self.new.disk) }
-        ensures within { self.new.gate < D.size self.new.disk }
-        ensures cause { HasCause (D.faults self.old.disk) (D.faults self.new.disk) result }
+        ensures adds { (changes : List Change)
+            → IsSettled (D.seen self.old.disk) self.old.gate changes
+            → AddsChange (D.seen self.old.disk) (D.seen self.new.disk) self.new.gate changes
+            (record { kind = kind; bytes = bytes.now }) result }
+        ensures goes_on { GoesOn (D.seen self.old.disk) (D.seen self.new.disk) result }
     {
-        let staged = behind_gate(self.alloc, kind, bytes)?;
-        write_synced(&mut self.disk, self.gate + 1, &staged)?;
-        write_synced(&mut self.disk, self.gate, &[1])?;
-        self.gate += staged.len() as u64;
+        write_behind(&mut self.disk, self.gate, kind, bytes)?;
+        self.disk.sync()?;
+        write_synced(&mut self.disk, self.gate, &[OPEN])?;
+        self.gate += HEAD_LEN + bytes.len() as u64;
         Ok(())
     }
 }
 
-// The change and a closed gate.
-fn behind_gate(alloc: Global, kind: u8, bytes: &[u8]) -> Result<Vec<u8>, AllocError>
-    ensures { IfOk result (λ staged. staged.items ≡ spelled (record { kind = kind; bytes = bytes.now }) ++ 0 ∷ []) }
+// Writes what stands behind a gate: the change, and a closed gate.
+fn write_behind<D: Disk>(disk: &mut D, gate: u64, kind: u8, bytes: &[u8]) -> Result<(), HandleError>
+    requires within { gate < (D.seen disk.old).size }
+    requires fits { gate + 1 < 2 ^ 64 }
+    ensures { Puts (D.seen disk.old) (D.seen disk.new) (gate + 1)
+        (behind_gate (record { kind = kind; bytes = bytes.now })) result }
 {
-    let mut staged = Vec::new(alloc);
-    staged.push(kind)?;
-    staged.extend_from_slice(&(bytes.len() as u64).to_le_bytes())?;
-    staged.extend_from_slice(bytes)?;
-    staged.push(0)?;
-    Ok(staged)
+    let len = bytes.len() as u64;
+    let head = head_of(kind, len);
+    disk.write_at(gate + 1, &head)?;
+    disk.write_at(gate + HEAD_LEN, bytes)?;
+    disk.write_at(gate + HEAD_LEN + len, &[SHUT])
+}
+
+// The kind and the length of a change.
+fn head_of(kind: u8, len: u64) -> [u8; 9]
+    ensures { result ≡ kind ∷ to_le_bytes w64 len }
+{
+    let n = len.to_le_bytes();
+    [kind, n[0], n[1], n[2], n[3], n[4], n[5], n[6], n[7]]
 }

@@ -1,7 +1,9 @@
-//! A journal of changes on a disk that may crash at any moment. Contracts see which changes a disk's bytes stand for.
+//! A journal of changes on a disk that may crash at any moment. Contracts see which changes a
+//! disk's bytes stand for.
 #![tactic(auto)]
 
 mod found;
+mod gates;
 mod journal;
 mod reading;
 

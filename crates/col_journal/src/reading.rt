@@ -1,92 +1,82 @@
 //! Reads a journal, a change at a time.
-ghost use Rattle.std.specs.Prelude.{◌≡◌, ◌⊎◌, ◌<◌, ◌≤◌, ◌+◌, ◌-◌, List, [], Option, length, get_or, take, drop, slice_range, option_map, IfOk, IfErr, IfSome, OnOk};
-ghost use Rattle.std.specs.Int.{w64, from_le_bytes};
-ghost use Rattle.col_common.specs.Causes.{HasCause, Rose};
-ghost use Rattle.col_disk.specs.Crash.{AddsNone, LeavesOnly, TellsAlike};
+ghost use Rattle.std.specs.Prelude.{◌≡◌, ◌⊎◌, ◌<◌, ◌≤◌, ◌-◌, List, [], Option, None, length, slice_range, IfOk, IfSome, OnOk};
+ghost use Rattle.col_common.specs.declared.error.ColumnarError.TheVariants.{InvalidData};
+ghost use Rattle.col_disk.specs.Crash.{LeavesOnly};
+ghost use Rattle.col_disk.specs.Disks.{GoesOn};
+ghost use Rattle.col_journal.specs.Found.{FindsChange, ReadsAlone};
 ghost use Rattle.col_journal.specs.Journal.{Change, HaveNoChange, changes_of};
-ghost use Rattle.col_journal.specs.Settled.{IsRead};
-ghost use Rattle.col_journal.specs.Found.{Finds, IsFault, IsReadRefusal};
+ghost use Rattle.col_journal.specs.Settled.{IsReadTo};
 
 use crate::Found;
+use crate::gates::{HEAD_LEN, OPEN, SHUT};
 use bytes::Bytes;
-use col_common::{ColumnarError, HandleError};
+use col_common::{ColumnarError, HandleError, whole_number};
 use col_disk::{Disk, write_synced};
 use std::alloc::Global;
 
-/// Syncs, and gives a disk that has at most one byte a closed gate. The journal is then read from its first gate on.
+/// Makes a disk's journal ready to be read, from its first gate on: syncs, and gives a disk that has
+/// at most one byte a closed gate.
 pub fn ready<D: Disk>(disk: &mut D) -> Result<(), HandleError>
-    ensures ok { OnOk result (IfSome (D.content disk.old) (λ bytes.
-        IsRead (D.content disk.new) (D.images disk.new) 0 [] (changes_of bytes))) }
+    ensures ok { OnOk result (IfSome (D.seen disk.old).told (λ bytes.
+        IsReadTo (D.seen disk.new) 0 [] (changes_of bytes))) }
 
-    // A crash at any moment leaves what it could leave at the start, or what stands for no change, as the bytes do.
-    ensures any_moment { IfSome (D.content disk.old) (λ bytes. LeavesOnly (D.images disk.old) (D.images disk.new)
-        (λ c. (D.images disk.old).may_leave c ⊎ HaveNoChange bytes c)) }
+    // A crash at any moment leaves what it could leave at the start, or what stands for no change,
+    // as the bytes do.
+    ensures any_moment { IfSome (D.seen disk.old).told (λ bytes.
+        LeavesOnly (D.seen disk.old).images (D.seen disk.new).images
+        (λ c. (D.seen disk.old).images.may_leave c ⊎ HaveNoChange bytes c)) }
 
-    ensures tells { TellsAlike (D.content disk.old) (D.content disk.new) }
-    ensures within { OnOk result (0 < D.size disk.new) }
-    ensures cause { HasCause (D.faults disk.old) (D.faults disk.new) result }
+    ensures within { OnOk result (0 < (D.seen disk.new).size) }
+    ensures goes_on { GoesOn (D.seen disk.old) (D.seen disk.new) result }
 {
     disk.sync()?;
     if disk.len() > 1 {
         return Ok(());
     }
-    write_synced(disk, 0, &[0])
+    write_synced(disk, 0, &[SHUT])
 }
 
-/// The change behind a gate, and the place of the next gate; none where the gate isn't open.
+/// The change behind a gate, and the place of the next gate; none where the gate isn't open. Each
+/// byte up to the next gate is read once.
 pub fn next_change<D: Disk>(
     disk: &mut D,
     alloc: Global,
     gate: u64,
 ) -> Result<Option<(Found, u64)>, ColumnarError>
-    requires { gate < D.size disk.old }
+    requires { gate < (D.seen disk.old).size }
 
     ensures ok { (changes : List Change) (all : Option (List Change))
-        → IsRead (D.content disk.old) (D.images disk.old) gate changes all
-        → IfOk result (λ found. Finds (D.content disk.new) (D.images disk.new) gate changes all found) }
+        → IsReadTo (D.seen disk.old) gate changes all
+        → IfOk result (FindsChange (D.seen disk.new) gate changes all) }
 
     ensures invalid_data { (changes : List Change) (all : Option (List Change))
-        → IsRead (D.content disk.old) (D.images disk.old) gate changes all
-        → result ≡ Err ColumnarError.InvalidData → all ≡ None }
+        → IsReadTo (D.seen disk.old) gate changes all → result ≡ Err InvalidData → all ≡ None }
 
-    ensures within { IfOk result (λ found. IfSome found (λ f. (gate < f.1) × (f.1 < D.size disk.new))) }
-    ensures content { D.content disk.new ≡ D.content disk.old }
-    ensures size { D.size disk.new ≡ D.size disk.old }
-    ensures images { AddsNone (D.images disk.old) (D.images disk.new) }
-    ensures faults { D.faults disk.old ≤ D.faults disk.new }
-    ensures fault { IfErr result (λ e. IsFault e → Rose (D.faults disk.old) (D.faults disk.new)) }
-    ensures known { IfErr result IsReadRefusal }
+    ensures within { IfOk result (λ found. IfSome found (λ f.
+        (gate < f.1) × (f.1 < (D.seen disk.new).size))) }
+    ensures reads { ReadsAlone (D.seen disk.old) (D.seen disk.new) result }
 {
-    let end = disk.len();
-    let first = read_part(disk, alloc, gate, gate + 1)?;
-    if first[0] != 1 {
+    let room = disk.len() - gate;
+    let front = read_part(disk, alloc, gate, gate + room.min(HEAD_LEN))?;
+    let head = front.as_slice();
+    if head[0] != OPEN {
         return Ok(None);
     }
-    let room = end - gate - 1;
-    if room < 10 {
+    // Behind a change there is a gate.
+    if room <= HEAD_LEN {
         return Err(ColumnarError::InvalidData);
     }
-    let header = read_part(disk, alloc, gate + 1, gate + 10)?;
-    let size = length_in(&header);
-    if size > room - 10 {
+    let len = whole_number(&head[2..]);
+    if len >= room - HEAD_LEN {
         return Err(ColumnarError::InvalidData);
     }
-    let bytes = read_part(disk, alloc, gate + 10, gate + 10 + size)?;
+    let next = gate + HEAD_LEN + len;
+    let bytes = read_part(disk, alloc, gate + HEAD_LEN, next)?;
     let found = Found {
-        kind: header[0],
+        kind: head[1],
         bytes,
     };
-    Ok(Some((found, gate + 10 + size)))
-}
-
-// The length behind the kind.
-fn length_in(header: &[u8]) -> u64
-    requires { length header.now ≡ 9 }
-    ensures { result ≡ from_le_bytes w64 (take 8 (drop 1 header.now)) }
-{
-    u64::from_le_bytes([
-        header[1], header[2], header[3], header[4], header[5], header[6], header[7], header[8],
-    ])
+    Ok(Some((found, next)))
 }
 
 // A part of the disk, with the refusal that callers hand on.
@@ -97,15 +87,12 @@ fn read_part<D: Disk>(
     end: u64,
 ) -> Result<Bytes, ColumnarError>
     requires ordered { start ≤ «end» }
-    requires within { «end» ≤ D.size disk.old }
-    ensures bytes { IfOk result (λ part. IfSome (D.content disk.old) (λ bytes. part ≡ slice_range bytes start «end»)) }
-    ensures length { IfOk result (λ part. length part ≡ «end» - start) }
-    ensures kept { (D.content disk.new ≡ D.content disk.old) × (D.size disk.new ≡ D.size disk.old) }
-    ensures images { AddsNone (D.images disk.old) (D.images disk.new) }
-    ensures valid { result ≡ Err ColumnarError.InvalidData → ⊥ }
-    ensures faults { D.faults disk.old ≤ D.faults disk.new }
-    ensures fault { IfErr result (λ e. IsFault e → Rose (D.faults disk.old) (D.faults disk.new)) }
-    ensures known { IfErr result IsReadRefusal }
+    requires within { «end» ≤ (D.seen disk.old).size }
+    ensures bytes { IfOk result (λ part. IfSome (D.seen disk.old).told (λ bytes.
+        part ≡ slice_range bytes start «end»)) }
+    ensures count { IfOk result (λ part. length part ≡ «end» - start) }
+    ensures reads { ReadsAlone (D.seen disk.old) (D.seen disk.new) result
+        × (result ≡ Err InvalidData → ⊥) }
 {
     match disk.read(alloc, start, end) {
         Ok(part) => Ok(part),

@@ -1,11 +1,18 @@
-use Rattle.std.proofs.Common.{length}
-use Rattle.col_disk.proofs.Moments.{after_write, after_sync}
+use Rattle.std.proofs.lemmas.Result.{err_from_is_err_and}
+use Rattle.col_disk.proofs.PutLemmas.{one_write, put_durable, then_sync}
 use Rattle.col_disk.proofs.disk.write_synced.Goals as goal
 
-pub returns-in_err-write_at-clause-any_moment : goal.returns-in_err-write_at-clause-any_moment
-returns-in_err-write_at-clause-any_moment g c =
-    after_write c.write_at.result _ _ c.args.pos (length c.args.bytes.now) (g.met.D.Disk.only_now c.args.disk.now) c.write_at.ensures.images
+pub returns-in_err-write_at-clause-puts : goal.returns-in_err-write_at-clause-puts
+returns-in_err-write_at-clause-puts g c =
+    let p = err_from_is_err_and c.from_residual.result c.from_residual.ensures.1 in
+    rw (p.1, p.2) (one_write c.args.pos c.args.bytes.now _ (g.met.D.Disk.laws c.args.disk.now) c.in_err-write_at.ensures)
 
-pub returns-clause-any_moment : goal.returns-clause-any_moment
-returns-clause-any_moment g c =
-    after_sync c.write_at.result _ _ _ c.args.pos (length c.args.bytes.now) (g.met.D.Disk.only_now c.args.disk.now) c.write_at.ensures.images c.sync.ensures.images
+pub returns-clause-durable : goal.returns-clause-durable
+returns-clause-durable g c =
+    let puts = one_write c.args.pos c.args.bytes.now _ (g.met.D.Disk.laws c.args.disk.now) c.in_ok-write_at.ensures in
+    put_durable c.args.pos c.args.bytes.now c.sync.result puts c.sync.ensures
+
+pub returns-clause-puts : goal.returns-clause-puts
+returns-clause-puts g c =
+    let puts = one_write c.args.pos c.args.bytes.now _ (g.met.D.Disk.laws c.args.disk.now) c.in_ok-write_at.ensures in
+    then_sync c.args.pos c.args.bytes.now c.sync.result puts c.sync.ensures (g.met.D.Disk.laws c.write_at.new.self)
