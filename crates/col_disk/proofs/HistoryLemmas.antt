@@ -9,11 +9,12 @@ use Rattle.col_disk.specs.declared.history.Entry.TheVariants.{Wrote, Synced}
 use Rattle.col_disk.specs.declared.history.Write.{Write}
 use Rattle.col_disk.specs.Crash.{Elapses, AddsNone, Tears, Torn, Only, overwritten}
 use Rattle.col_disk.specs.Disks.{Answer, Syncs, WriteLeaves, WritesAt}
-use Rattle.col_disk.specs.History.{State, all_synced, state_after, state_after_all, state_of, IsLeftIn, IsClean, IsHistory, IsMade, images_after, told_by_history}
+use Rattle.col_disk.specs.History.{State, all_synced, state_after, state_after_all, state_of, IsLeftIn, IsClean, IsHistory, IsMadeWrite, images_after, told_by_history}
 use Rattle.col_disk.proofs.ImageLemmas.{image_before, image_written, clean_only, image_synced}
 use Rattle.col_disk.proofs.Moments.{adds_nothing}
 use Rattle.col_disk.proofs.TornLemmas.{length-overwritten, torn_part}
 
+-- the state after some entries and one more
 after-more : (s : State) (entries : List Entry) (entry : Entry)
     → state_after_all s (entries ++ entry ∷ []) ≡ state_after (state_after_all s entries) entry
 unfolding state_after_all
@@ -21,7 +22,8 @@ after-more s [] entry = refl
 after-more s (first ∷ entries) entry = after-more (state_after s first) entries entry
 
 -- the state after one entry more
-state-more : (first : List ℕ) (entries : List Entry) (entry : Entry) → state_of first (entries ++ entry ∷ []) ≡ state_after (state_of first entries) entry
+state-more : (first : List ℕ) (entries : List Entry) (entry : Entry)
+    → state_of first (entries ++ entry ∷ []) ≡ state_after (state_of first entries) entry
 state-more first entries entry = after-more (all_synced first) entries entry
 
 module _ (first : List ℕ) (entries : List Entry) where
@@ -40,7 +42,8 @@ module _ (first : List ℕ) (entries : List Entry) where
             (λ past. inl (left.0, left.1, past, subst (LeftAfter c) (take-append-le left.0 entries (entry ∷ []) past) left.3))
             (cases_lt (length entries) left.0);
         keeps = λ t c le left.
-            (left.0, left.1, omega (arith, left.2, size), subst (LeftAfter c) (sym (take-append-le left.0 entries (entry ∷ []) left.2)) left.3);
+            let same = sym (take-append-le left.0 entries (entry ∷ []) left.2) in
+            (left.0, left.1, omega (arith, left.2, size), subst (LeftAfter c) same left.3);
       }
 
 -- what is kept of a disk that nothing was written to
@@ -55,12 +58,20 @@ module _ {first bytes : List ℕ} {entries : List Entry} {pending : Bool} (kept 
   abbrev s : State
   s = state_of first entries
 
+  -- what a read gives is an image
   image : IsLeftIn s s.bytes
   image = subst (IsLeftIn s) (sym kept.replayed) kept.image
 
   -- a write of its bytes or of a part of them
-  module _ {at : ℕ} {asked new : List ℕ} {w : Write} (later : List Entry) (made : IsMade at asked bytes w new) (le : at ≤ length bytes)
-      (more : later ≡ entries ++ Wrote w ∷ []) where
+  module _ {at : ℕ} {asked old new : List ℕ} {w : Write} {room : List Entry} (later : List Entry) (old_is : old ≡ bytes)
+      (was_made : IsMadeWrite at asked old w new) (le : at ≤ length bytes) (roomy : room ≡ entries)
+      (wrote : later ≡ room ++ Wrote w ∷ []) where
+    made : IsMadeWrite at asked bytes w new
+    made = subst (λ l. IsMadeWrite at asked l w new) old_is was_made
+
+    more : later ≡ entries ++ Wrote w ∷ []
+    more = wrote ∙ ap (λ (es : List Entry). es ++ Wrote w ∷ []) roomy
+
     there : w.pos ≤ length bytes
     there = omega (arith, made.pos, le)
 

@@ -27,6 +27,7 @@ overwritten-outside at n put old i le fits inside (inr behind) =
     subst (λ k. get_or (overwritten at put old) k 0 ≡ get_or old k 0) place
     (sym (get_or-drop (at + n) (overwritten at put old) (i - (at + n)) 0) ∙ same ∙ get_or-drop (at + n) old (i - (at + n)) 0)
 
+-- the place lies in the range
 abbrev in_range : ℕ → ℕ → ℕ → Bool
 in_range at n i = nat_le at i && nat_lt i (at + n)
 
@@ -44,14 +45,19 @@ where_is at n i = ⊎_elim
 outside : (at n i : ℕ) (ranges : List (ℕ × ℕ)) → is_written ((at, n) ∷ ranges) i ≡ false → (is_written ranges i ≡ false) × IsOutside at n i
 outside at n i ranges free = ⊎_elim
     (λ w. let there : is_written ((at, n) ∷ ranges) i ≡ true = ap (λ b. b || is_written ranges i) w.0 in absurd (cc (sym there ∙ free)))
-    (λ w. let rest : is_written ((at, n) ∷ ranges) i ≡ is_written ranges i = ap (λ b. b || is_written ranges i) w.0 in (sym rest ∙ free, w.1))
+    (λ w.
+    let rest : is_written ((at, n) ∷ ranges) i ≡ is_written ranges i = ap (λ b. b || is_written ranges i) w.0 in
+    (sym rest ∙ free, w.1))
     (where_is at n i)
 
+-- no place is inside and outside
 not_both : (at n i : ℕ) → at ≤ i → i < at + n → IsOutside at n i → ⊥
 not_both at n i from inside (inl below) = omega arith
 not_both at n i from inside (inr behind) = omega arith
 
-still_outside : (at n i : ℕ) (ranges : List (ℕ × ℕ)) → is_written ranges i ≡ false → IsOutside at n i → is_written ((at, n) ∷ ranges) i ≡ false
+-- outside of them all the place isn't written
+still_outside : (at n i : ℕ) (ranges : List (ℕ × ℕ)) → is_written ranges i ≡ false → IsOutside at n i
+    → is_written ((at, n) ∷ ranges) i ≡ false
 still_outside at n i ranges free out = ⊎_elim
     (λ w. absurd (not_both at n i w.1 w.2 out))
     (λ w. ap (λ b. b || is_written ranges i) w.0 ∙ free)
@@ -117,7 +123,8 @@ was_left s t at n c shorter base ranges image =
     record { no_shorter = omega (arith, size, reach, shorter); no_longer = omega (arith, size); others = kept }
 
 -- and the write tore it
-was_torn : (s : State) (at n : ℕ) (c : List ℕ) → at ≤ length s.bytes → length c ≤ max (length s.bytes) (at + n) → Torn at n (before s at n c) c
+was_torn : (s : State) (at n : ℕ) (c : List ℕ) → at ≤ length s.bytes → length c ≤ max (length s.bytes) (at + n)
+    → Torn at n (before s at n c) c
 was_torn s at n c le reach =
     let d = before s at n c in
     let size = long s.base s.bytes c at n in
@@ -153,7 +160,8 @@ pub image_before : (s t : State) (at n : ℕ) (put c : List ℕ) → at ≤ leng
     → t ≡ record { base = s.base; ranges = (at, n) ∷ s.ranges; bytes = overwritten at put s.bytes } → IsLeftIn t c
     → (d : List ℕ) × IsLeftIn s d × Torn at n d c
 image_before s t at n put c le fits shorter is image =
-    let bytes : length t.bytes ≡ max (length s.bytes) (at + length put) = ap (λ (u : State). length u.bytes) is ∙ length-overwritten at put s.bytes le in
+    let bytes : length t.bytes ≡ max (length s.bytes) (at + length put) =
+    ap (λ (u : State). length u.bytes) is ∙ length-overwritten at put s.bytes le in
     let base = ap (λ (u : State). u.base) is in
     let ranges = ap (λ (u : State). u.ranges) is in
     let reach : length c ≤ max (length s.bytes) (at + n) = omega (arith, image.no_longer, bytes, fits) in

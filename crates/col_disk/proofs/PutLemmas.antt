@@ -4,7 +4,7 @@ use Rattle.col_common.specs.Outside.{Told}
 use Rattle.col_common.specs.declared.outside.HandleError.{HandleError}
 use Rattle.col_common.specs.declared.outside.HandleError.TheVariants.{Failed, Memory}
 use Rattle.col_disk.specs.Crash.{Elapses, LeavesOnly, MayBeTorn, Only, Torn, overwritten}
-use Rattle.col_disk.specs.Disks.{Answer, SeenDisk, IsDisk, IsDurable, GoesOn, Puts, Syncs, TellsAlike, TornAsTold, WriteLeaves, WritesAt}
+use Rattle.col_disk.specs.Disks.{Answer, SeenDisk, IsDisk, IsDurable, IsLater, WritesParts, Syncs, TellsAlike, TornAsTold, WriteLeaves, WritesAt}
 use Rattle.col_disk.proofs.Moments.{goes_on, joins, leaves_weaker, none_time, started}
 use Rattle.col_disk.proofs.TornLemmas.{overwritten-twice, torn_twice, torn_wider, untorn}
 
@@ -21,10 +21,12 @@ write_from (Ok done) old new at bytes w c left = w.images.from c left
 write_from (Err Failed) old new at bytes w c left = w.images.from c left
 write_from (Err Memory) old new at bytes w c left = (c, w.images.fewer c left, untorn at (length bytes) c)
 
+-- whether there are bytes stays, whatever is made of them
 map_tells : (f : List ℕ → List ℕ) (o : Told) → is_some (option_map f o) ≡ is_some o
 map_tells f None = refl
 map_tells f (Some bytes) = refl
 
+-- so it does where they were torn
 torn_tells : (at n : ℕ) (old new : Told) → TornAsTold at n old new → TellsAlike old new
 torn_tells at n None new torn = ap is_some torn
 torn_tells at n (Some old) new torn = ap is_some torn.1
@@ -44,8 +46,9 @@ write_moments {old} {new} at bytes r disk w =
     goes_on P (started old.images P disk.only_now (λ c left. (c, left, untorn at (length bytes) c)))
     (write_time r old new at bytes w.leaves) (write_from r old new at bytes w.leaves)
 
-write_goes_on : {old new : SeenDisk} (at : ℕ) (bytes : List ℕ) (r : Answer) → WritesAt old new at bytes r → GoesOn old new r
-write_goes_on {old} {new} at bytes r w = record {
+-- what holds behind a write, whatever it answers
+write_later : {old new : SeenDisk} (at : ℕ) (bytes : List ℕ) (r : Answer) → WritesAt old new at bytes r → IsLater old new r
+write_later {old} {new} at bytes r w = record {
   tells = write_tells r old new at bytes w.leaves;
   grows = w.grows;
   cause = w.cause;
@@ -53,25 +56,25 @@ write_goes_on {old} {new} at bytes r w = record {
 
 -- one write
 pub one_write : {old new : SeenDisk} (at : ℕ) (bytes : List ℕ) (r : Answer) → IsDisk old → WritesAt old new at bytes r
-    → Puts old new at bytes r
+    → WritesParts old new at bytes r
 one_write at bytes (Ok done) disk w = record {
   told = w.leaves.told;
   any_moment = write_moments at bytes (Ok done) disk w;
   reaches = w.leaves.reaches;
   fits = w.leaves.fits;
-  goes_on = write_goes_on at bytes (Ok done) w;
+  later = write_later at bytes (Ok done) w;
 }
 one_write at bytes (Err e) disk w = record {
   told = tt;
   any_moment = write_moments at bytes (Err e) disk w;
   reaches = tt;
   fits = tt;
-  goes_on = write_goes_on at bytes (Err e) w;
+  later = write_later at bytes (Err e) w;
 }
 
 -- a write that failed ends a run of more
-pub cut_off : {old new : SeenDisk} (at : ℕ) (a b : List ℕ) (e : HandleError) → Puts old new at a (Err e)
-    → Puts old new at (a ++ b) (Err e)
+pub cut_off : {old new : SeenDisk} (at : ℕ) (a b : List ℕ) (e : HandleError) → WritesParts old new at a (Err e)
+    → WritesParts old new at (a ++ b) (Err e)
 cut_off {old} {new} at a b e puts =
     let P = MayBeTorn old.images at (length a) in
     let Q = MayBeTorn old.images at (length (a ++ b)) in
@@ -80,7 +83,7 @@ cut_off {old} {new} at a b e puts =
       any_moment = leaves_weaker P Q puts.any_moment (λ c torn. (torn.0, torn.1, torn_wider at a b torn.0 c torn.2));
       reaches = tt;
       fits = tt;
-      goes_on = puts.goes_on;
+      later = puts.later;
     }
 
 -- what is told after two parts
@@ -92,7 +95,8 @@ told_twice at a b (Some old) mid new le first second =
     second ∙ ap (option_map (overwritten (at + length a) b)) first ∙ ap Some (overwritten-twice at a b old le)
 
 -- what is told is as long as the disk
-told_reaches : (told : Told) (size at : ℕ) → IfSome told (λ bytes. length bytes ≡ size) → at ≤ size → IfSome told (λ bytes. at ≤ length bytes)
+told_reaches : (told : Told) (size at : ℕ) → IfSome told (λ bytes. length bytes ≡ size) → at ≤ size
+    → IfSome told (λ bytes. at ≤ length bytes)
 told_reaches None size at whole le = tt
 told_reaches (Some bytes) size at whole le = omega (arith, whole, le)
 
@@ -111,36 +115,44 @@ both_moments old mid new at a b disk first second =
     let twice = torn_twice at (length a) (length b) was.0 torn.0 c was.2 torn.2 in
     (was.0, was.1, subst (λ n. Torn at n was.0 c) (sym (length-append a b)) twice))
 
-both_go_on : {old mid new : SeenDisk} (r : Answer) → GoesOn old mid (Ok tt) → GoesOn mid new r → GoesOn old new r
-both_go_on {old} {mid} {new} r first second = record {
+-- and behind two calls
+both_later : {old mid new : SeenDisk} (r : Answer) → IsLater old mid (Ok tt) → IsLater mid new r → IsLater old new r
+both_later {old} {mid} {new} r first second = record {
   tells = second.tells ∙ first.tells;
   grows = omega (arith, first.grows, second.grows);
-  cause = record { later = omega (arith, first.cause.later, second.cause.later); failed = λ e. omega (arith, first.cause.later, second.cause.failed e) };
+  cause = record {
+    later = omega (arith, first.cause.later, second.cause.later);
+    failed = λ e. omega (arith, first.cause.later, second.cause.failed e);
+  };
 }
 
 -- a part behind the others
 pub then_write : {old mid new : SeenDisk} (at : ℕ) (a b : List ℕ) (place : ℕ) (r : Answer) → IsDisk old → IsDisk mid → at ≤ old.size
-    → place ≡ at + length a → Puts old mid at a (Ok tt) → WritesAt mid new place b r → Puts old new at (a ++ b) r
+    → place ≡ at + length a → WritesParts old mid at a (Ok tt) → WritesAt mid new place b r → WritesParts old new at (a ++ b) r
 then_write {old} {mid} {new} at a b place r disk_old disk_mid le is first write =
     go r (subst (λ p. WritesAt mid new p b r) is write)
   where
-    moments : (r : Answer) → WritesAt mid new (at + length a) b r → LeavesOnly old.images new.images (MayBeTorn old.images at (length (a ++ b)))
+    moments : (r : Answer) → WritesAt mid new (at + length a) b r
+        → LeavesOnly old.images new.images (MayBeTorn old.images at (length (a ++ b)))
     moments r w = both_moments old mid new at a b disk_mid first.any_moment (write_moments (at + length a) b r disk_mid w)
 
-    go : (r : Answer) → WritesAt mid new (at + length a) b r → Puts old new at (a ++ b) r
+    reaches : IfSome old.told (λ bytes. at ≤ length bytes)
+    reaches = told_reaches old.told old.size at disk_old.told_whole le
+
+    go : (r : Answer) → WritesAt mid new (at + length a) b r → WritesParts old new at (a ++ b) r
     go (Ok done) w = record {
-      told = told_twice at a b old.told mid.told new.told (told_reaches old.told old.size at disk_old.told_whole le) first.told w.leaves.told;
+      told = told_twice at a b old.told mid.told new.told reaches first.told w.leaves.told;
       any_moment = moments (Ok done) w;
       reaches = omega (arith, length-append a b, w.leaves.reaches);
       fits = omega (arith, length-append a b, w.leaves.fits);
-      goes_on = both_go_on (Ok done) first.goes_on (write_goes_on (at + length a) b (Ok done) w);
+      later = both_later (Ok done) first.later (write_later (at + length a) b (Ok done) w);
     }
     go (Err e) w = record {
       told = tt;
       any_moment = moments (Err e) w;
       reaches = tt;
       fits = tt;
-      goes_on = both_go_on (Err e) first.goes_on (write_goes_on (at + length a) b (Err e) w);
+      later = both_later (Err e) first.later (write_later (at + length a) b (Err e) w);
     }
 
 -- a sync that is Ok makes durable what is told
@@ -154,28 +166,30 @@ told_durable mid new at bytes (Some held) is only same = record {
 }
 
 -- what was put, and then synced
-pub put_durable : {old mid new : SeenDisk} (at : ℕ) (bytes : List ℕ) (r : Answer) → Puts old mid at bytes (Ok tt) → Syncs mid new r
+pub put_durable : {old mid new : SeenDisk} (at : ℕ) (bytes : List ℕ) (r : Answer) → WritesParts old mid at bytes (Ok tt) → Syncs mid new r
     → OnOk r (IfSome old.told (λ held. IsDurable new (overwritten at bytes held)))
-put_durable {old} {mid} {new} at bytes (Ok done) puts syncs = told_durable mid new at bytes old.told puts.told syncs.durable syncs.stays.told
+put_durable {old} {mid} {new} at bytes (Ok done) puts syncs =
+    told_durable mid new at bytes old.told puts.told syncs.durable syncs.stays.told
 put_durable at bytes (Err e) puts syncs = tt
 
 -- a sync, whatever it answers, leaves what was put
-pub then_sync : {old mid new : SeenDisk} (at : ℕ) (bytes : List ℕ) (r : Answer) → Puts old mid at bytes (Ok tt) → Syncs mid new r
-    → IsDisk mid → Puts old new at bytes r
+pub then_sync : {old mid new : SeenDisk} (at : ℕ) (bytes : List ℕ) (r : Answer) → WritesParts old mid at bytes (Ok tt) → Syncs mid new r
+    → IsDisk mid → WritesParts old new at bytes r
 then_sync {old} {mid} {new} at bytes r puts syncs disk =
     let P = MayBeTorn old.images at (length bytes) in
     let stays = syncs.stays in
     let moments : LeavesOnly old.images new.images P = goes_on P puts.any_moment (none_time stays.images) (λ c left.
     puts.any_moment.each c (disk.counts_now old.images.clock c puts.any_moment.later (stays.images.fewer c left))) in
-    let more : GoesOn mid new r = record { tells = ap is_some stays.told; grows = omega (arith, stays.size); cause = syncs.cause } in
-    go r moments (both_go_on r puts.goes_on more)
+    let more : IsLater mid new r = record { tells = ap is_some stays.told; grows = omega (arith, stays.size); cause = syncs.cause } in
+    go r moments (both_later r puts.later more)
   where
-    go : (r : Answer) → LeavesOnly old.images new.images (MayBeTorn old.images at (length bytes)) → GoesOn old new r → Puts old new at bytes r
+    go : (r : Answer) → LeavesOnly old.images new.images (MayBeTorn old.images at (length bytes)) → IsLater old new r
+        → WritesParts old new at bytes r
     go (Ok done) moments on = record {
       told = syncs.stays.told ∙ puts.told;
       any_moment = moments;
       reaches = omega (arith, puts.reaches, syncs.stays.size);
       fits = puts.fits;
-      goes_on = on;
+      later = on;
     }
-    go (Err e) moments on = record { told = tt; any_moment = moments; reaches = tt; fits = tt; goes_on = on }
+    go (Err e) moments on = record { told = tt; any_moment = moments; reaches = tt; fits = tt; later = on }

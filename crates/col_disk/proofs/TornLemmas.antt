@@ -25,7 +25,8 @@ behind-overwritten at put old n le fits =
     let more : ℕ = n - length put in
     let turn : at + length put + more ≡ at + n = omega (arith, fits) in
     let size : length front ≡ at + length put = omega (arith, length-append (take at old) put, length-take-le at old le) in
-    let same : drop more (drop (at + length put) (front ++ back)) ≡ drop more back = ap (drop more) (drop_at front back (at + length put) size) in
+    let same : drop more (drop (at + length put) (front ++ back)) ≡ drop more back =
+    ap (drop more) (drop_at front back (at + length put) size) in
     subst (λ k. drop k (front ++ back) ≡ drop k old) turn
     (sym (drop-drop more (at + length put) (front ++ back)) ∙ same ∙ drop-drop more (at + length put) old)
 

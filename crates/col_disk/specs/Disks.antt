@@ -52,7 +52,7 @@ TellsAlike old new = is_some new ≡ is_some old
 
 -- Whatever a call that writes answers: the disk tells its bytes or doesn't, as before, is no
 -- shorter, and answers Failed only where its count rose.
-pub record GoesOn (old new : SeenDisk) (result : Answer) : Type 0 where
+pub record IsLater (old new : SeenDisk) (result : Answer) : Type 0 where
   pub tells : TellsAlike old.told new.told
   pub grows : old.size ≤ new.size
   pub cause : HasCause old.faults new.faults result
@@ -105,13 +105,13 @@ pub record Syncs (old new : SeenDisk) (result : Answer) : Type 0 where
 
 -- What several writes answer and leave that put these bytes in their place, a part behind another:
 -- a crash at any moment leaves what it could leave before, torn.
-pub record Puts (old new : SeenDisk) (at : ℕ) (bytes : List ℕ)
+pub record WritesParts (old new : SeenDisk) (at : ℕ) (bytes : List ℕ)
     (result : Answer) : Type 0 where
   pub told : OnOk result (new.told ≡ option_map (overwritten at bytes) old.told)
   pub any_moment : LeavesOnly old.images new.images (MayBeTorn old.images at (length bytes))
   pub reaches : OnOk result (at + length bytes ≤ new.size)
   pub fits : OnOk result (at + length bytes < 2 ^ 64)
-  pub goes_on : GoesOn old new result
+  pub later : IsLater old new result
 
 -- the bytes are on the disk, and nothing else
 pub record IsDurable (disk : SeenDisk) (bytes : List ℕ) : Type 0 where

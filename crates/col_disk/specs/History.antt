@@ -15,7 +15,7 @@ pub record State : Type 0 where
   pub bytes : List ℕ
 
 -- a write of these bytes at a place, or of a part of them, and the bytes that it leaves of old ones
-pub record IsMade (at : ℕ) (asked old : List ℕ) (w : Write) (new : List ℕ) : Type 0 where
+pub record IsMadeWrite (at : ℕ) (asked old : List ℕ) (w : Write) (new : List ℕ) : Type 0 where
   pub pos : w.pos ≡ at
   pub size : w.size ≡ length asked
   pub fits : length w.bytes.items ≤ w.size

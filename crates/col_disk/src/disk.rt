@@ -2,7 +2,7 @@
 ghost use Rattle.std.specs.Prelude.{◌≡◌, ◌≤◌, IfSome, OnOk};
 ghost use Rattle.col_common.specs.declared.outside.HandleError.TheVariants.{Memory};
 ghost use Rattle.col_disk.specs.Crash.{overwritten};
-ghost use Rattle.col_disk.specs.Disks.{IsDisk, IsDurable, Puts, ReadsPart, SeenDisk, Stays, Syncs, WritesAt};
+ghost use Rattle.col_disk.specs.Disks.{IsDisk, IsDurable, WritesParts, ReadsPart, SeenDisk, Stays, Syncs, WritesAt};
 
 use bytes::Bytes;
 use col_common::HandleError;
@@ -24,13 +24,14 @@ pub trait Disk {
     fn len(&self) -> u64
         ensures { result ≡ (seen self.now).size };
 
-    /// The bytes from `start` to `end`, without the one at `end`; all of them or none.
+    /// The bytes from `start` up to the one before `end`, all of them or none.
     fn read(&mut self, alloc: Global, start: u64, end: u64) -> Result<Bytes, HandleError>
         requires ordered { start ≤ «end» }
         requires within { «end» ≤ (seen self.old).size }
         ensures { ReadsPart (seen self.old) (seen self.new) start «end» result };
 
-    /// Writes over what is there, and past the end. A write that fails leaves any part of its bytes.
+    /// Writes over what is there, and past the end. A write that fails leaves any part of its
+    /// bytes, or others in their place.
     fn write_at(&mut self, pos: u64, bytes: &[u8]) -> Result<(), HandleError>
         requires { pos ≤ (seen self.old).size }
         ensures { WritesAt (seen self.old) (seen self.new) pos bytes.now result };
@@ -49,7 +50,7 @@ pub fn write_synced<D: Disk>(disk: &mut D, pos: u64, bytes: &[u8]) -> Result<(),
     requires { pos ≤ (D.seen disk.old).size }
     ensures durable { OnOk result (IfSome (D.seen disk.old).told (λ held.
         IsDurable (D.seen disk.new) (overwritten pos bytes.now held))) }
-    ensures puts { Puts (D.seen disk.old) (D.seen disk.new) pos bytes.now result }
+    ensures puts { WritesParts (D.seen disk.old) (D.seen disk.new) pos bytes.now result }
     ensures memory { result ≡ Err Memory → Stays (D.seen disk.old) (D.seen disk.new) }
 {
     disk.write_at(pos, bytes)?;

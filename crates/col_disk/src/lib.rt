@@ -1,5 +1,5 @@
-//! A disk that may crash at any moment. Contracts see what its bytes are, and what a crash may leave
-//! of them, now and since each earlier moment.
+//! A disk that may crash at any moment. Contracts see what its bytes are, and what a crash may
+//! leave of them, now and since each earlier moment.
 #![tactic(auto)]
 
 mod disk;

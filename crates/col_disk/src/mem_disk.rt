@@ -4,7 +4,7 @@ ghost use Rattle.std.specs.Prelude.{◌≡◌, ◌<◌, ◌≤◌, false, true, 
 ghost use Rattle.col_disk.specs.Crash.{overwritten};
 ghost use Rattle.col_disk.specs.DiskLaws.{history_is_disk};
 ghost use Rattle.col_disk.specs.Disks.{IsDurable};
-ghost use Rattle.col_disk.specs.History.{IsHistory, IsMade, told_by_history};
+ghost use Rattle.col_disk.specs.History.{IsHistory, IsMadeWrite, told_by_history};
 
 use crate::Disk;
 use crate::faults::counted;
@@ -102,7 +102,7 @@ fn made_write(
     fails: bool,
 ) -> Result<(Write, Vec<u8>), AllocError>
     requires { pos ≤ length old.now }
-    ensures made { IfOk result (λ made. IsMade pos bytes.now old.now made.0 made.1.items) }
+    ensures made { IfOk result (λ made. IsMadeWrite pos bytes.now old.now made.0 made.1.items) }
     ensures whole { fails ≡ false → IfOk result (λ made. made.0.bytes.items ≡ bytes.now) }
 {
     let put = part_of(fails, bytes);

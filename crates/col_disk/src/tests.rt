@@ -1,4 +1,5 @@
 use crate::{Disk, DiskOnFile};
+use std::fs;
 use std::test::Fail;
 
 #[test]
@@ -13,5 +14,6 @@ fn a_file_is_a_disk(rt: HostRuntime) -> Result<(), Fail> {
     let mut again = DiskOnFile::open(&rt, "disk")?;
     assert_eq!(rt; again.len(), 3);
     assert_eq!(rt; again.read(alloc, 0, 3)?.as_slice(), b"ade".as_slice());
+    fs::remove_file(&rt, "disk")?;
     Ok(())
 }

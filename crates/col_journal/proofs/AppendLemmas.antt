@@ -4,7 +4,7 @@ use Rattle.col_common.specs.Outside.{Told}
 use Rattle.col_common.specs.declared.outside.HandleError.{HandleError}
 use Rattle.col_common.specs.declared.outside.HandleError.TheVariants.{Memory}
 use Rattle.col_disk.specs.Crash.{Torn, LeavesOnly, MayBeTorn, overwritten}
-use Rattle.col_disk.specs.Disks.{Answer, IsDisk, IsDurable, Puts, SeenDisk, Stays, Syncs, TellsAlike}
+use Rattle.col_disk.specs.Disks.{Answer, IsDisk, IsDurable, WritesParts, SeenDisk, Stays, Syncs, TellsAlike}
 use Rattle.col_disk.proofs.Moments.{joins, leaves_weaker}
 use Rattle.col_disk.proofs.PutLemmas.{put_durable, then_sync}
 use Rattle.col_journal.specs.Journal.{Change, IsBeforeOrAfter}
@@ -20,6 +20,7 @@ still_told : (now old : Told) (bytes : List ℕ) → TellsAlike old now → old 
 still_told None old bytes alike is = absurd (cc (alike ∙ ap is_some is))
 still_told (Some held) old bytes alike is = (held, λ i. Some held)
 
+-- a call's refusal
 abbrev refused : HandleError → Answer
 refused e = Err e
 
@@ -29,12 +30,13 @@ module _ (gate : ℕ) (changes : List Change) (change : Change) {old : SeenDisk}
   P = IsBeforeOrAfter changes change
 
   abbrev Stages : SeenDisk → Answer → Type 0
-  Stages mid r = Puts old mid (gate + 1) (behind_gate change) r
+  Stages mid r = WritesParts old mid (gate + 1) (behind_gate change) r
 
   -- each outcome of the writes behind the gate ends there
   still_shut : (c : List ℕ) → MayBeTorn old.images (gate + 1) (length (behind_gate change)) c → IsShutAt gate changes c
   still_shut c torn = torn_behind gate (length (behind_gate change)) changes torn.0 c (settled.each torn.0 torn.1) torn.2
 
+  -- so a crash there leaves the changes
   staging : {mid : SeenDisk} {r : Answer} → Stages mid r → LeavesOnly old.images mid.images P
   staging {mid} {r} puts =
       leaves_weaker (MayBeTorn old.images (gate + 1) (length (behind_gate change))) P puts.any_moment
@@ -43,7 +45,7 @@ module _ (gate : ℕ) (changes : List Change) (change : Change) {old : SeenDisk}
   -- writes behind the gate leave the changes, whatever they answer
   still_settled : {mid : SeenDisk} {r : Answer} → IsDisk mid → Stages mid r → IsSettled mid gate changes
   still_settled {mid} {r} now puts =
-      let told = still_told mid.told old.told settled.bytes puts.goes_on.tells settled.told in
+      let told = still_told mid.told old.told settled.bytes puts.later.tells settled.told in
       record {
         bytes = told.0;
         told = told.1;
@@ -65,13 +67,15 @@ module _ (gate : ℕ) (changes : List Change) (change : Change) {old : SeenDisk}
     pub durable : IsDurable mid bytes
     pub stage : IsStaged gate changes change bytes
 
+  -- there the change stands behind the gate
   staged_on : {mid new : SeenDisk} → Stages mid (Ok tt) → Syncs mid new (Ok tt) → StagedOn new
   staged_on {mid} {new} puts syncs =
       let held = settled.bytes in
       let piece : List ℕ = behind_gate change in
       record {
         bytes = overwritten (gate + 1) piece held;
-        durable = told_is (λ b. IsDurable new (overwritten (gate + 1) piece b)) settled.told (put_durable (gate + 1) piece (Ok tt) puts syncs);
+        durable = told_is (λ b. IsDurable new (overwritten (gate + 1) piece b)) settled.told
+            (put_durable (gate + 1) piece (Ok tt) puts syncs);
         stage = staged gate changes change held (settled.each held (told_is old.images.may_leave settled.told disk.read_is_left));
       }
 
@@ -83,7 +87,7 @@ module _ (gate : ℕ) (changes : List Change) (change : Change) {old : SeenDisk}
     on_disk : StagedOn synced
     on_disk = staged_on puts syncs
 
-    opening : {new : SeenDisk} {r : Answer} → Puts synced new gate (1 ∷ []) r → LeavesOnly old.images new.images P
+    opening : {new : SeenDisk} {r : Answer} → WritesParts synced new gate (1 ∷ []) r → LeavesOnly old.images new.images P
     opening {new} {r} opens =
         let Q = MayBeTorn synced.images gate 1 in
         joins P Q (staging (then_sync (gate + 1) (behind_gate change) (Ok tt) puts syncs between)) opens.any_moment (λ c torn.
@@ -91,7 +95,7 @@ module _ (gate : ℕ) (changes : List Change) (change : Change) {old : SeenDisk}
         torn_gate gate changes change on_disk.bytes c fits on_disk.stage was)
 
     -- it was refused
-    pub stopped_gate : {new : SeenDisk} (e : HandleError) → Puts synced new gate (1 ∷ []) (Err e)
+    pub stopped_gate : {new : SeenDisk} (e : HandleError) → WritesParts synced new gate (1 ∷ []) (Err e)
         → (refused e ≡ Err Memory → Stays synced new) → AddsChange old new gate changes change (Err e)
     stopped_gate {new} e opens memory = record {
       ok = tt;
@@ -106,13 +110,14 @@ module _ (gate : ℕ) (changes : List Change) (change : Change) {old : SeenDisk}
     }
 
     -- it is on the disk
-    pub gate_is_open : {new : SeenDisk} (next : ℕ) → next ≡ gate + 10 + length change.bytes → Puts synced new gate (1 ∷ []) (Ok tt)
+    pub gate_is_open : {new : SeenDisk} (next : ℕ) → next ≡ gate + 10 + length change.bytes → WritesParts synced new gate (1 ∷ []) (Ok tt)
         → IfSome synced.told (λ held. IsDurable new (overwritten gate (1 ∷ []) held)) → AddsChange old new next changes change (Ok tt)
     gate_is_open {new} next is opens durable =
         let after : List ℕ = overwritten gate (1 ∷ []) on_disk.bytes in
         let last = told_is (λ b. IsDurable new (overwritten gate (1 ∷ []) b)) on_disk.durable.told durable in
         let ends : IsShutAt next (changes ++ change ∷ []) after =
-        subst (λ at. IsShutAt at (changes ++ change ∷ []) after) (sym is) (gate_opened gate changes change on_disk.bytes fits on_disk.stage) in
+        subst (λ at. IsShutAt at (changes ++ change ∷ []) after) (sym is)
+        (gate_opened gate changes change on_disk.bytes fits on_disk.stage) in
         record {
           ok = record {
             bytes = after;

@@ -1,7 +1,7 @@
 -- A journal that is read, a change at a time.
 use Rattle.std.proofs.Common.{◌≡◌, ◌≢◌, ℕ, ◌+◌, ◌-◌, ◌<◌, ◌≤◌, min, nat_le, Bool, true, false, List, [], ◌∷◌, ◌++◌, length, take, drop, get_or, slice_range, Option, Some, None, option_map, if◌then◌else◌, IfSome, Ok, Err, OnOk, refl, sym, ◌∙◌, ap, subst, arith, append_assoc, length-append, length-take, length-drop, take-append-drop}
 use Rattle.std.proofs.lemmas.Bool.{le-leb}
-use Rattle.std.proofs.lemmas.List.{take_at, drop-drop, drop_more, drop-take, get_or-take, get_or-drop, length-take-le, drop_all, take_all}
+use Rattle.std.proofs.lemmas.List.{drop-drop, drop_more, drop-take, get_or-take, get_or-drop, length-take-le, drop_all, take_all}
 use Rattle.std.specs.Int.{w64, from_le_bytes}
 use Rattle.col_common.specs.Outside.{Told}
 use Rattle.col_common.specs.Reading.{only_if}
@@ -11,7 +11,7 @@ use Rattle.col_disk.proofs.Moments.{stays_both}
 use Rattle.col_journal.specs.Journal.{Change, AreChanges, told_length, front_change, changes_within, changes_from, changes_of}
 use Rattle.col_journal.specs.Settled.{IsReadTo, IsSettled, IsShutAt}
 use Rattle.col_journal.proofs.ChangeLemmas.{Front, front_of_size, front-parts, changes-more, none_are_none, changes-cut, changes-open, changes-shut, changes-ended}
-use Rattle.col_journal.proofs.SettledLemmas.{cut_at}
+use Rattle.col_journal.proofs.SettledLemmas.{cut_at, front_taken, open_parts}
 use Rattle.col_journal.proofs.AppendLemmas.{told_is}
 
 -- a disk of at most one byte stands for no change
@@ -40,7 +40,9 @@ gate_written disk {mid} (Some held) (Ok done) same durable short =
     }
 gate_written disk old (Err e) same durable short = tt
 
-pub ready_written : {old mid : SeenDisk} (new : SeenDisk) (r : Answer) → Stays old mid → IfSome old.told (λ b. length b ≡ old.size) → mid.size ≤ 1
+-- so it is behind a sync
+pub ready_written : {old mid : SeenDisk} (new : SeenDisk) (r : Answer) → Stays old mid
+    → IfSome old.told (λ b. length b ≡ old.size) → mid.size ≤ 1
     → OnOk r (IfSome mid.told (λ held. IsDurable new (overwritten 0 (0 ∷ []) held)))
     → OnOk r (IfSome old.told (λ held. IsReadTo new 0 [] (changes_of held)))
 ready_written {old} new r stays whole short durable =
@@ -99,10 +101,10 @@ changes_found bytes gate size changes inside is_open are is fits =
     let more : List ℕ = tail rest size is room in
     let whole : List ℕ = front ++ 1 ∷ piece in
     let parts : bytes ≡ whole ++ more =
-    cut_at bytes gate inside ∙ (λ i. front ++ is_open i ∷ rest_is rest size is room i) ∙ sym (append_assoc front (1 ∷ piece) more) in
+    open_parts front piece more rest bytes _ (cut_at bytes gate inside) is_open (rest_is rest size is room) in
     let long : length whole ≡ gate + 10 + size =
     omega (arith, length-append front (1 ∷ piece), length-take-le gate bytes (omega (arith, inside)), spelled_long rest size is room) in
-    let taken : take (gate + 10 + size) bytes ≡ whole = ap (take (gate + 10 + size)) parts ∙ take_at whole more (gate + 10 + size) long in
+    let taken = front_taken whole more bytes (gate + 10 + size) parts long in
     subst (λ (l : List ℕ). AreChanges l (changes ++ change_at bytes gate size ∷ [])) (sym taken)
     (changes-more front piece changes (change_at bytes gate size) (found rest size is room) are)
 
@@ -142,7 +144,8 @@ module _ (bytes head : List ℕ) (gate n : ℕ) (is : head ≡ slice_range bytes
 
   length_bytes : n ≡ 10 → from_le_bytes w64 (slice_range head 2 (length head)) ≡ told_length (drop (gate + 1) bytes)
   length_bytes ten =
-      let rest : slice_range head 2 (length head) ≡ drop 2 head = take_all (length head - 2) (drop 2 head) (omega (arith, length-drop 2 head)) in
+      let rest : slice_range head 2 (length head) ≡ drop 2 head =
+      take_all (length head - 2) (drop 2 head) (omega (arith, length-drop 2 head)) in
       let eight : drop 2 head ≡ take 8 (drop 2 (drop gate bytes)) =
       ap (drop 2) taken ∙ ap (λ (k : ℕ). drop 2 (take k (drop gate bytes))) ten ∙ drop-take 2 8 (drop gate bytes) in
       let place : gate + 2 ≡ gate + 1 + 1 = omega arith in
@@ -157,6 +160,7 @@ pub record IsHead (bytes head : List ℕ) (gate room : ℕ) : Type 0 where
   pub kind_is : 10 < room → get_or head 1 0 ≡ get_or (drop (gate + 1) bytes) 0 0
   pub length_is : 10 < room → from_le_bytes w64 (slice_range head 2 (length head)) ≡ told_length (drop (gate + 1) bytes)
 
+-- where it was cut out of what the disk tells
 head_is : {told : Told} {bytes : List ℕ} (head : List ℕ) (gate n size : ℕ) → told ≡ Some bytes → gate < size
     → n ≡ min (size - gate) 10 → IfSome told (λ b. length b ≡ size) → IfSome told (λ b. head ≡ slice_range b gate (gate + n))
     → IsHead bytes head gate (size - gate)
@@ -183,7 +187,8 @@ module _ {disk : SeenDisk} {gate : ℕ} {changes : List Change} {all : Option (L
   pub read_head : {front head : List ℕ} (n : ℕ) → IsDisk disk → gate < disk.size → n ≡ min (disk.size - gate) 10
       → IfSome disk.told (λ b. front ≡ slice_range b gate (gate + n)) → head ≡ front → IsHead read.bytes head gate (disk.size - gate)
   read_head {front} n laws inside n_is cut same =
-      subst (λ h. IsHead read.bytes h gate (disk.size - gate)) (sym same) (head_is front gate n disk.size read.told inside n_is laws.told_whole cut)
+      subst (λ h. IsHead read.bytes h gate (disk.size - gate)) (sym same)
+      (head_is front gate n disk.size read.told inside n_is laws.told_whole cut)
 
   -- the journal is cut short there
   pub cut_short : get_or read.bytes gate 0 ≡ 1 → length read.bytes < gate + 11 + told_length (drop (gate + 1) read.bytes) → all ≡ None
@@ -220,7 +225,8 @@ module _ {disk : SeenDisk} {gate : ℕ} {changes : List Change} {all : Option (L
       let stays = stays_both first second in
       let part_is = told_is (λ b. part ≡ slice_range b (gate + 10) next) (first.told ∙ read.told) cut in
       let body = part_is ∙ bytes_at bytes gate size in
-      let same : change_at bytes gate size ≡ record { kind = kind; bytes = part } = sym (λ i. record { kind = kind_is i; bytes = body i }) in
+      let same : change_at bytes gate size ≡ record { kind = kind; bytes = part } =
+      sym (λ i. record { kind = kind_is i; bytes = body i }) in
       let are = changes_found bytes gate size changes read.inside is_open read.front is (omega (arith, inside)) in
       record {
         bytes = bytes;

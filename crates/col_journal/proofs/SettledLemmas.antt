@@ -11,6 +11,16 @@ use Rattle.col_journal.proofs.ChangeLemmas.{changes-ended, changes-of, changes-m
 pub cut_at : (bytes : List ℕ) (at : ℕ) → at < length bytes → bytes ≡ take at bytes ++ get_or bytes at 0 ∷ drop (at + 1) bytes
 cut_at bytes at inside = sym (take-append-drop at bytes) ∙ ap (λ (l : List ℕ). take at bytes ++ l) (drop_more bytes at 0 inside)
 
+-- an open gate and what follows it
+pub open_parts : (front piece more rest bytes : List ℕ) (gate : ℕ) → bytes ≡ front ++ gate ∷ rest → gate ≡ 1 → rest ≡ piece ++ more
+    → bytes ≡ (front ++ 1 ∷ piece) ++ more
+open_parts front piece more rest bytes gate cut is_open same =
+    cut ∙ (λ i. front ++ is_open i ∷ same i) ∙ sym (append_assoc front (1 ∷ piece) more)
+
+-- the front of so many bytes
+pub front_taken : (front rest bytes : List ℕ) (n : ℕ) → bytes ≡ front ++ rest → length front ≡ n → take n bytes ≡ front
+front_taken front rest bytes n parts size = ap (take n) parts ∙ take_at front rest n size
+
 -- a journal that ends there stands for its changes
 pub ended : (gate : ℕ) (changes : List Change) (bytes : List ℕ) → IsShutAt gate changes bytes → changes_of bytes ≡ Some changes
 ended gate changes bytes ends =
@@ -50,7 +60,7 @@ staged gate changes change old ends =
     let size : length front ≡ gate + 1 = length-take-le (gate + 1) old (omega (arith, ends.inside)) in
     let parts : overwritten (gate + 1) piece old ≡ front ++ (piece ++ rest) = append_assoc front piece rest in
     record {
-      ends = ends_alike gate changes old _ ends (ap (take (gate + 1)) parts ∙ take_at front (piece ++ rest) (gate + 1) size);
+      ends = ends_alike gate changes old _ ends (front_taken front (piece ++ rest) _ (gate + 1) parts size);
       tail = rest;
       behind = ap (drop (gate + 1)) parts ∙ drop_at front (piece ++ rest) (gate + 1) size;
     }
@@ -62,18 +72,18 @@ opened : (gate : ℕ) (changes : List Change) (change : Change) (bytes tail : Li
 opened gate changes change bytes tail fits inside are is_open behind =
     let front : List ℕ = take gate bytes ++ 1 ∷ change_bytes change in
     let place : ℕ = gate + 10 + length change.bytes in
-    let rest : drop (gate + 1) bytes ≡ change_bytes change ++ 0 ∷ tail = behind ∙ append_assoc (change_bytes change) (0 ∷ []) tail in
+    let rest = behind ∙ append_assoc (change_bytes change) (0 ∷ []) tail in
     let parts : bytes ≡ front ++ 0 ∷ tail =
-    cut_at bytes gate inside ∙ (λ i. take gate bytes ++ is_open i ∷ rest i)
-    ∙ sym (append_assoc (take gate bytes) (1 ∷ change_bytes change) (0 ∷ tail)) in
+    open_parts (take gate bytes) (change_bytes change) (0 ∷ tail) (drop (gate + 1) bytes) bytes _ (cut_at bytes gate inside) is_open rest in
     let size : length front ≡ place =
     omega (arith, length-append (take gate bytes) (1 ∷ change_bytes change), length-take-le gate bytes (omega (arith, inside))) in
     let last : get_or bytes place 0 ≡ 0 = ap (λ (l : List ℕ). get_or l place 0) parts ∙ get_or_at front 0 tail 0 place size in
+    let taken = front_taken front (0 ∷ tail) bytes place parts size in
     let more = changes-more (take gate bytes) (change_bytes change) changes change (λ rest. front-spelled change rest fits) are in
     record {
       inside = omega (arith, ap length parts, length-append front (0 ∷ tail), size);
       shut = λ is. absurd (omega (arith, last, is));
-      front = subst (λ (l : List ℕ). AreChanges l (changes ++ change ∷ [])) (sym (ap (take place) parts ∙ take_at front (0 ∷ tail) place size)) more;
+      front = subst (λ (l : List ℕ). AreChanges l (changes ++ change ∷ [])) (sym taken) more;
     }
 
 -- each outcome of the write that opens the gate stands for the changes with the new one or without
@@ -98,8 +108,9 @@ gate_opened gate changes change old fits stage =
     let size : length front ≡ gate = length-take-le gate old (omega (arith, stage.ends.inside)) in
     let parts : new ≡ front ++ 1 ∷ rest = append_assoc front (1 ∷ []) rest in
     let inside : gate < length new = omega (arith, ap length parts, length-append front (1 ∷ rest), size) in
-    let same : take gate new ≡ front = ap (take gate) parts ∙ take_at front (1 ∷ rest) gate size in
+    let same = front_taken front (1 ∷ rest) new gate parts size in
     let are : AreChanges (take gate new) changes = subst (λ (l : List ℕ). AreChanges l changes) (sym same) stage.ends.front in
     let is_open : get_or new gate 0 ≡ 1 = ap (λ (l : List ℕ). get_or l gate 0) parts ∙ get_or_at front 1 rest 0 gate size in
-    let behind : drop (gate + 1) new ≡ rest = drop_at (front ++ 1 ∷ []) rest (gate + 1) (omega (arith, length-append front (1 ∷ []), size)) in
+    let behind : drop (gate + 1) new ≡ rest =
+    drop_at (front ++ 1 ∷ []) rest (gate + 1) (omega (arith, length-append front (1 ∷ []), size)) in
     opened gate changes change new stage.tail fits inside are is_open (behind ∙ stage.behind)

@@ -13,7 +13,8 @@ abbrev pub change_of : Found → Change
 change_of found = record { kind = found.kind; bytes = found.bytes }
 
 -- one change more, before the next gate; or the end, at this gate
-abbrev pub FindsChange : SeenDisk → ℕ → List Change → Option (List Change) → Option (Found × ℕ) → Type 0
+abbrev pub FindsChange : SeenDisk → ℕ → List Change → Option (List Change) → Option (Found × ℕ)
+    → Type 0
 FindsChange disk gate changes all (Some found) =
     IsReadTo disk found.1 (changes ++ change_of found.0 ∷ []) all
 FindsChange disk gate changes all None = IsSettled disk gate changes × (all ≡ Some changes)
@@ -24,7 +25,8 @@ IsReadRefusal e = (e ≡ OutOfMemory) ⊎ ((e ≡ ReadFault) ⊎ (e ≡ InvalidD
 
 -- A call that reads a disk writes nothing; it answers ReadFault only where the disk's count of
 -- faults rose, and no refusal that isn't one of a reading.
-pub record ReadsAlone {T : Type 0} (old new : SeenDisk) (result : Result T ColumnarError) : Type 0 where
+pub record ReadsAlone {T : Type 0} (old new : SeenDisk)
+    (result : Result T ColumnarError) : Type 0 where
   pub stays : Stays old new
   pub later : old.faults ≤ new.faults
   pub read_fault : result ≡ Err ReadFault → Rose old.faults new.faults

@@ -1,7 +1,7 @@
 //! Changes on a disk, each behind a gate that is opened once the change is on the disk.
 ghost use Rattle.std.specs.Prelude.{◌≡◌, ◌<◌, ◌≤◌, ◌+◌, ◌^◌, ◌∷◌, ◌++◌, List, length};
 ghost use Rattle.std.specs.Int.{w64, to_le_bytes};
-ghost use Rattle.col_disk.specs.Disks.{GoesOn, Puts};
+ghost use Rattle.col_disk.specs.Disks.{IsLater, WritesParts};
 ghost use Rattle.col_journal.specs.Journal.{Change};
 ghost use Rattle.col_journal.specs.Settled.{AddsChange, IsSettled, behind_gate};
 
@@ -9,10 +9,10 @@ use crate::gates::{HEAD_LEN, OPEN, SHUT};
 use col_common::HandleError;
 use col_disk::{Disk, write_synced};
 
-/// Changes on a disk, one behind another, each behind a gate: a byte that is 1 once the change is on
-/// the disk. The journal ends at the first gate that isn't 1, and what follows counts for nothing.
-/// So a crash in the midst of a change leaves the journal without it or with it, and never with a
-/// part of it. This one ends at `gate`.
+/// Changes on a disk, one behind another, each behind a gate: a byte that is 1 once the change is
+/// on the disk. The journal ends at the first gate that isn't 1, and what follows counts for
+/// nothing. So a crash while a change is added leaves the journal without it or with it, and never
+/// with a part of it. This one ends at `gate`.
 #[derive(Drop)]
 pub struct Journal<D: Disk> {
     pub disk: D,
@@ -40,7 +40,7 @@ impl<D: Disk> Journal<D> {
             → IsSettled (D.seen self.old.disk) self.old.gate changes
             → AddsChange (D.seen self.old.disk) (D.seen self.new.disk) self.new.gate changes
             (record { kind = kind; bytes = bytes.now }) result }
-        ensures goes_on { GoesOn (D.seen self.old.disk) (D.seen self.new.disk) result }
+        ensures later { IsLater (D.seen self.old.disk) (D.seen self.new.disk) result }
     {
         write_behind(&mut self.disk, self.gate, kind, bytes)?;
         self.disk.sync()?;
@@ -54,7 +54,7 @@ impl<D: Disk> Journal<D> {
 fn write_behind<D: Disk>(disk: &mut D, gate: u64, kind: u8, bytes: &[u8]) -> Result<(), HandleError>
     requires within { gate < (D.seen disk.old).size }
     requires fits { gate + 1 < 2 ^ 64 }
-    ensures { Puts (D.seen disk.old) (D.seen disk.new) (gate + 1)
+    ensures { WritesParts (D.seen disk.old) (D.seen disk.new) (gate + 1)
         (behind_gate (record { kind = kind; bytes = bytes.now })) result }
 {
     let len = bytes.len() as u64;

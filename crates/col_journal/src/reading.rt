@@ -2,20 +2,20 @@
 ghost use Rattle.std.specs.Prelude.{◌≡◌, ◌⊎◌, ◌<◌, ◌≤◌, ◌-◌, List, [], Option, None, length, slice_range, IfOk, IfSome, OnOk};
 ghost use Rattle.col_common.specs.declared.error.ColumnarError.TheVariants.{InvalidData};
 ghost use Rattle.col_disk.specs.Crash.{LeavesOnly};
-ghost use Rattle.col_disk.specs.Disks.{GoesOn};
+ghost use Rattle.col_disk.specs.Disks.{IsLater};
 ghost use Rattle.col_journal.specs.Found.{FindsChange, ReadsAlone};
 ghost use Rattle.col_journal.specs.Journal.{Change, HaveNoChange, changes_of};
 ghost use Rattle.col_journal.specs.Settled.{IsReadTo};
 
 use crate::Found;
-use crate::gates::{HEAD_LEN, OPEN, SHUT};
+use crate::gates::{HEAD_LEN, SHUT, is_open};
 use bytes::Bytes;
 use col_common::{ColumnarError, HandleError, whole_number};
 use col_disk::{Disk, write_synced};
 use std::alloc::Global;
 
-/// Makes a disk's journal ready to be read, from its first gate on: syncs, and gives a disk that has
-/// at most one byte a closed gate.
+/// Makes a disk's journal ready to be read, from its first gate on: syncs, and gives a disk that
+/// has at most one byte a closed gate.
 pub fn ready<D: Disk>(disk: &mut D) -> Result<(), HandleError>
     ensures ok { OnOk result (IfSome (D.seen disk.old).told (λ bytes.
         IsReadTo (D.seen disk.new) 0 [] (changes_of bytes))) }
@@ -27,7 +27,7 @@ pub fn ready<D: Disk>(disk: &mut D) -> Result<(), HandleError>
         (λ c. (D.seen disk.old).images.may_leave c ⊎ HaveNoChange bytes c)) }
 
     ensures within { OnOk result (0 < (D.seen disk.new).size) }
-    ensures goes_on { GoesOn (D.seen disk.old) (D.seen disk.new) result }
+    ensures later { IsLater (D.seen disk.old) (D.seen disk.new) result }
 {
     disk.sync()?;
     if disk.len() > 1 {
@@ -59,7 +59,7 @@ pub fn next_change<D: Disk>(
     let room = disk.len() - gate;
     let front = read_part(disk, alloc, gate, gate + room.min(HEAD_LEN))?;
     let head = front.as_slice();
-    if head[0] != OPEN {
+    if !is_open(head[0]) {
         return Ok(None);
     }
     // Behind a change there is a gate.

@@ -7,7 +7,8 @@ pub returns-in_err-write_at : goal.returns-in_err-write_at
 returns-in_err-write_at g c =
     let p = err_from_is_err_and c.from_residual.result c.from_residual.ensures.1 in
     let change : Change = record { kind = c.args.kind; bytes = c.args.bytes.now } in
-    rw (p.1, p.2) (stopped_head c.args.gate change _ c.head_of-head.ensures _ (g.met.D.Disk.laws c.args.disk.now) c.requires.within _ c.in_err-write_at.ensures)
+    rw (p.1, p.2) (stopped_head c.args.gate change _ c.head_of-head.ensures _ (g.met.D.Disk.laws c.args.disk.now)
+    c.requires.within _ c.in_err-write_at.ensures)
 
 pub returns-in_err-write_at-2 : goal.returns-in_err-write_at-2
 returns-in_err-write_at-2 g c =
