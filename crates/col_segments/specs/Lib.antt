@@ -1,0 +1,5 @@
+pub mod RowIds
+pub mod Segments
+pub mod Live
+pub mod Files
+pub mod Compaction

@@ -1,0 +1,89 @@
+-- Segments: tables with the rows that are alive in each, and what each change makes of them. States
+-- docs/RULES.md, Sets of segments.
+use Rattle.std.specs.Prelude.{ℕ, ◌<◌, ◌≤◌, ◌+◌, ◌^◌, ◌==◌, ◌&&◌, not, nat_le, nat_lt, slice_index, Bool, true, List, [], ◌∷◌, ◌++◌, length, sum_by, if◌then◌else◌, Result, Ok, Err}
+use Rattle.std.specs.List.{list_any, range_with_len}
+use Rattle.col_model.specs.File.{table_of}
+use Rattle.col_model.specs.Refusal.{Refusal, ◌>>=◌, or_refuse, refuse_if, invalid_data, bad_order, too_large}
+use Rattle.col_model.specs.Table.{Table}
+use Rattle.col_segments.specs.RowIds.{row_ids}
+use Rattle.col_segments.specs.declared.kinds.TheConstants.{ADDED, DROPPED, REPLACED}
+
+-- a table, and the rows of it that are alive, ascending
+pub record HeldTable : Type 0 where
+  pub table : Table
+  pub alive : List ℕ
+
+-- how many rows are alive
+abbrev pub alive_count : List HeldTable → ℕ
+alive_count hs = sum_by (λ h. length h.alive) hs
+
+-- a table, all of whose rows are alive
+abbrev pub all_alive : Table → HeldTable
+all_alive t = record { table = t; alive = range_with_len 0 t.row_count }
+
+-- the table of a file, with all rows alive
+abbrev pub whole_file : List ℕ → Result HeldTable Refusal
+whole_file bytes = or_refuse (table_of bytes) invalid_data >>= λ table. Ok (all_alive table)
+
+-- The table of a file to be added to others, with all rows alive. InvalidData where the bytes
+-- stand for none, TooLarge where more rows would be alive than 32 bits count.
+unfoldable pub added : List ℕ → List HeldTable → Result HeldTable Refusal
+added bytes hs = do
+  h ← whole_file bytes
+  _ ← refuse_if (nat_le (2 ^ 32) (alive_count hs + length h.alive)) too_large
+  Ok h
+
+-- the tables with one more behind them
+abbrev pub with_more : List HeldTable → HeldTable → Result (List HeldTable) Refusal
+with_more hs h = Ok (hs ++ h ∷ [])
+
+-- a file behind the others
+abbrev pub appended : List ℕ → List HeldTable → Result (List HeldTable) Refusal
+appended bytes hs = added bytes hs >>= with_more hs
+
+-- Places ascend strictly, none is before the first, and each is below the end.
+abbrev pub are_places : ℕ → ℕ → List ℕ → Bool
+are_places first end_ [] = true
+are_places first end_ (id ∷ ids) =
+    nat_le first id && nat_lt id end_ && are_places (id + 1) end_ ids
+
+-- no number is above a later one
+abbrev pub Ascends : List ℕ → Type 0
+Ascends ids = (i j : ℕ) → i ≤ j → j < length ids → slice_index ids i ≤ slice_index ids j
+
+-- the place is among those
+abbrev pub is_among : List ℕ → ℕ → Bool
+is_among ids place = list_any (λ id. id == place) ids
+
+-- the rows, counted from a place on, but for those at the places that are named
+abbrev pub rows_without : List ℕ → ℕ → List ℕ → List ℕ
+rows_without ids place [] = []
+rows_without ids place (row ∷ rows) =
+    if is_among ids place then rows_without ids (place + 1) rows
+    else row ∷ rows_without ids (place + 1) rows
+
+-- the same of all tables, whose rows are counted one after another
+abbrev pub without : List ℕ → ℕ → List HeldTable → List HeldTable
+without ids place [] = []
+without ids place (h ∷ hs) =
+    record { table = h.table; alive = rows_without ids place h.alive }
+    ∷ without ids (place + length h.alive) hs
+
+-- The rows at these places are alive no more. BadOrder where they don't ascend strictly, or one
+-- isn't a place.
+abbrev pub dropped : List ℕ → List HeldTable → Result (List HeldTable) Refusal
+dropped ids hs =
+    refuse_if (not (are_places 0 (alive_count hs) ids)) bad_order >>= λ _. Ok (without ids 0 hs)
+
+-- the same for the ids that bytes spell; InvalidData where they spell none
+abbrev pub spelled_dropped : List ℕ → List HeldTable → Result (List HeldTable) Refusal
+spelled_dropped bytes hs = or_refuse (row_ids bytes) invalid_data >>= λ ids. dropped ids hs
+
+-- What a change makes of the tables: a file behind the others, places whose rows are dropped, or a
+-- file in place of all. InvalidData where it is of no such kind.
+abbrev pub changed : ℕ → List ℕ → List HeldTable → Result (List HeldTable) Refusal
+changed kind bytes hs =
+    if kind == ADDED then appended bytes hs
+    else if kind == DROPPED then spelled_dropped bytes hs
+    else if kind == REPLACED then appended bytes []
+    else Err invalid_data

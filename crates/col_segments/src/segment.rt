@@ -1,0 +1,60 @@
+//! A file in memory, and the rows of it that are alive.
+ghost use Rattle.std.specs.Prelude.{◌≡◌, ◌<◌, ◌+◌, ◌^◌, length};
+ghost use Rattle.col_segments.specs.Compaction.{HasItsRows};
+ghost use Rattle.col_segments.specs.Segments.{Ascends, rows_without};
+
+use crate::rows::keep_rows;
+use bytes::Bytes;
+use col_common::RowId;
+use std::marker::Model;
+
+/// A file that stands for a table, and the rows of it that are alive, ascending. Contracts see the
+/// table.
+#[derive(Drop)]
+pub struct Segment {
+    pub(crate) file: Bytes,
+    pub(crate) alive: Vec<RowId>,
+}
+
+impl Model for Segment {
+    ghost use Rattle.col_segments.specs.Segments.{HeldTable};
+    ghost use Rattle.col_segments.specs.Files.{table_in, IsWhole};
+
+    ghost Value = { HeldTable };
+
+    ghost view = { λ s. record { table = table_in s.file; alive = s.alive.items } };
+
+    ghost invariant = { λ s. IsWhole s.file s.alive.items };
+}
+
+impl Segment {
+    /// The rows that are alive.
+    pub fn alive(&self) -> &[RowId]
+        ensures { result.now ≡ self.now.alive }
+    {
+        &self.alive
+    }
+
+    /// How many rows are alive.
+    pub fn num_alive(&self) -> RowId
+        ensures { result ≡ length self.now.alive }
+    {
+        self.alive.len() as RowId
+    }
+
+    /// That the rows that are alive are rows of the table.
+    pub fn rows_are_there(&self)
+        ensures { HasItsRows self.now }
+    {
+        let _ = &self.file;
+    }
+
+    /// Drops the rows at places, which are counted from the first one's on.
+    pub fn drop_places(&mut self, ids: &[RowId], first: RowId)
+        requires room { first + length self.old.alive < 2 ^ 32 }
+        requires places { Ascends ids.now }
+        ensures { self.new ≡ record self.old { alive = rows_without ids.now first self.old.alive } }
+    {
+        keep_rows(&mut self.alive, ids, first);
+    }
+}
