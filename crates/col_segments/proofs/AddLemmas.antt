@@ -16,7 +16,8 @@ use Rattle.col_segments.proofs.FileLemmas.{file-whole}
 use Rattle.col_writer_columns.specs.Answers.{answer_of, MayRefuse, Gives}
 
 -- a file that isn't opened isn't added
-pub added-refused : (bytes : List ℕ) (hs : List HeldTable) (e : ColumnarError) → MayRefuse (whole_file bytes) e → MayRefuse (added bytes hs) e
+pub added-refused : (bytes : List ℕ) (hs : List HeldTable) (e : ColumnarError) → MayRefuse (whole_file bytes) e
+    → MayRefuse (added bytes hs) e
 unfolding added
 added-refused bytes hs e (inl memory) = inl memory
 added-refused bytes hs e (inr (r, is, answer)) = inr (r, rw is refl, answer)
@@ -39,7 +40,8 @@ added-ok bytes hs h is few =
 pub added-few : (bytes : List ℕ) (hs : List HeldTable) (h : HeldTable) → added bytes hs ≡ Ok h → alive_count (hs ++ h ∷ []) < 2 ^ 32
 unfolding added
 added-few bytes hs h is =
-    let after : HeldTable → Result HeldTable Refusal = λ g. refuse_if (nat_le (2 ^ 32) (alive_count hs + length g.alive)) too_large >>= λ _. Ok g in
+    let after : HeldTable → Result HeldTable Refusal =
+        λ g. refuse_if (nat_le (2 ^ 32) (alive_count hs + length g.alive)) too_large >>= λ _. Ok g in
     let first = bind-ok (whole_file bytes) after h is in
     let many = nat_le (2 ^ 32) (alive_count hs + length first.0.alive) in
     let few = not-refused many too_large (λ _. Ok first.0) h first.2 in
@@ -55,9 +57,17 @@ added-few bytes hs h is =
     )
 
 -- a file that isn't added isn't appended
-pub appended-refused : (bytes : List ℕ) (hs : List HeldTable) (e : ColumnarError) → MayRefuse (added bytes hs) e → MayRefuse (appended bytes hs) e
+pub appended-refused : (bytes : List ℕ) (hs : List HeldTable) (e : ColumnarError) → MayRefuse (added bytes hs) e
+    → MayRefuse (appended bytes hs) e
 appended-refused bytes hs e (inl memory) = inl memory
 appended-refused bytes hs e (inr (r, is, answer)) = inr (r, ap (λ r. r >>= with_more hs) is, answer)
+
+-- a file that was appended stands behind the others
+pub appended-behind : (bytes : List ℕ) (hs after : List HeldTable) → appended bytes hs ≡ Ok after
+    → (h : HeldTable) × (after ≡ hs ++ h ∷ [])
+appended-behind bytes hs after is =
+    let step = bind-ok (added bytes hs) (with_more hs) after is in
+    (step.0, sym (same_Ok (hs ++ step.0 ∷ []) after step.2))
 
 -- a file that was made of a table stands alone
 pub appended-alone : (bytes : List ℕ) (made : List HeldTable) → HasTable bytes → made ≡ all_alive (table_in bytes) ∷ []

@@ -91,7 +91,8 @@ own-rows : (counts : List ℕ) (k n : ℕ) (rows : List ℕ) → slice_get count
     → list_all (has_row counts) (map (λ r. (k, r)) rows) ≡ true
 own-rows counts k n [] at all = refl
 own-rows counts k n (r ∷ rows) at all =
-    ap (λ b. b && list_all (has_row counts) (map (λ r. (k, r)) rows)) (ap (λ o. unwrap_or (option_map (λ n. nat_lt r n) o) false) at ∙ lt-ltb r n all.0)
+    ap (λ b. b && list_all (has_row counts) (map (λ r. (k, r)) rows))
+    (ap (λ o. unwrap_or (option_map (λ n. nat_lt r n) o) false) at ∙ lt-ltb r n all.0)
     ∙ own-rows counts k n rows at all.1
 
 -- the same of all, where the tables stand in a list from a place on
@@ -166,8 +167,9 @@ compacts-or-conflicts hs all r h = by (bind-err (merged_rows hs) (λ t. Ok (all_
   where
     by : BindErr (merged_rows hs) (λ t. Ok (all_alive t ∷ [])) r → IsCompactRefusal r
     by (first_refused s) =
-        rows-refused (map (λ h. h.table) (with_rows hs)) (addresses (with_rows hs)) r
-        (rows-there (counts_in (with_rows hs)) 0 (with_rows hs) (λ i. ap (slice_get (counts_in (with_rows hs))) (none_before i)) (kept-all hs all)) s
+        let kept = with_rows hs in
+        let there = rows-there (counts_in kept) 0 kept (λ i. ap (slice_get (counts_in kept)) (none_before i)) (kept-all hs all) in
+        rows-refused (map (λ h. h.table) kept) (addresses kept) r there s
       where
         none_before : (n : ℕ) → 0 + n ≡ n
         none_before n = omega arith

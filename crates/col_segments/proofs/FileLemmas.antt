@@ -48,7 +48,8 @@ columns-some (p ∷ ps) = by p.content (for_each whole_column ps) ∙ ap (λ b. 
     own : Option Content → Option Column
     own o = option_and_then (λ content. Some (record { name = p.name; column_type = p.column_type; content = content })) o
 
-    by : (o : Option Content) (q : Option (List Column)) → is_some (option_and_then (λ y. option_and_then (λ ys. Some (y ∷ ys)) q) (own o)) ≡ (is_some o && is_some q)
+    by : (o : Option Content) (q : Option (List Column))
+        → is_some (option_and_then (λ y. option_and_then (λ ys. Some (y ∷ ys)) q) (own o)) ≡ (is_some o && is_some q)
     by None q = refl
     by (Some content) None = refl
     by (Some content) (Some ys) = refl

@@ -1,9 +1,15 @@
+mod AbsentLemmas
 pub mod AddLemmas
+pub mod ConflictLemmas
+mod DropLemmas
 mod FileLemmas
+mod FoundLemmas
+mod IdLemmas
 mod KeptLemmas
-mod OpenLemmas
-mod ReaderLemmas
-mod RowLemmas
 pub mod LiveLemmas
 pub mod MergeLemmas
-pub mod ConflictLemmas
+mod OpenLemmas
+mod PickedLemmas
+mod PlaceLemmas
+mod ReaderLemmas
+mod RowLemmas

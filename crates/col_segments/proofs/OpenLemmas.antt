@@ -9,7 +9,8 @@ use Rattle.col_segments.specs.Live.{with_rows}
 use Rattle.col_segments.specs.Segments.{HeldTable, alive_count, without}
 use Rattle.col_segments.proofs.KeptLemmas.{some-alive, none-alive, one-set, none-set}
 use Rattle.col_segments.proofs.ReaderLemmas.{kept_tables, kept-more, kept-same, last-gone, none-gone, set-same, set-gone, place-within}
-use Rattle.col_segments.proofs.RowLemmas.{Drops, dropped_from, drops-none, drops-more, drops-all, without-fewer, rows-fewer, places-fit, table-is}
+use Rattle.col_segments.proofs.DropLemmas.{Drops, dropped_from, drops-all, drops-more, drops-none, without-fewer}
+use Rattle.col_segments.proofs.RowLemmas.{rows-fewer}
 
 -- a file is put behind the others
 pub open-pushed : (hs gs : List HeldTable) (h : HeldTable) (rs qs : List SeenReader) (r : SeenReader) (n : ℕ) → gs ≡ hs ++ h ∷ []

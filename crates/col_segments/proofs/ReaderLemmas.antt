@@ -49,14 +49,17 @@ zip-through R S (x ∷ xs) (y ∷ ys) (z ∷ zs) f all also = (f x y z all.0 als
 abbrev pub kept_tables : List HeldTable → List Table
 kept_tables hs = map (λ h. h.table) (with_rows hs)
 
+-- those with a table behind them
+tables-more : (hs : List HeldTable) (h : HeldTable) → 0 < length h.alive → kept_tables (hs ++ h ∷ []) ≡ kept_tables hs ++ h.table ∷ []
+tables-more hs h some =
+    ap (map (λ (h : HeldTable). h.table)) (with_rows-more hs h some) ∙ map-append (λ (h : HeldTable). h.table) (with_rows hs) (h ∷ [])
+
 module _ {B : Type 0} (R : Table → B → Type 0) where
   -- a table behind the others
   pub kept-more : (hs : List HeldTable) (h : HeldTable) (rs : List B) (r : B) → 0 < length h.alive → AllZip R (kept_tables hs) rs
       → R h.table r → AllZip R (kept_tables (hs ++ h ∷ [])) (rs ++ r ∷ [])
   kept-more hs h rs r some all here =
-      subst (λ ts. AllZip R ts (rs ++ r ∷ []))
-      (sym (ap (map (λ (h : HeldTable). h.table)) (with_rows-more hs h some) ∙ map-append (λ (h : HeldTable). h.table) (with_rows hs) (h ∷ [])))
-      (zip-more R (kept_tables hs) rs h.table r all here)
+      subst (λ ts. AllZip R ts (rs ++ r ∷ [])) (sym (tables-more hs h some)) (zip-more R (kept_tables hs) rs h.table r all here)
 
   pub kept-same : (hs : List HeldTable) (h : HeldTable) (rs : List B) → length h.alive ≤ 0 → AllZip R (kept_tables hs) rs
       → AllZip R (kept_tables (hs ++ h ∷ [])) rs
@@ -67,8 +70,7 @@ module _ {B : Type 0} (R : Table → B → Type 0) where
   pub last-gone : (hs : List HeldTable) (h : HeldTable) (rs : List B) → 0 < length h.alive → AllZip R (kept_tables (hs ++ h ∷ [])) rs
       → AllZip R (kept_tables hs) (take (length rs - 1) rs)
   last-gone hs h rs some all =
-      let is = ap (map (λ (h : HeldTable). h.table)) (with_rows-more hs h some) ∙ map-append (λ (h : HeldTable). h.table) (with_rows hs) (h ∷ []) in
-      let there : AllZip R (kept_tables hs ++ h.table ∷ []) rs = subst (λ ts. AllZip R ts rs) is all in
+      let there = subst (λ ts. AllZip R ts rs) (tables-more hs h some) all in
       let long = AllZip-long R (kept_tables hs ++ h.table ∷ []) rs there in
       let count : length (kept_tables hs) ≡ length rs - 1 = omega (arith, long, length-append (kept_tables hs) (h.table ∷ [])) in
       subst (λ n. AllZip R (kept_tables hs) (take n rs)) count (zip-front R (kept_tables hs) h.table rs there)

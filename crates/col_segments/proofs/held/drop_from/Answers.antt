@@ -1,7 +1,8 @@
 use Rattle.std.proofs.Common.{◌≡◌, ◌<◌, ◌≤◌, ℕ, length, get_or, refl, ap, ◌∙◌, arith}
 use Rattle.col_segments.specs.Segments.{HeldTable, alive_count}
 use Rattle.col_segments.proofs.OpenLemmas.{drops-kept, drops-next, next-within}
-use Rattle.col_segments.proofs.RowLemmas.{dropped_from, places-ascend, places-fit}
+use Rattle.col_segments.proofs.DropLemmas.{dropped_from, places-fit}
+use Rattle.col_segments.proofs.PlaceLemmas.{places-ascend}
 use Rattle.col_segments.proofs.held.drop_from.Goals as goal
 
 pub drop_places-requires-clause-room : goal.drop_places-requires-clause-room
@@ -25,7 +26,8 @@ keep_open-next-requires c some =
     let count = c.num_alive-count.ensures ∙ ap (λ (h : HeldTable). length h.alive) c.index_mut-segment.ensures.value in
     let here : 0 < length (get_or at.held.items at.place d).alive = omega (arith, some, count) in
     let next =
-        next-within c.args.ids.now c.args.held.now.items at.held.items at.place at.first at.next at.readers.items d at.invariant within here in
+        next-within c.args.ids.now c.args.held.now.items at.held.items at.place at.first at.next at.readers.items d at.invariant within
+        here in
     omega (arith, next, at.readers.ok)
 
 pub overflow_add-first : goal.overflow_add-first

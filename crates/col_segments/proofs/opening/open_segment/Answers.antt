@@ -9,7 +9,8 @@ use Rattle.col_segments.proofs.opening.open_segment.Goals as goal
 pub returns-in_err-reader-clause-segment : goal.returns-in_err-reader-clause-segment
 returns-in_err-reader-clause-segment c =
     let p = err_from_is_err_and c.from_residual-in_err-reader.result c.from_residual-in_err-reader.ensures.1 in
-    let opened = subst (λ (b : List ℕ). IsOpenedFrom b (Err c.in_err-reader.field-0.0)) c.in_ok-clone.ensures.cases c.in_err-reader.ensures in
+    let opened =
+        subst (λ (b : List ℕ). IsOpenedFrom b (Err c.in_err-reader.field-0.0)) c.in_ok-clone.ensures.cases c.in_err-reader.ensures in
     rw (p.1, p.2) record { ok = tt; refused = not-opened c.args.file c.in_err-reader.field-0.0 opened }
 
 pub opened_whole-requires-clause-table : goal.opened_whole-requires-clause-table

@@ -1,5 +1,5 @@
 use Rattle.std.proofs.Common.{take}
-use Rattle.col_segments.proofs.RowLemmas.{Spells}
+use Rattle.col_segments.proofs.IdLemmas.{Spells}
 use Rattle.col_segments.proofs.rows.id_bytes.Given as goal
 
 abbrev pub invariant-loop-id : goal.invariant-loop-id

@@ -1,4 +1,4 @@
-use Rattle.std.proofs.Common.{◌≡◌, ◌<◌, ◌+◌, List, ℕ, length, get_or, sym, ap, ◌∙◌, subst, arith}
+use Rattle.std.proofs.Common.{◌<◌, ◌+◌, ℕ, length, sym, ◌∙◌, subst, arith}
 use Rattle.std.proofs.Math.ListN.{set}
 use Rattle.col_segments.proofs.RowLemmas.{Keeps, keeps-more, keeps-fewer, same-item}
 use Rattle.col_segments.proofs.rows.keep_rows.Goals as goal
@@ -7,8 +7,18 @@ use Rattle.col_segments.proofs.rows.keep_rows.Goals.{then-not-is_among, else-not
 pub loop-at-preserved : goal.loop-at-preserved
 loop-at-preserved c =
     let at = c.loop-at in
-    let within : at.at < length at.rows.items = omega (arith, c.loop-at-test.true, c.len-at-end.ensures, at.invariant.long, at.rows.ok) in
+    let ids = c.args.ids.now in
+    let first = c.args.first in
+    let old = c.args.rows.now.items in
+    let now = at.rows.items in
+    let within : at.at < length now = omega (arith, c.loop-at-test.true, c.len-at-end.ensures, at.invariant.long, at.rows.ok) in
     elim c.if-not-is_among.branch [
-      | then-not-is_among w ↦ rw (w.kept-is, w.rows-is) (subst (λ (x : ℕ). Keeps c.args.ids.now c.args.first c.args.rows.now.items (at.at + 1) (at.kept + 1) (set at.rows.items at.kept x)) (sym (w.index.ensures ∙ same-item at.rows.items at.at w.index.result.now within)) (keeps-more c.args.ids.now c.args.first c.args.rows.now.items at.rows.items at.at at.kept at.invariant within (sym (w.if-not-is_among.ensures))))
-      | else-not-is_among w ↦ rw (w.kept-is, w.rows-is) (keeps-fewer c.args.ids.now c.args.first c.args.rows.now.items at.rows.items at.at at.kept at.invariant within (sym (w.if-not-is_among.ensures)))
+      | then-not-is_among w ↦
+          let row = w.index.ensures ∙ same-item now at.at w.index.result.now within in
+          let more = keeps-more ids first old now at.at at.kept at.invariant within (sym (w.if-not-is_among.ensures)) in
+          rw (w.kept-is, w.rows-is)
+          (subst (λ (x : ℕ). Keeps ids first old (at.at + 1) (at.kept + 1) (set now at.kept x)) (sym row) more)
+      | else-not-is_among w ↦
+          rw (w.kept-is, w.rows-is)
+          (keeps-fewer ids first old now at.at at.kept at.invariant within (sym (w.if-not-is_among.ensures)))
     ]

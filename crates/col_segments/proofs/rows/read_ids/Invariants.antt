@@ -1,6 +1,6 @@
 use Rattle.std.proofs.Common.{◌≡◌, length}
 use Rattle.col_segments.specs.RowIds.{row_ids}
-use Rattle.col_segments.proofs.RowLemmas.{with_ids}
+use Rattle.col_segments.proofs.IdLemmas.{with_ids}
 use Rattle.col_segments.proofs.rows.read_ids.Given as goal
 
 abbrev pub invariant-loop-left : goal.invariant-loop-left

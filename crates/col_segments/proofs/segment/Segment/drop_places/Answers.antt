@@ -7,6 +7,9 @@ use Rattle.col_segments.proofs.segment.Segment.drop_places.Goals as goal
 pub invariant_of-self : goal.invariant_of-self
 invariant_of-self c = record {
   table = c.self.invariant.table;
-  rows = subst (AllByRecursion (λ row. row < (table_in c.self.inside.file).row_count)) (sym c.keep_rows.ensures) (rows-all _ c.args.ids.now c.args.first c.self.inside.alive.items c.self.invariant.rows);
-  few = omega (arith, ap length c.keep_rows.ensures, rows-fewer c.args.ids.now c.args.first c.self.inside.alive.items, c.self.invariant.few);
+  rows =
+      subst (AllByRecursion (λ row. row < (table_in c.self.inside.file).row_count)) (sym c.keep_rows.ensures)
+      (rows-all _ c.args.ids.now c.args.first c.self.inside.alive.items c.self.invariant.rows);
+  few =
+      omega (arith, ap length c.keep_rows.ensures, rows-fewer c.args.ids.now c.args.first c.self.inside.alive.items, c.self.invariant.few);
 }

@@ -1,0 +1,5 @@
+mod HeldLemmas
+mod LeaveLemmas
+mod OpenLemmas
+mod SetLemmas
+mod StepLemmas

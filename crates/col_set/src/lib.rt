@@ -1,0 +1,15 @@
+//! A set of segments on a disk: files with the rows that are alive in each, which survive a crash.
+#![tactic(auto)]
+
+mod change;
+mod loading;
+mod set;
+mod staging;
+mod steps;
+
+pub use set::SegmentSet;
+pub use steps::{Step, run_steps};
+
+#[cfg(test)]
+mod tests;
+
