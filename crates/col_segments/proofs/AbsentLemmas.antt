@@ -2,7 +2,8 @@
 use Rattle.std.proofs.Common.{◌≡◌, ℕ, zero, suc, ◌+◌, ◌<◌, ◌==◌, ◌&&◌, ◌||◌, nat_lt, Bool, true, false, cond, List, [], ◌∷◌, ◌++◌, map, filter_map, find, length, slice_get, Option, Some, None, option_map, option_and_then, unwrap_or, refl, sym, ap, ◌∙◌, subst, arith}
 use Rattle.std.specs.Prelude.{Result, Ok, if◌then◌else◌}
 use Rattle.std.specs.List.{list_any, enumerate_from, cons_option}
-use Rattle.std.proofs.lemmas.Bool.{true≢false, eq-eqb, lt-ltb}
+use Rattle.std.proofs.lemmas.Bool.{true≢false, eq-eqb, lt-ltb, or_right}
+use Rattle.std.proofs.lemmas.List.Folds.{list_any-append}
 use Rattle.col_common.specs.Reading.{only_if}
 use Rattle.col_model.specs.Category.{Slot, slot_cmp, same_slot}
 use Rattle.col_model.specs.ColumnType.{ColumnType}
@@ -20,41 +21,17 @@ use Rattle.col_model.proofs.RefusalLaws.{bind-ok, refuse_if-ok, same_Ok}
 use Rattle.col_model.proofs.SeenLaws.{not-zero}
 use Rattle.col_model.proofs.SharedTypes.{some≢none, same-some}
 use Rattle.col_model.proofs.SlotLaws.{slots_total}
+use Rattle.col_merge_column.proofs.SlotLemmas.{any-none}
 
-or_right : (a b : Bool) → b ≡ true → (a || b) ≡ true
-or_right true b h = refl
-or_right false b h = h
-
-or_assoc : (a b c : Bool) → (a || (b || c)) ≡ ((a || b) || c)
-or_assoc true b c = refl
-or_assoc false b c = refl
-
-add_none : (n : ℕ) → n + 0 ≡ n
+-- sums with nothing and with one
+pub add_none : (n : ℕ) → n + 0 ≡ n
 add_none n = omega arith
 
-add_one : (n i : ℕ) → n + suc i ≡ n + 1 + i
+pub add_one : (n i : ℕ) → n + suc i ≡ n + 1 + i
 add_one n i = omega arith
 
-zero_plus : (n : ℕ) → 0 + n ≡ n
+pub zero_plus : (n : ℕ) → 0 + n ≡ n
 zero_plus n = omega arith
-
-any-append : {A : Type 0} (f : A → Bool) (xs ys : List A) → list_any f (xs ++ ys) ≡ (list_any f xs || list_any f ys)
-any-append f [] ys = refl
-any-append f (x ∷ xs) ys = ap (λ b. f x || b) (any-append f xs ys) ∙ or_assoc (f x) (list_any f xs) (list_any f ys)
-
--- an item passes no test that none passes
-any-false : {A : Type 0} (f : A → Bool) (xs : List A) (i : ℕ) (x : A) → slice_get xs i ≡ Some x → list_any f xs ≡ false → f x ≡ false
-any-false f [] i x at none = absurd (some≢none x (sym at))
-any-false f (y ∷ xs) zero x at none = ap f (sym (same-some y x at)) ∙ first (f y) (list_any f xs) none
-  where
-    first : (a b : Bool) → (a || b) ≡ false → a ≡ false
-    first true b h = h
-    first false b h = refl
-any-false f (y ∷ xs) (suc i) x at none = any-false f xs i x at (rest (f y) (list_any f xs) none)
-  where
-    rest : (a b : Bool) → (a || b) ≡ false → b ≡ false
-    rest true b h = absurd (true≢false h)
-    rest false b h = h
 
 -- ---- the slot is among all slots
 
@@ -83,11 +60,11 @@ module _ (slot : Slot) where
       → has slot_cmp slot (part_slots ps) ≡ true
   parts-has [] k p e h = absurd (some≢none p (sym e))
   parts-has (q ∷ ps) zero p e h =
-      any-append (λ s. same_slot slot s) (map part_slot q.columns) (part_slots ps)
+      list_any-append (λ s. same_slot slot s) (map part_slot q.columns) (part_slots ps)
       ∙ ap (λ b. b || has slot_cmp slot (part_slots ps))
       (subst (λ (r : Part). has slot_cmp slot (map part_slot r.columns) ≡ true) (sym (same-some q p e)) h)
   parts-has (q ∷ ps) (suc k) p e h =
-      any-append (λ s. same_slot slot s) (map part_slot q.columns) (part_slots ps)
+      list_any-append (λ s. same_slot slot s) (map part_slot q.columns) (part_slots ps)
       ∙ or_right (has slot_cmp slot (map part_slot q.columns)) (has slot_cmp slot (part_slots ps)) (parts-has ps k p e h)
 
   whole-found : (p : Part) (c : Column) → whole_column_in slot p ≡ Some c → (d : PartColumn) × (column_in slot p ≡ Some d)
@@ -130,10 +107,10 @@ module _ (order : Order) (picked : List (ℕ × ℕ)) (parts : List Part) (slot 
       by [] e = refl
       by (d ∷ kept) e =
           let some : present (d ∷ kept) ≡ Ok None =
-              subst (λ b. (if b then Ok None else present (d ∷ kept)) ≡ Ok None) (not-zero (length kept)) e in
+          subst (λ b. (if b then Ok None else present (d ∷ kept)) ≡ Ok None) (not-zero (length kept)) e in
           let first = bind-ok (joined_type None (d ∷ kept)) (fits (d ∷ kept)) None some in
           let last =
-              refuse_if-ok (is_too_large first.0 (content (d ∷ kept))) too_large (λ _. made (d ∷ kept) first.0) None first.2 in
+          refuse_if-ok (is_too_large first.0 (content (d ∷ kept))) too_large (λ _. made (d ∷ kept) first.0) None first.2 in
           absurd (some≢none _ (same_Ok _ None last))
 
   abbrev kept_from : ℕ → List Part → List Column
@@ -169,8 +146,8 @@ module _ (order : Order) (picked : List (ℕ × ℕ)) (parts : List Part) (slot 
   row-empty k r p c i none whole at =
       let keep : Column → Option Column = λ c. only_if (list_any (has_cell k c) picked) c in
       let kept : only_if (list_any (has_cell k c) picked) c ≡ None =
-          sym (ap (λ (o : Option Column). option_and_then keep o) whole) ∙ none in
-      empty (row_of c.content r) (any-false (has_cell k c) picked i (k, r) at (refused (list_any (has_cell k c) picked) kept))
+      sym (ap (λ (o : Option Column). option_and_then keep o) whole) ∙ none in
+      empty (row_of c.content r) (any-none (has_cell k c) picked i (k, r) at (refused (list_any (has_cell k c) picked) kept))
     where
       refused : (b : Bool) → only_if b c ≡ None → b ≡ false
       refused true e = absurd (some≢none c e)

@@ -14,31 +14,11 @@ use Rattle.col_model.specs.Refusal.{Refusal, ◌>>=◌, or_refuse, refuse_if, ea
 use Rattle.col_model.specs.Table.{Column, Content, Table}
 use Rattle.col_model.proofs.ConflictLaws.{BindErr, first_refused, then_refused, bind-err, each-err, ok_not_err, refused-by, same_Err}
 use Rattle.col_model.proofs.SeenLaws.{not-zero}
+use Rattle.col_model.proofs.StackSeen.{none-bad}
 use Rattle.col_order.proofs.PickLemmas.{picks-shuffle}
 use Rattle.col_segments.specs.Compaction.{HasItsRows, IsCompactRefusal, CompactsOrConflicts}
-use Rattle.col_segments.specs.Live.{with_rows, addresses, merged_rows, compacted}
+use Rattle.col_segments.specs.Live.{with_alive, addresses, merged_alive, compacted}
 use Rattle.col_segments.specs.Segments.{HeldTable, all_alive}
-
--- ---- columns of tables are columns
-
--- a column that is found in a table is one
-found-whole : (slot : Slot) (cs : List Column) → let found = find (λ c. same_slot (part_slot c) slot) (map part_of_column cs) in
-    (is_some found && is_none (option_and_then whole_column found)) ≡ false
-found-whole slot [] = refl
-found-whole slot (c ∷ cs) = by (same_slot (part_slot (part_of_column c)) slot) (found-whole slot cs)
-  where
-    rest : Option PartColumn
-    rest = find (λ c. same_slot (part_slot c) slot) (map part_of_column cs)
-
-    by : (b : Bool) → (is_some rest && is_none (option_and_then whole_column rest)) ≡ false
-        → let found = cond b (Some (part_of_column c)) rest in (is_some found && is_none (option_and_then whole_column found)) ≡ false
-    by true later = refl
-    by false later = later
-
--- no table has one that isn't
-none-bad : (slot : Slot) (ts : List Table) → has_bad_column slot (map part_of_table ts) ≡ false
-none-bad slot [] = refl
-none-bad slot (t ∷ ts) = ap (λ b. b || has_bad_column slot (map part_of_table ts)) (found-whole slot t.columns) ∙ none-bad slot ts
 
 -- ---- one slot
 
@@ -112,11 +92,11 @@ rows-there counts k (h ∷ hs) same all =
     one_more n j = omega arith
 
 -- what holds of all tables holds of those that have a row alive
-kept-all : (hs : List HeldTable) → AllByRecursion HasItsRows hs → AllByRecursion HasItsRows (with_rows hs)
+kept-all : (hs : List HeldTable) → AllByRecursion HasItsRows hs → AllByRecursion HasItsRows (with_alive hs)
 kept-all [] all = tt
 kept-all (h ∷ hs) all = by (not (length h.alive == 0)) (kept-all hs all.1)
   where
-    by : (b : Bool) → AllByRecursion HasItsRows (with_rows hs) → AllByRecursion HasItsRows (cond b (h ∷ with_rows hs) (with_rows hs))
+    by : (b : Bool) → AllByRecursion HasItsRows (with_alive hs) → AllByRecursion HasItsRows (cond b (h ∷ with_alive hs) (with_alive hs))
     by true later = (all.0, later)
     by false later = later
 
@@ -149,7 +129,7 @@ rows-refused ts named e there h =
 
     of_slots : BindErr (each_ok (joined_column order named (map part_of_table ts) []) (all_slots (map part_of_table ts) []))
         (table named) e → IsCompactRefusal e
-    of_slots (first_refused s) = 
+    of_slots (first_refused s) =
         let one = each-err (joined_column order named (map part_of_table ts) []) (all_slots (map part_of_table ts) []) e s in
         slot-refused order named ts one.0 e one.1
     of_slots (then_refused columns s t) =
@@ -163,11 +143,11 @@ rows-refused ts named e there h =
 
 -- A compaction of tables that have their rows conflicts in its numbers, or is too large, or is made.
 pub compacts-or-conflicts : (hs : List HeldTable) → AllByRecursion HasItsRows hs → CompactsOrConflicts hs
-compacts-or-conflicts hs all r h = by (bind-err (merged_rows hs) (λ t. Ok (all_alive t ∷ [])) r h)
+compacts-or-conflicts hs all r h = by (bind-err (merged_alive hs) (λ t. Ok (all_alive t ∷ [])) r h)
   where
-    by : BindErr (merged_rows hs) (λ t. Ok (all_alive t ∷ [])) r → IsCompactRefusal r
+    by : BindErr (merged_alive hs) (λ t. Ok (all_alive t ∷ [])) r → IsCompactRefusal r
     by (first_refused s) =
-        let kept = with_rows hs in
+        let kept = with_alive hs in
         let there = rows-there (counts_in kept) 0 kept (λ i. ap (slice_get (counts_in kept)) (none_before i)) (kept-all hs all) in
         rows-refused (map (λ h. h.table) kept) (addresses kept) r there s
       where

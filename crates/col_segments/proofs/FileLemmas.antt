@@ -14,8 +14,9 @@ use Rattle.col_model.specs.File.{Part, PartColumn, parts_of, part_column, part_o
 use Rattle.col_model.specs.Keys.{Entry, FileKeys, keys}
 use Rattle.col_model.specs.Refusal.{Refusal, ◌>>=◌, or_refuse, invalid_data}
 use Rattle.col_model.specs.Table.{Column, Content, Table}
+use Rattle.col_model.proofs.ListLaws.{range-more}
 use Rattle.col_model.proofs.PartLaws.{whole-table}
-use Rattle.col_segments.specs.Files.{no_table, table_in, HasTable, IsWhole, IsReaderOf, IsOpenedFrom}
+use Rattle.col_segments.specs.Files.{no_table, table_in, IsTableFile, IsWhole, ReadsTable, OpensBytes}
 use Rattle.col_segments.specs.Segments.{all_alive, whole_file}
 use Rattle.col_writer_columns.specs.Answers.{MayRefuse}
 
@@ -27,7 +28,7 @@ unfaulted h = omega (arith, h)
 
 -- why bytes in memory aren't opened
 pub unopened : (bytes : List ℕ) (old new : SeenFile) (e : ColumnarError) → RefusesFile old new e keys → old.told ≡ Some bytes
-    → old.faults ≡ 0 → new.faults ≡ 0 → IsOpenedFrom bytes (Err e)
+    → old.faults ≡ 0 → new.faults ≡ 0 → OpensBytes bytes (Err e)
 unopened bytes old new OutOfMemory h told was is = inl refl
 unopened bytes old new InvalidData h told was is = inr (refl, rw told at h)
 unopened bytes old new ReadFault h told was is = absurd (unfaulted (rw (was, is) at h))
@@ -81,7 +82,7 @@ table-some bytes k has =
 
 -- entries all of which are columns make a table
 pub columns-whole : (bytes : List ℕ) (k : FileKeys) → keys bytes ≡ Some k
-    → list_all (λ w. w) (map (is_column bytes k) k.entries) ≡ true → HasTable bytes
+    → list_all (λ w. w) (map (is_column bytes k) k.entries) ≡ true → IsTableFile bytes
 unfolding table_in
 columns-whole bytes k has all = by (table_of bytes) (table-some bytes k has ∙ all)
   where
@@ -101,7 +102,7 @@ columns-bad bytes k has bad = by (table_of bytes) (table-some bytes k has ∙ ba
 -- ---- open files
 
 -- the table of a file that has one
-pub file-whole : (bytes : List ℕ) → HasTable bytes → whole_file bytes ≡ Ok (all_alive (table_in bytes))
+pub file-whole : (bytes : List ℕ) → IsTableFile bytes → whole_file bytes ≡ Ok (all_alive (table_in bytes))
 file-whole bytes is = ap (λ o. or_refuse o invalid_data >>= λ table. Ok (all_alive table)) is
 
 keys-rows : (bytes : List ℕ) (k : FileKeys) (t : Table) → keys bytes ≡ Some k → table_of bytes ≡ Some t → k.row_count ≡ t.row_count
@@ -122,8 +123,8 @@ part-whole bytes t = by (parts_of bytes)
     by (Some p) h = ap Some (whole-table p t h)
 
 -- a reader of a file that has a table
-pub reader-of : (bytes : List ℕ) (r : SeenReader) → HasTable bytes → r.file.told ≡ Some bytes
-    → IfSome r.file.told (λ b. keys b ≡ Some r.keys) → IsReaderOf (table_in bytes) r
+pub reader-of : (bytes : List ℕ) (r : SeenReader) → IsTableFile bytes → r.file.told ≡ Some bytes
+    → IfSome r.file.told (λ b. keys b ≡ Some r.keys) → ReadsTable (table_in bytes) r
 reader-of bytes r is told read = record {
   part = ap (option_and_then parts_of) told ∙ part-whole bytes (table_in bytes) is;
   rows = keys-rows bytes r.keys (table_in bytes) (rw told at read) is;
@@ -131,13 +132,7 @@ reader-of bytes r is told read = record {
 
 -- ---- all rows
 
-pub range-more : (k n : ℕ) → range_with_len k (n + 1) ≡ range_with_len k n ++ (k + n) ∷ []
-range-more k n = rw add-one (go k n)
-  where
-    go : (k n : ℕ) → range_with_len k (suc n) ≡ range_with_len k n ++ (k + n) ∷ []
-    go k zero = ap (λ m. m ∷ []) (omega arith)
-    go k (suc n) = ap (λ l. k ∷ l) (go (k + 1) n ∙ ap (λ m. range_with_len (k + 1) n ++ m ∷ []) (omega arith))
-
+-- one row more
 pub range-from : (n : ℕ) → range_with_len 0 (n + 1) ≡ range_with_len 0 n ++ n ∷ []
 range-from n = range-more 0 n ∙ ap (λ m. range_with_len 0 n ++ m ∷ []) (omega arith)
 
@@ -146,7 +141,7 @@ rows-below k zero m le = tt
 rows-below k (suc n) m le = (omega (arith, le), rows-below (k + 1) n m (omega (arith, le)))
 
 -- the rows of a file, all of which are alive
-module _ (bytes : List ℕ) (r : SeenReader) (rows : List ℕ) (n : ℕ) (is : HasTable bytes) (reads : IsReaderOf (table_in bytes) r)
+module _ (bytes : List ℕ) (r : SeenReader) (rows : List ℕ) (n : ℕ) (is : IsTableFile bytes) (reads : ReadsTable (table_in bytes) r)
     (counted : n ≡ r.keys.row_count) (all : rows ≡ range_with_len 0 n) where
   as_many : n ≡ (table_in bytes).row_count
   as_many = counted ∙ reads.rows
@@ -172,6 +167,6 @@ told-all None flags xs r is h = tt
 told-all (Some bytes) flags xs r is h = is ∙ ap (list_all (λ w. w)) h
 
 -- bytes that aren't opened are refused as the definition has it
-pub not-opened : (bytes : List ℕ) (e : ColumnarError) → IsOpenedFrom bytes (Err e) → MayRefuse (whole_file bytes) e
+pub not-opened : (bytes : List ℕ) (e : ColumnarError) → OpensBytes bytes (Err e) → MayRefuse (whole_file bytes) e
 not-opened bytes e (inl memory) = inl memory
 not-opened bytes e (inr p) = inr (invalid_data, no-file bytes p.1, p.0)

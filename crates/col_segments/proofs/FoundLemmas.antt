@@ -43,8 +43,11 @@ module _ (order : Order) (picked : List (ℕ × ℕ)) (parts : List Part) (slot 
       let skip : column_at slot (c ∷ cs) ≡ column_at slot cs = ap (λ b. cond b (Some c) (column_at slot cs)) same in
       ⊎_elim
       (λ found. inl (found.0, skip ∙ found.1, found.2))
-      (λ none. inr (skip ∙ none.0, λ h.
-      ⊎_elim (λ at. absurd (other own at)) none.1 (or_cases (same_slot slot s) (has slot_cmp slot slots) h)))
+      (λ none. inr (
+        skip ∙ none.0,
+        λ h.
+            ⊎_elim (λ at. absurd (other own at)) none.1 (or_cases (same_slot slot s) (has slot_cmp slot slots) h),
+      ))
       rest
     where
       other : column_slot c ≡ s → same_slot slot s ≡ true → ⊥
@@ -61,7 +64,7 @@ module _ (order : Order) (picked : List (ℕ × ℕ)) (parts : List Part) (slot 
   found-in (s ∷ slots) [] e = absurd e
   found-in (s ∷ slots) (None ∷ os) e =
       let own : same_slot slot s ≡ true → joined slot ≡ Ok None =
-          λ at. subst (λ q. joined q ≡ Ok None) (sym (same-slots slot s at)) e.0 in
+      λ at. subst (λ q. joined q ≡ Ok None) (sym (same-slots slot s at)) e.0 in
       ⊎_elim
       (λ found. inl found)
       (λ none. inr (none.0, λ h. ⊎_elim own none.1 (or_cases (same_slot slot s) (has slot_cmp slot slots) h)))

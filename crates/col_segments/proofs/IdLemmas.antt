@@ -19,16 +19,16 @@ no_ids None = refl
 no_ids (Some ids) = refl
 
 -- no bytes spell no id
-pub spells-none : Spells [] []
-spells-none tail = no_ids (row_ids tail)
+pub spells_none : Spells [] []
+spells_none tail = no_ids (row_ids tail)
 
 one_more : (ids : List ℕ) (id : ℕ) (o : Option (List ℕ)) → with_ids ids (o >>= λ more. Some (id ∷ more)) ≡ with_ids (ids ++ id ∷ []) o
 one_more ids id None = refl
 one_more ids id (Some more) = ap Some (sym (append_assoc ids (id ∷ []) more))
 
 -- one id more
-pub spells-more : (bytes ids : List ℕ) (id : ℕ) → id < 2 ^ 32 → Spells bytes ids → Spells (bytes ++ to_le_bytes w32 id) (ids ++ id ∷ [])
-spells-more bytes ids id fits spells tail =
+pub spells_more : (bytes ids : List ℕ) (id : ℕ) → id < 2 ^ 32 → Spells bytes ids → Spells (bytes ++ to_le_bytes w32 id) (ids ++ id ∷ [])
+spells_more bytes ids id fits spells tail =
     ap row_ids (append_assoc bytes (to_le_bytes w32 id) tail)
     ∙ spells (to_le_bytes w32 id ++ tail)
     ∙ ap (λ n. with_ids ids (row_ids tail >>= λ more. Some (n ∷ more))) (from_le_bytes-to_le_bytes_4 id fits)
@@ -60,10 +60,10 @@ no-id (a ∷ b ∷ c ∷ []) less some = refl
 no-id (a ∷ b ∷ c ∷ d ∷ bytes) less some = absurd (omega arith)
 
 -- one id more was read
-pub read-more : (bytes ids left : List ℕ) → 4 ≤ length left → row_ids bytes ≡ with_ids ids (row_ids left)
+pub read_more : (bytes ids left : List ℕ) → 4 ≤ length left → row_ids bytes ≡ with_ids ids (row_ids left)
     → row_ids bytes ≡ with_ids (ids ++ from_le_bytes w32 (get_or left 0 0 ∷ get_or left 1 0 ∷ get_or left 2 0 ∷ get_or left 3 0 ∷ []) ∷ [])
     (row_ids (drop 4 left))
-read-more bytes ids left le so_far =
+read_more bytes ids left le so_far =
     so_far ∙ ap (with_ids ids) (first-id left le) ∙ one_more ids (from_le_bytes w32 (front_bytes left)) (row_ids (drop 4 left))
 
 -- a length that isn't none

@@ -5,15 +5,15 @@ use Rattle.std.proofs.Math.ListN.{set}
 use Rattle.std.proofs.lemmas.List.{take_more, take_more_set, append-nil}
 use Rattle.std.proofs.lemmas.List.Sums.{sum_by-cons, sum_by-take-le}
 use Rattle.col_model.proofs.SeenLaws.{not-zero}
-use Rattle.col_segments.specs.Live.{with_rows, addresses}
+use Rattle.col_segments.specs.Live.{with_alive, addresses}
 use Rattle.col_segments.specs.Segments.{HeldTable, alive_count}
 
-with_rows-append : (xs ys : List HeldTable) → with_rows (xs ++ ys) ≡ with_rows xs ++ with_rows ys
-with_rows-append [] ys = refl
-with_rows-append (x ∷ xs) ys = by (not (length x.alive == 0)) (with_rows-append xs ys)
+with_alive-append : (xs ys : List HeldTable) → with_alive (xs ++ ys) ≡ with_alive xs ++ with_alive ys
+with_alive-append [] ys = refl
+with_alive-append (x ∷ xs) ys = by (not (length x.alive == 0)) (with_alive-append xs ys)
   where
-    by : (b : Bool) → with_rows (xs ++ ys) ≡ with_rows xs ++ with_rows ys
-        → cond b (x ∷ with_rows (xs ++ ys)) (with_rows (xs ++ ys)) ≡ cond b (x ∷ with_rows xs) (with_rows xs) ++ with_rows ys
+    by : (b : Bool) → with_alive (xs ++ ys) ≡ with_alive xs ++ with_alive ys
+        → cond b (x ∷ with_alive (xs ++ ys)) (with_alive (xs ++ ys)) ≡ cond b (x ∷ with_alive xs) (with_alive xs) ++ with_alive ys
     by true later = ap (λ hs. x ∷ hs) later
     by false later = later
 
@@ -32,58 +32,58 @@ none-alive h none = by h.alive none
     by [] none = refl
     by (r ∷ alive) none = absurd (omega arith)
 
-with_rows-one : (h : HeldTable) → 0 < length h.alive → with_rows (h ∷ []) ≡ h ∷ []
-with_rows-one h some = ap (λ b. cond b (h ∷ []) []) (some-alive h some)
+with_alive-one : (h : HeldTable) → 0 < length h.alive → with_alive (h ∷ []) ≡ h ∷ []
+with_alive-one h some = ap (λ b. cond b (h ∷ []) []) (some-alive h some)
 
-with_rows-none : (h : HeldTable) → length h.alive ≤ 0 → with_rows (h ∷ []) ≡ []
-with_rows-none h none = ap (λ b. cond b (h ∷ []) []) (none-alive h none)
+with_alive-none : (h : HeldTable) → length h.alive ≤ 0 → with_alive (h ∷ []) ≡ []
+with_alive-none h none = ap (λ b. cond b (h ∷ []) []) (none-alive h none)
 
 -- a table behind others
-pub with_rows-more : (hs : List HeldTable) (h : HeldTable) → 0 < length h.alive → with_rows (hs ++ h ∷ []) ≡ with_rows hs ++ h ∷ []
-with_rows-more hs h some = with_rows-append hs (h ∷ []) ∙ ap (λ ys. with_rows hs ++ ys) (with_rows-one h some)
+pub with_alive-more : (hs : List HeldTable) (h : HeldTable) → 0 < length h.alive → with_alive (hs ++ h ∷ []) ≡ with_alive hs ++ h ∷ []
+with_alive-more hs h some = with_alive-append hs (h ∷ []) ∙ ap (λ ys. with_alive hs ++ ys) (with_alive-one h some)
 
-pub with_rows-same : (hs : List HeldTable) (h : HeldTable) → length h.alive ≤ 0 → with_rows (hs ++ h ∷ []) ≡ with_rows hs
-with_rows-same hs h none =
-    with_rows-append hs (h ∷ []) ∙ ap (λ ys. with_rows hs ++ ys) (with_rows-none h none) ∙ append-nil (with_rows hs)
+pub with_alive-same : (hs : List HeldTable) (h : HeldTable) → length h.alive ≤ 0 → with_alive (hs ++ h ∷ []) ≡ with_alive hs
+with_alive-same hs h none =
+    with_alive-append hs (h ∷ []) ∙ ap (λ ys. with_alive hs ++ ys) (with_alive-none h none) ∙ append-nil (with_alive hs)
 
 -- the tables up to a place, and the one there
 module _ (hs : List HeldTable) (i : ℕ) (d : HeldTable) (within : i < length hs) where
-  pub one-more : 0 < length (get_or hs i d).alive → with_rows (take (i + 1) hs) ≡ with_rows (take i hs) ++ get_or hs i d ∷ []
-  one-more some = ap with_rows (take_more hs i d within) ∙ with_rows-more (take i hs) (get_or hs i d) some
+  pub one-more : 0 < length (get_or hs i d).alive → with_alive (take (i + 1) hs) ≡ with_alive (take i hs) ++ get_or hs i d ∷ []
+  one-more some = ap with_alive (take_more hs i d within) ∙ with_alive-more (take i hs) (get_or hs i d) some
 
-  pub count-more : 0 < length (get_or hs i d).alive → length (with_rows (take (i + 1) hs)) ≡ length (with_rows (take i hs)) + 1
-  count-more some = ap length (one-more some) ∙ length-append (with_rows (take i hs)) (get_or hs i d ∷ [])
+  pub count-more : 0 < length (get_or hs i d).alive → length (with_alive (take (i + 1) hs)) ≡ length (with_alive (take i hs)) + 1
+  count-more some = ap length (one-more some) ∙ length-append (with_alive (take i hs)) (get_or hs i d ∷ [])
 
-  pub none-more : length (get_or hs i d).alive ≤ 0 → with_rows (take (i + 1) hs) ≡ with_rows (take i hs)
-  none-more none = ap with_rows (take_more hs i d within) ∙ with_rows-same (take i hs) (get_or hs i d) none
+  pub none-more : length (get_or hs i d).alive ≤ 0 → with_alive (take (i + 1) hs) ≡ with_alive (take i hs)
+  none-more none = ap with_alive (take_more hs i d within) ∙ with_alive-same (take i hs) (get_or hs i d) none
 
 -- the same, where another table stands there now
 module _ (hs : List HeldTable) (i : ℕ) (g : HeldTable) (within : i < length hs) where
-  pub one-set : 0 < length g.alive → length (with_rows (take (i + 1) (set hs i g))) ≡ length (with_rows (take i hs)) + 1
+  pub one-set : 0 < length g.alive → length (with_alive (take (i + 1) (set hs i g))) ≡ length (with_alive (take i hs)) + 1
   one-set some =
-      ap (λ gs. length (with_rows gs)) (take_more_set hs i g within) ∙ ap length (with_rows-more (take i hs) g some)
-      ∙ length-append (with_rows (take i hs)) (g ∷ [])
+      ap (λ gs. length (with_alive gs)) (take_more_set hs i g within) ∙ ap length (with_alive-more (take i hs) g some)
+      ∙ length-append (with_alive (take i hs)) (g ∷ [])
 
-  pub none-set : length g.alive ≤ 0 → length (with_rows (take (i + 1) (set hs i g))) ≡ length (with_rows (take i hs))
-  none-set none = ap (λ gs. length (with_rows gs)) (take_more_set hs i g within) ∙ ap length (with_rows-same (take i hs) g none)
+  pub none-set : length g.alive ≤ 0 → length (with_alive (take (i + 1) (set hs i g))) ≡ length (with_alive (take i hs))
+  none-set none = ap (λ gs. length (with_alive gs)) (take_more_set hs i g within) ∙ ap length (with_alive-same (take i hs) g none)
 
-with_rows-fewer : (hs : List HeldTable) → length (with_rows hs) ≤ alive_count hs
-with_rows-fewer [] = omega arith
-with_rows-fewer (h ∷ hs) = by h.alive (with_rows-fewer hs)
+with_alive-fewer : (hs : List HeldTable) → length (with_alive hs) ≤ alive_count hs
+with_alive-fewer [] = omega arith
+with_alive-fewer (h ∷ hs) = by h.alive (with_alive-fewer hs)
   where
     own : List ℕ → HeldTable
     own alive = record { table = h.table; alive = alive }
 
-    by : (alive : List ℕ) → length (with_rows hs) ≤ alive_count hs
-        → length (cond (not (length alive == 0)) (own alive ∷ with_rows hs) (with_rows hs)) ≤ alive_count (own alive ∷ hs)
+    by : (alive : List ℕ) → length (with_alive hs) ≤ alive_count hs
+        → length (cond (not (length alive == 0)) (own alive ∷ with_alive hs) (with_alive hs)) ≤ alive_count (own alive ∷ hs)
     by [] le = omega (arith, le, sum_by-cons (λ (g : HeldTable). length g.alive) (own []) hs)
     by (r ∷ alive) le =
-        subst (λ b. length (cond (not b) (own (r ∷ alive) ∷ with_rows hs) (with_rows hs)) ≤ alive_count (own (r ∷ alive) ∷ hs))
+        subst (λ b. length (cond (not b) (own (r ∷ alive) ∷ with_alive hs) (with_alive hs)) ≤ alive_count (own (r ∷ alive) ∷ hs))
         (sym (not-zero (length alive))) (omega (arith, le, sum_by-cons (λ (g : HeldTable). length g.alive) (own (r ∷ alive)) hs))
 
 -- there are as many tables at most as rows that are alive
-pub few-tables : (hs : List HeldTable) (i : ℕ) → length (with_rows (take i hs)) ≤ alive_count hs
-few-tables hs i = omega (arith, with_rows-fewer (take i hs), sum_by-take-le (λ (h : HeldTable). length h.alive) hs i)
+pub few-tables : (hs : List HeldTable) (i : ℕ) → length (with_alive (take i hs)) ≤ alive_count hs
+few-tables hs i = omega (arith, with_alive-fewer (take i hs), sum_by-take-le (λ (h : HeldTable). length h.alive) hs i)
 
 -- ---- addresses
 
@@ -107,11 +107,11 @@ addresses-on k (g ∷ hs) h =
 
 -- those of the tables up to a place, and of the one there
 pub addresses-more : (hs : List HeldTable) (i : ℕ) (d : HeldTable) → i < length hs → 0 < length (get_or hs i d).alive
-    → addresses (with_rows (take (i + 1) hs))
-    ≡ addresses (with_rows (take i hs)) ++ map (λ r. (length (with_rows (take i hs)), r)) (get_or hs i d).alive
+    → addresses (with_alive (take (i + 1) hs))
+    ≡ addresses (with_alive (take i hs)) ++ map (λ r. (length (with_alive (take i hs)), r)) (get_or hs i d).alive
 addresses-more hs i d within some =
-    ap addresses (one-more hs i d within some) ∙ addresses-on 0 (with_rows (take i hs)) (get_or hs i d)
-    ∙ ap (λ n. addresses (with_rows (take i hs)) ++ map (λ r. (n, r)) (get_or hs i d).alive) (zero_more (length (with_rows (take i hs))))
+    ap addresses (one-more hs i d within some) ∙ addresses-on 0 (with_alive (take i hs)) (get_or hs i d)
+    ∙ ap (λ n. addresses (with_alive (take i hs)) ++ map (λ r. (n, r)) (get_or hs i d).alive) (zero_more (length (with_alive (take i hs))))
   where
     zero_more : (n : ℕ) → 0 + n ≡ n
     zero_more n = omega arith

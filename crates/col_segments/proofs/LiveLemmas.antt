@@ -11,7 +11,7 @@ use Rattle.col_model.specs.Merge.{part_slot, whole_column_in, cells_in}
 use Rattle.col_model.specs.Table.{Column, Table}
 use Rattle.col_model.proofs.SeenLaws.{not-zero}
 use Rattle.col_model.proofs.SlotLaws.{column_slot}
-use Rattle.col_segments.specs.Live.{row_in, live, with_rows, addresses, merged_rows}
+use Rattle.col_segments.specs.Live.{row_in, live, with_alive, addresses, merged_alive}
 use Rattle.col_segments.specs.Segments.{HeldTable, alive_count, all_alive}
 use Rattle.col_segments.proofs.FoundLemmas.{column_at}
 use Rattle.col_segments.proofs.PickedLemmas.{merged-rows, rows_at}
@@ -68,24 +68,24 @@ rows-named parts k (h ∷ hs) same =
     named (r ∷ rows) at = λ i. table-row parts k r h.table at i ∷ named rows at i
 
 -- tables without a row alive add none
-with-rows-live : (hs : List HeldTable) → live (with_rows hs) ≡ live hs
+with-rows-live : (hs : List HeldTable) → live (with_alive hs) ≡ live hs
 with-rows-live [] = refl
 with-rows-live (h ∷ hs) = by h.alive (with-rows-live hs)
   where
     own : List ℕ → HeldTable
     own alive = record { table = h.table; alive = alive }
 
-    by : (alive : List ℕ) → live (with_rows hs) ≡ live hs
-        → live (cond (not (length alive == 0)) (own alive ∷ with_rows hs) (with_rows hs)) ≡ map (row_in h.table) alive ++ live hs
+    by : (alive : List ℕ) → live (with_alive hs) ≡ live hs
+        → live (cond (not (length alive == 0)) (own alive ∷ with_alive hs) (with_alive hs)) ≡ map (row_in h.table) alive ++ live hs
     by [] later = later
     by (r ∷ alive) later =
-        ap (λ b. live (cond (not b) (own (r ∷ alive) ∷ with_rows hs) (with_rows hs))) (not-zero (length alive))
+        ap (λ b. live (cond (not b) (own (r ∷ alive) ∷ with_alive hs) (with_alive hs))) (not-zero (length alive))
         ∙ ap (λ rest. map (row_in h.table) (r ∷ alive) ++ rest) later
 
 -- The rows that are alive stay.
-pub compacted-live : (hs : List HeldTable) (t : Table) → merged_rows hs ≡ Ok t → live (all_alive t ∷ []) ≡ live hs
+pub compacted-live : (hs : List HeldTable) (t : Table) → merged_alive hs ≡ Ok t → live (all_alive t ∷ []) ≡ live hs
 compacted-live hs t h =
-    let kept = with_rows hs in
+    let kept = with_alive hs in
     append-nil (map (row_in t) (range_with_len 0 t.row_count))
     ∙ merged-rows (parts_in kept) (addresses kept) (map (λ t. t.row_count) (map (λ (h : HeldTable). h.table) kept)) t h
     ∙ rows-named (parts_in kept) 0 kept (λ i. ap (slice_get (parts_in kept)) (zero_plus i))

@@ -18,9 +18,9 @@ use Rattle.col_model.specs.Refusal.{Refusal, ◌>>=◌, or_refuse, refuse_if, in
 use Rattle.col_model.specs.Table.{Table}
 use Rattle.col_model.proofs.RefusalLaws.{err_not_ok, same_Ok}
 use Rattle.col_segments.specs.Compaction.{CompactsTo, MergesRows, RefusesRows}
-use Rattle.col_segments.specs.Files.{AreOpen, HasTable, IsReaderOf, table_in}
-use Rattle.col_segments.specs.Live.{compacted, live, merged_rows}
-use Rattle.col_segments.specs.Segments.{HeldTable, added, alive_count, all_alive, appended, with_more}
+use Rattle.col_segments.specs.Files.{AreOpenBeside, IsTableFile, ReadsTable, table_in}
+use Rattle.col_segments.specs.Live.{compacted, live, merged_alive}
+use Rattle.col_segments.specs.Segments.{HeldTable, added_file, alive_count, all_alive, appended, with_more}
 use Rattle.col_segments.proofs.LiveLemmas.{compacted-live}
 use Rattle.col_segments.proofs.ReaderLemmas.{kept_tables, zip-through}
 use Rattle.col_writer_columns.specs.Answers.{MayRefuse}
@@ -28,29 +28,29 @@ use Rattle.col_writer_columns.specs.Answers.{MayRefuse}
 -- ---- open files of tables
 
 -- a file that was read has its table still
-read-again : (t : Table) (old new : SeenReader) → IsReaderOf t old → Reads (length old.keys.entries) old new → IsReaderOf t new
+read-again : (t : Table) (old new : SeenReader) → ReadsTable t old → Reads (length old.keys.entries) old new → ReadsTable t new
 read-again t old new is reads = record {
   part = ap (option_and_then parts_of) reads.file.told ∙ is.part;
   rows = ap (λ (k : FileKeys). k.row_count) reads.keys ∙ is.rows;
 }
 
 -- the same of all
-pub all-again : (hs : List HeldTable) (olds news : List SeenReader) → AreOpen hs olds → AllStay olds news → AreOpen hs news
+pub all-again : (hs : List HeldTable) (olds news : List SeenReader) → AreOpenBeside hs olds → AllStay olds news → AreOpenBeside hs news
 all-again hs olds news are stay = record {
   few = are.few;
   open_ =
-      zip-through IsReaderOf (λ old new. Reads (length old.keys.entries) old new) (kept_tables hs) olds news read-again are.open_ stay;
+      zip-through ReadsTable (λ old new. Reads (length old.keys.entries) old new) (kept_tables hs) olds news read-again are.open_ stay;
 }
 
 -- the parts of the files are those of the tables
-files-parts : (tables : List Table) (rs : List SeenReader) → AllZip IsReaderOf tables rs → told_parts rs ≡ Some (map part_of_table tables)
+files-parts : (tables : List Table) (rs : List SeenReader) → AllZip ReadsTable tables rs → told_parts rs ≡ Some (map part_of_table tables)
 files-parts [] [] h = refl
 files-parts [] (r ∷ rs) h = absurd h
 files-parts (t ∷ tables) [] h = absurd h
 files-parts (t ∷ tables) (r ∷ rs) h = rw (h.0.part, files-parts tables rs h.1) refl
 
 -- and so are the counts of their rows
-pub files-rows : (tables : List Table) (rs : List SeenReader) → AllZip IsReaderOf tables rs → counts_read rs ≡ map (λ t. t.row_count) tables
+pub files-rows : (tables : List Table) (rs : List SeenReader) → AllZip ReadsTable tables rs → counts_read rs ≡ map (λ t. t.row_count) tables
 files-rows [] [] h = refl
 files-rows [] (r ∷ rs) h = absurd h
 files-rows (t ∷ tables) [] h = absurd h
@@ -58,7 +58,7 @@ files-rows (t ∷ tables) (r ∷ rs) h = ap₂ (λ n ns. n ∷ ns) h.0.rows (fil
 
 -- ---- the merge
 
-module _ (tables : List Table) (olds news : List SeenReader) (files : AllZip IsReaderOf tables olds)
+module _ (tables : List Table) (olds news : List SeenReader) (files : AllZip ReadsTable tables olds)
     (expected : List Part → Result Table Refusal) where
   -- what is known of the parts that the files tell is known of the tables'
   on_tables : (P : List Part → Type 0) → IfSome (told_parts olds) P → P (map part_of_table tables)
@@ -69,12 +69,11 @@ module _ (tables : List Table) (olds news : List SeenReader) (files : AllZip IsR
       → MergesFiles olds news (in_memory xs) (in_memory ys) (Ok done) expected
       → (t : Table) × (expected (map part_of_table tables) ≡ Ok t) × StandsFor t bytes
   merge-made xs ys bytes done none same h =
-      let adds = on_tables (λ parts. AddsTable (in_memory xs) (in_memory ys) (expected parts)) h in
-      (
+      let adds = on_tables (λ parts. AddsTable (in_memory xs) (in_memory ys) (expected parts)) h in (
         adds.table,
         adds.is,
         subst (StandsFor adds.table)
-            (sym (same ∙ same_Some ys (xs ++ adds.file) adds.added ∙ ap (λ zs. zs ++ adds.file) none)) adds.stands,
+            (sym (same ∙ same_Some ys (xs ++ adds.file) adds.added_file ∙ ap (λ zs. zs ++ adds.file) none)) adds.stands,
       )
 
   -- a refusal that a merge answers is the one that is expected
@@ -108,14 +107,14 @@ written expected file (Err e) made same memory = record { ok = tt; refused = inl
 -- ---- the set as one table
 
 -- a file that stands for a table has one
-pub stands-whole : (t : Table) (file : List ℕ) → StandsFor t file → HasTable file
+pub stands-whole : (t : Table) (file : List ℕ) → StandsFor t file → IsTableFile file
 unfolding table_in
 stands-whole t file stands = rw stands.content refl
 
 -- the file of the merged table makes the one segment
-pub compact-made : (hs made : List HeldTable) (file : List ℕ) → ((t : Table) × (merged_rows hs ≡ Ok t) × StandsFor t file)
+pub compact-made : (hs made : List HeldTable) (file : List ℕ) → ((t : Table) × (merged_alive hs ≡ Ok t) × StandsFor t file)
     → appended file [] ≡ Ok made → CompactsTo hs made file
-unfolding added
+unfolding added_file
 compact-made hs made file (t, is, stands) makes = record {
   table = t;
   is = is;
@@ -141,7 +140,7 @@ pub compacts-live : (hs made : List HeldTable) (file : List ℕ) → CompactsTo 
 compacts-live hs made file c = ap live c.held ∙ compacted-live hs c.table c.is
 
 -- a refusal of the rows is one of the compaction
-pub rows-refused : (hs : List HeldTable) (e : ColumnarError) → RefusesRows (merged_rows hs) e → MayRefuse (compacted hs) e
+pub rows-refused : (hs : List HeldTable) (e : ColumnarError) → RefusesRows (merged_alive hs) e → MayRefuse (compacted hs) e
 rows-refused hs e (inl memory) = inl memory
 rows-refused hs e (inr (inl p)) = inr (numerical_conflict, ap (λ r. r >>= λ t. Ok (all_alive t ∷ [])) p.1, p.0)
 rows-refused hs e (inr (inr p)) = inr (too_large, ap (λ r. r >>= λ t. Ok (all_alive t ∷ [])) p.1, p.0)

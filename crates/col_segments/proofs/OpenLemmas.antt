@@ -4,8 +4,8 @@ use Rattle.std.specs.List.{AllZip, remove}
 use Rattle.std.proofs.Math.ListN.{set}
 use Rattle.std.proofs.lemmas.List.Sums.{sum_by-append, sum_by-cons}
 use Rattle.col_file.specs.Readers.{SeenReader}
-use Rattle.col_segments.specs.Files.{AreOpen, IsReaderOf}
-use Rattle.col_segments.specs.Live.{with_rows}
+use Rattle.col_segments.specs.Files.{AreOpenBeside, ReadsTable}
+use Rattle.col_segments.specs.Live.{with_alive}
 use Rattle.col_segments.specs.Segments.{HeldTable, alive_count, without}
 use Rattle.col_segments.proofs.KeptLemmas.{some-alive, none-alive, one-set, none-set}
 use Rattle.col_segments.proofs.ReaderLemmas.{kept_tables, kept-more, kept-same, last-gone, none-gone, set-same, set-gone, place-within}
@@ -14,27 +14,27 @@ use Rattle.col_segments.proofs.RowLemmas.{rows-fewer}
 
 -- a file is put behind the others
 pub open-pushed : (hs gs : List HeldTable) (h : HeldTable) (rs qs : List SeenReader) (r : SeenReader) (n : ℕ) → gs ≡ hs ++ h ∷ []
-    → AreOpen hs rs → alive_count (hs ++ h ∷ []) < 2 ^ 32 → IsReaderOf h.table r → n ≡ length h.alive
-    → (0 < n → qs ≡ rs ++ r ∷ []) → (n ≡ 0 → qs ≡ rs) → AreOpen gs qs
+    → AreOpenBeside hs rs → alive_count (hs ++ h ∷ []) < 2 ^ 32 → ReadsTable h.table r → n ≡ length h.alive
+    → (0 < n → qs ≡ rs ++ r ∷ []) → (n ≡ 0 → qs ≡ rs) → AreOpenBeside gs qs
 open-pushed hs gs h rs qs r n is are few reads count some none =
-    subst (λ (gs : List HeldTable). AreOpen gs qs) (sym is) (by n count some none)
+    subst (λ (gs : List HeldTable). AreOpenBeside gs qs) (sym is) (by n count some none)
   where
-    by : (n : ℕ) → n ≡ length h.alive → (0 < n → qs ≡ rs ++ r ∷ []) → (n ≡ 0 → qs ≡ rs) → AreOpen (hs ++ h ∷ []) qs
+    by : (n : ℕ) → n ≡ length h.alive → (0 < n → qs ≡ rs ++ r ∷ []) → (n ≡ 0 → qs ≡ rs) → AreOpenBeside (hs ++ h ∷ []) qs
     by zero count some none = record {
       few = few;
       open_ =
-          subst (AllZip IsReaderOf (kept_tables (hs ++ h ∷ []))) (sym (none refl))
-          (kept-same IsReaderOf hs h rs (omega (arith, count)) are.open_);
+          subst (AllZip ReadsTable (kept_tables (hs ++ h ∷ []))) (sym (none refl))
+          (kept-same ReadsTable hs h rs (omega (arith, count)) are.open_);
     }
     by (suc n) count some none = record {
       few = few;
       open_ =
-          subst (AllZip IsReaderOf (kept_tables (hs ++ h ∷ []))) (sym (some (omega arith)))
-          (kept-more IsReaderOf hs h rs r (omega (arith, count)) are.open_ reads);
+          subst (AllZip ReadsTable (kept_tables (hs ++ h ∷ []))) (sym (some (omega arith)))
+          (kept-more ReadsTable hs h rs r (omega (arith, count)) are.open_ reads);
     }
 
 -- the last one is let go
-module _ (hs gs : List HeldTable) (h : HeldTable) (rs : List SeenReader) (is : gs ≡ hs ++ h ∷ []) (are : AreOpen gs rs) where
+module _ (hs gs : List HeldTable) (h : HeldTable) (rs : List SeenReader) (is : gs ≡ hs ++ h ∷ []) (are : AreOpenBeside gs rs) where
   fewer : alive_count hs < 2 ^ 32
   fewer = omega (
     arith,
@@ -44,19 +44,19 @@ module _ (hs gs : List HeldTable) (h : HeldTable) (rs : List SeenReader) (is : g
     sum_by-cons (λ (g : HeldTable). length g.alive) h [],
   )
 
-  there : AllZip IsReaderOf (kept_tables (hs ++ h ∷ [])) rs
-  there = subst (λ (gs : List HeldTable). AllZip IsReaderOf (kept_tables gs) rs) is are.open_
+  there : AllZip ReadsTable (kept_tables (hs ++ h ∷ [])) rs
+  there = subst (λ (gs : List HeldTable). AllZip ReadsTable (kept_tables gs) rs) is are.open_
 
-  pub open-popped : (qs : List SeenReader) (n : ℕ) → n ≡ length rs → 0 < length h.alive → qs ≡ take (n - 1) rs → AreOpen hs qs
+  pub open-popped : (qs : List SeenReader) (n : ℕ) → n ≡ length rs → 0 < length h.alive → qs ≡ take (n - 1) rs → AreOpenBeside hs qs
   open-popped qs n long some cut = record {
     few = fewer;
     open_ =
-        subst (AllZip IsReaderOf (kept_tables hs)) (sym (cut ∙ ap (λ (n : ℕ). take (n - 1) rs) long))
-        (last-gone IsReaderOf hs h rs some there);
+        subst (AllZip ReadsTable (kept_tables hs)) (sym (cut ∙ ap (λ (n : ℕ). take (n - 1) rs) long))
+        (last-gone ReadsTable hs h rs some there);
   }
 
-  pub open-left : length h.alive ≤ 0 → AreOpen hs rs
-  open-left none = record { few = fewer; open_ = none-gone IsReaderOf hs h rs none there }
+  pub open-left : length h.alive ≤ 0 → AreOpenBeside hs rs
+  open-left none = record { few = fewer; open_ = none-gone ReadsTable hs h rs none there }
 
 -- ---- rows that are dropped
 
@@ -65,11 +65,11 @@ module _ (hs gs : List HeldTable) (h : HeldTable) (rs : List SeenReader) (is : g
 pub record DropsOpen (ids : List ℕ) (old : List HeldTable) (at first next : ℕ) (now : List HeldTable) (rs : List SeenReader)
     : Type 0 where
   pub drops : Drops ids old at first now
-  pub open_ : AllZip IsReaderOf (kept_tables now) rs
-  pub next_is : next ≡ length (with_rows (take at now))
+  pub open_ : AllZip ReadsTable (kept_tables now) rs
+  pub next_is : next ≡ length (with_alive (take at now))
 
-pub drops-open : (ids : List ℕ) (old : List HeldTable) (rs : List SeenReader) → AreOpen old rs → DropsOpen ids old 0 0 0 old rs
-drops-open ids old rs are = record { drops = drops-none ids old; open_ = are.open_; next_is = refl }
+pub drops_open : (ids : List ℕ) (old : List HeldTable) (rs : List SeenReader) → AreOpenBeside old rs → DropsOpen ids old 0 0 0 old rs
+drops_open ids old rs are = record { drops = drops-none ids old; open_ = are.open_; next_is = refl }
 
 module _ (ids : List ℕ) (old now : List HeldTable) (at first next : ℕ) (rs : List SeenReader) (d : HeldTable)
     (was : DropsOpen ids old at first next now rs) (within : at < length now) where
@@ -78,7 +78,7 @@ module _ (ids : List ℕ) (old now : List HeldTable) (at first next : ℕ) (rs :
 
   -- there is an open file at the place, where the table has a row alive
   pub next-within : 0 < length (get_or now at d).alive → next < length rs
-  next-within some = omega (arith, was.next_is, place-within IsReaderOf now at d rs within some was.open_)
+  next-within some = omega (arith, was.next_is, place-within ReadsTable now at d rs within some was.open_)
 
   drops : Drops ids old (at + 1) (first + length (get_or now at d).alive) (set now at left_of)
   drops = drops-more ids old now at first d was.drops within
@@ -89,7 +89,7 @@ module _ (ids : List ℕ) (old now : List HeldTable) (at first next : ℕ) (rs :
   open-none none = record {
     drops = drops;
     open_ =
-        set-same IsReaderOf now at d left_of rs within refl
+        set-same ReadsTable now at d left_of rs within refl
         (none-alive left_of (omega (arith, none, rows-fewer ids first (get_or now at d).alive)) ∙ sym (none-alive (get_or now at d) none))
         was.open_;
     next_is = was.next_is ∙ sym (none-set now at left_of within (omega (arith, none, rows-fewer ids first (get_or now at d).alive)));
@@ -101,7 +101,7 @@ module _ (ids : List ℕ) (old now : List HeldTable) (at first next : ℕ) (rs :
   open-some some left = record {
     drops = drops;
     open_ =
-        set-same IsReaderOf now at d left_of rs within refl
+        set-same ReadsTable now at d left_of rs within refl
         (some-alive left_of left ∙ sym (some-alive (get_or now at d) some)) was.open_;
     next_is = ap (λ (n : ℕ). n + 1) was.next_is ∙ sym (one-set now at left_of within left);
   }
@@ -112,8 +112,8 @@ module _ (ids : List ℕ) (old now : List HeldTable) (at first next : ℕ) (rs :
   open-gone some none = record {
     drops = drops;
     open_ =
-        subst (λ (n : ℕ). AllZip IsReaderOf (kept_tables (set now at left_of)) (remove rs n)) (sym was.next_is)
-        (set-gone IsReaderOf now at d left_of rs within some none was.open_);
+        subst (λ (n : ℕ). AllZip ReadsTable (kept_tables (set now at left_of)) (remove rs n)) (sym was.next_is)
+        (set-gone ReadsTable now at d left_of rs within some none was.open_);
     next_is = was.next_is ∙ sym (none-set now at left_of within none);
   }
 
@@ -153,13 +153,13 @@ module _ (ids : List ℕ) (old now : List HeldTable) (at first next : ℕ) (rs :
           placed (next + 1) rs (some (omega arith) (omega arith)) (open-some (omega (arith, count)) (omega (arith, left)))
 
 -- all tables
-pub drops-end : (ids : List ℕ) (old now : List HeldTable) (at first next : ℕ) (rs : List SeenReader)
+pub drops_end : (ids : List ℕ) (old now : List HeldTable) (at first next : ℕ) (rs : List SeenReader)
     → DropsOpen ids old at first next now rs → length now ≤ at → now ≡ without ids 0 old
-drops-end ids old now at first next rs was whole = drops-all ids old now at first was.drops whole
+drops_end ids old now at first next rs was whole = drops-all ids old now at first was.drops whole
 
 -- they are few still, and open
-pub drops-kept : (ids : List ℕ) (old now : List HeldTable) (at first next : ℕ) (olds rs : List SeenReader) → AreOpen old olds
-    → DropsOpen ids old at first next now rs → length now ≤ at → AreOpen now rs
+pub drops-kept : (ids : List ℕ) (old now : List HeldTable) (at first next : ℕ) (olds rs : List SeenReader) → AreOpenBeside old olds
+    → DropsOpen ids old at first next now rs → length now ≤ at → AreOpenBeside now rs
 drops-kept ids old now at first next olds rs are was whole = record {
   few = omega (arith, are.few, without-fewer ids 0 old, ap alive_count (drops-all ids old now at first was.drops whole));
   open_ = was.open_;

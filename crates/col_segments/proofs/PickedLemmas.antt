@@ -14,17 +14,8 @@ use Rattle.col_model.proofs.MergedTables.{merged-is}
 use Rattle.col_model.proofs.OrderedColumns.{EachIs, each-is}
 use Rattle.col_model.proofs.RefusalLaws.{bind-ok, refuse_if-ok, same_Ok, err_not_ok}
 use Rattle.col_segments.specs.Live.{Row, row_in}
-use Rattle.col_segments.proofs.AbsentLemmas.{cells-empty}
+use Rattle.col_segments.proofs.AbsentLemmas.{add_none, add_one, cells-empty, zero_plus}
 use Rattle.col_segments.proofs.FoundLemmas.{IsFound, column_at, found-in}
-
-add_none : (n : ℕ) → n + 0 ≡ n
-add_none n = omega arith
-
-add_one : (n i : ℕ) → n + suc i ≡ n + 1 + i
-add_one n i = omega arith
-
-zero_plus : (n : ℕ) → 0 + n ≡ n
-zero_plus n = omega arith
 
 get-map : {A B : Type 0} (f : A → B) (xs : List A) (i : ℕ) → slice_get (map f xs) i ≡ option_map f (slice_get xs i)
 get-map f [] i = refl
@@ -82,21 +73,21 @@ unfolding merged picks
 merged-rows parts picked counts t h =
     let order : Order = shuffle counts picked in
     let make : List (ℕ × ℕ) → List (Option Column) → Table =
-        λ ps columns. record { row_count = length ps; columns = filter_map (λ c. c) columns } in
+    λ ps columns. record { row_count = length ps; columns = filter_map (λ c. c) columns } in
     let columns : List (ℕ × ℕ) → ⊤ → Result Table Refusal =
-        λ ps _. each_ok (joined_column order ps parts []) (all_slots parts []) >>= λ columns. Ok (make ps columns) in
+    λ ps _. each_ok (joined_column order ps parts []) (all_slots parts []) >>= λ columns. Ok (make ps columns) in
     let first =
-        bind-ok (or_refuse (picks order (row_counts parts)) bad_order)
-        (λ ps. refuse_if (nat_le (2 ^ 32) (length ps)) too_large >>= columns ps) t h in
+    bind-ok (or_refuse (picks order (row_counts parts)) bad_order)
+    (λ ps. refuse_if (nat_le (2 ^ 32) (length ps)) too_large >>= columns ps) t h in
     let same : picked ≡ first.0 = chosen-is _ picked first.0 (picks-of _ first.0 first.1) in
     let second = refuse_if-ok (nat_le (2 ^ 32) (length first.0)) too_large (columns first.0) t first.2 in
     let step =
-        bind-ok (each_ok (joined_column order first.0 parts []) (all_slots parts [])) (λ columns. Ok (make first.0 columns)) t second in
+    bind-ok (each_ok (joined_column order first.0 parts []) (all_slots parts [])) (λ columns. Ok (make first.0 columns)) t second in
     let each = each-is (joined_column order first.0 parts []) (all_slots parts []) step.0 step.1 in
     let is : make first.0 step.0 ≡ t = same_Ok (make first.0 step.0) t step.2 in
     let rows =
-        ranged (row_in (make first.0 step.0)) (rows_at parts) 0 first.0
-        (λ i q at. ap (row_in (make first.0 step.0)) (zero_plus i) ∙ same-rows first.0 step.0 i q each at) in
+    ranged (row_in (make first.0 step.0)) (rows_at parts) 0 first.0
+    (λ i q at. ap (row_in (make first.0 step.0)) (zero_plus i) ∙ same-rows first.0 step.0 i q each at) in
     ap (λ (t : Table). map (row_in t) (range_with_len 0 t.row_count)) (sym is) ∙ rows ∙ ap (map (rows_at parts)) (sym same)
   where
     same-rows : (ps : List (ℕ × ℕ)) (os : List (Option Column)) (i : ℕ) (q : ℕ × ℕ)

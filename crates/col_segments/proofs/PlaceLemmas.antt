@@ -2,43 +2,28 @@
 use Rattle.std.proofs.Common.{◌≡◌, ◌≢◌, ◌⊎◌, ⊎_elim, inl, inr, ◌||◌, ℕ, zero, suc, ◌+◌, ◌<◌, ◌≤◌, ◌==◌, ◌&&◌, Bool, true, false, nat_le, nat_lt, List, [], ◌∷◌, length, drop, get_or, refl, sym, ap, arith}
 use Rattle.std.specs.Prelude.{Result, Ok, Err, MatchResult}
 use Rattle.std.specs.Result.{is_ok}
-use Rattle.std.proofs.lemmas.Bool.{eq-eqb, ne_eqb, leb-true, ltb-true, ltb-false}
+use Rattle.std.proofs.lemmas.Bool.{eq-eqb, ne_eqb, leb-true, and_parts, cases_lt}
 use Rattle.std.proofs.lemmas.List.{drop_more}
-use Rattle.col_segments.specs.Segments.{are_places, is_among}
+use Rattle.col_segments.specs.Segments.{are_places, is_named}
 
 -- one place is looked at
-pub places-step : (first n : ℕ) (ids : List ℕ) (i : ℕ) → i < length ids
+pub places_step : (first n : ℕ) (ids : List ℕ) (i : ℕ) → i < length ids
     → are_places first n (drop i ids)
     ≡ (nat_le first (get_or ids i 0) && nat_lt (get_or ids i 0) n && are_places (get_or ids i 0 + 1) n (drop (i + 1) ids))
-places-step first n ids i within = ap (are_places first n) (drop_more ids i 0 within)
-
-cases_lt : (a b : ℕ) → (a < b) ⊎ (b ≤ a)
-cases_lt a b = by (nat_lt a b) refl
-  where
-    by : (c : Bool) → nat_lt a b ≡ c → (a < b) ⊎ (b ≤ a)
-    by true e = inl (ltb-true a b e)
-    by false e = inr (ltb-false a b e)
-
-and_first : (a b : Bool) → (a && b) ≡ true → a ≡ true
-and_first true b e = refl
-and_first false b e = absurd (cc e)
-
-and_rest : (a b : Bool) → (a && b) ≡ true → b ≡ true
-and_rest true b e = e
-and_rest false b e = absurd (cc e)
+places_step first n ids i within = ap (are_places first n) (drop_more ids i 0 within)
 
 -- ---- places ascend
 
 module _ (first n id : ℕ) (ids : List ℕ) (places : are_places first n (id ∷ ids) ≡ true) where
   -- those behind the first are places
   places-rest : are_places (id + 1) n ids ≡ true
-  places-rest = and_rest (nat_le first id && nat_lt id n) (are_places (id + 1) n ids) places
+  places-rest = (and_parts (nat_le first id && nat_lt id n) (are_places (id + 1) n ids) places).1
 
   -- and it isn't before the first row
   places-here : first ≤ id
   places-here =
-      leb-true first id (and_first (nat_le first id) (nat_lt id n)
-      (and_first (nat_le first id && nat_lt id n) (are_places (id + 1) n ids) places))
+      let here = (and_parts (nat_le first id && nat_lt id n) (are_places (id + 1) n ids) places).0 in
+      leb-true first id (and_parts (nat_le first id) (nat_lt id n) here).0
 
 places-from : (first n : ℕ) (ids : List ℕ) (i : ℕ) → are_places first n ids ≡ true → i < length ids → first ≤ get_or ids i 0
 places-from first n [] i e lt = absurd (omega arith)
@@ -62,16 +47,16 @@ places-ascend first n (id ∷ ids) e (suc i) (suc j) le lt =
 
 -- ---- a place among those that ascend
 
-among-true : (ids : List ℕ) (x i : ℕ) → i < length ids → get_or ids i 0 ≡ x → is_among ids x ≡ true
+among-true : (ids : List ℕ) (x i : ℕ) → i < length ids → get_or ids i 0 ≡ x → is_named ids x ≡ true
 among-true [] x i lt e = absurd (omega arith)
-among-true (id ∷ ids) x zero lt e = ap (λ b. b || is_among ids x) (eq-eqb id x e)
+among-true (id ∷ ids) x zero lt e = ap (λ b. b || is_named ids x) (eq-eqb id x e)
 among-true (id ∷ ids) x (suc i) lt e = or_true (id == x) (among-true ids x i (omega arith) e)
   where
-    or_true : (a : Bool) → is_among ids x ≡ true → (a || is_among ids x) ≡ true
+    or_true : (a : Bool) → is_named ids x ≡ true → (a || is_named ids x) ≡ true
     or_true true h = refl
     or_true false h = h
 
-among-false : (ids : List ℕ) (x : ℕ) → ((k : ℕ) → k < length ids → get_or ids k 0 ≢ x) → is_among ids x ≡ false
+among-false : (ids : List ℕ) (x : ℕ) → ((k : ℕ) → k < length ids → get_or ids k 0 ≢ x) → is_named ids x ≡ false
 among-false [] x none = refl
 among-false (id ∷ ids) x none = λ i. ne_eqb id x (none 0 (omega arith)) i || among-false ids x (λ k lt. none (suc k) (omega (arith, lt))) i
 
@@ -89,6 +74,6 @@ gap-other ids x i (le, below, above) k lt e =
 
 -- what a search by halves found
 pub among-searched : (ids : List ℕ) (x : ℕ) (r : Result ℕ ℕ)
-    → MatchResult r (λ i. (i < length ids) × (get_or ids i 0 ≡ x)) (IsGapAt ids x) → is_ok r ≡ is_among ids x
+    → MatchResult r (λ i. (i < length ids) × (get_or ids i 0 ≡ x)) (IsGapAt ids x) → is_ok r ≡ is_named ids x
 among-searched ids x (Ok i) found = sym (among-true ids x i found.0 found.1)
 among-searched ids x (Err i) gap = sym (among-false ids x (gap-other ids x i gap))

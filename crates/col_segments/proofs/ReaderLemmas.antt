@@ -5,9 +5,9 @@ use Rattle.std.proofs.Math.ListN.{set}
 use Rattle.std.proofs.lemmas.List.{map-append, length-map}
 use Rattle.std.proofs.lemmas.Slice.Zip.{AllZip-long}
 use Rattle.col_model.specs.Table.{Table}
-use Rattle.col_segments.specs.Live.{with_rows}
+use Rattle.col_segments.specs.Live.{with_alive}
 use Rattle.col_segments.specs.Segments.{HeldTable}
-use Rattle.col_segments.proofs.KeptLemmas.{count-more, some-alive, none-alive, with_rows-more, with_rows-same}
+use Rattle.col_segments.proofs.KeptLemmas.{count-more, some-alive, none-alive, with_alive-more, with_alive-same}
 
 -- ---- lists side by side
 
@@ -47,12 +47,12 @@ zip-through R S (x ∷ xs) (y ∷ ys) (z ∷ zs) f all also = (f x y z all.0 als
 
 -- the tables that have a row alive
 abbrev pub kept_tables : List HeldTable → List Table
-kept_tables hs = map (λ h. h.table) (with_rows hs)
+kept_tables hs = map (λ h. h.table) (with_alive hs)
 
 -- those with a table behind them
 tables-more : (hs : List HeldTable) (h : HeldTable) → 0 < length h.alive → kept_tables (hs ++ h ∷ []) ≡ kept_tables hs ++ h.table ∷ []
 tables-more hs h some =
-    ap (map (λ (h : HeldTable). h.table)) (with_rows-more hs h some) ∙ map-append (λ (h : HeldTable). h.table) (with_rows hs) (h ∷ [])
+    ap (map (λ (h : HeldTable). h.table)) (with_alive-more hs h some) ∙ map-append (λ (h : HeldTable). h.table) (with_alive hs) (h ∷ [])
 
 module _ {B : Type 0} (R : Table → B → Type 0) where
   -- a table behind the others
@@ -64,7 +64,7 @@ module _ {B : Type 0} (R : Table → B → Type 0) where
   pub kept-same : (hs : List HeldTable) (h : HeldTable) (rs : List B) → length h.alive ≤ 0 → AllZip R (kept_tables hs) rs
       → AllZip R (kept_tables (hs ++ h ∷ [])) rs
   kept-same hs h rs none all =
-      subst (λ ts. AllZip R ts rs) (sym (ap (map (λ (h : HeldTable). h.table)) (with_rows-same hs h none))) all
+      subst (λ ts. AllZip R ts rs) (sym (ap (map (λ (h : HeldTable). h.table)) (with_alive-same hs h none))) all
 
   -- the last table is let go
   pub last-gone : (hs : List HeldTable) (h : HeldTable) (rs : List B) → 0 < length h.alive → AllZip R (kept_tables (hs ++ h ∷ [])) rs
@@ -77,10 +77,10 @@ module _ {B : Type 0} (R : Table → B → Type 0) where
 
   pub none-gone : (hs : List HeldTable) (h : HeldTable) (rs : List B) → length h.alive ≤ 0 → AllZip R (kept_tables (hs ++ h ∷ [])) rs
       → AllZip R (kept_tables hs) rs
-  none-gone hs h rs none all = subst (λ ts. AllZip R ts rs) (ap (map (λ (h : HeldTable). h.table)) (with_rows-same hs h none)) all
+  none-gone hs h rs none all = subst (λ ts. AllZip R ts rs) (ap (map (λ (h : HeldTable). h.table)) (with_alive-same hs h none)) all
 
   abbrev Beside : Bool → HeldTable → List HeldTable → List B → Type 0
-  Beside b h hs rs = AllZip R (map (λ h. h.table) (cond b (h ∷ with_rows hs) (with_rows hs))) rs
+  Beside b h hs rs = AllZip R (map (λ h. h.table) (cond b (h ∷ with_alive hs) (with_alive hs))) rs
 
   -- Another table of the same kind stands at a place: it has a row alive where the old one had one.
   pub set-same : (hs : List HeldTable) (i : ℕ) (d g : HeldTable) (rs : List B) → i < length hs
@@ -107,7 +107,7 @@ module _ {B : Type 0} (R : Table → B → Type 0) where
   -- The table at a place has no row alive any more.
   pub set-gone : (hs : List HeldTable) (i : ℕ) (d g : HeldTable) (rs : List B) → i < length hs
       → 0 < length (get_or hs i d).alive → length g.alive ≤ 0
-      → AllZip R (kept_tables hs) rs → AllZip R (kept_tables (set hs i g)) (remove rs (length (with_rows (take i hs))))
+      → AllZip R (kept_tables hs) rs → AllZip R (kept_tables (set hs i g)) (remove rs (length (with_alive (take i hs))))
   set-gone [] i d g rs lt some none all = absurd (omega arith)
   set-gone (h ∷ hs) zero d g rs lt some none all =
       subst (λ b. Beside b g hs (remove rs 0)) (sym (none-alive g none))
@@ -121,31 +121,31 @@ module _ {B : Type 0} (R : Table → B → Type 0) where
     where
       by : (b : Bool) (rs : List B) → Beside b h hs rs
           → ((rs : List B) → AllZip R (kept_tables hs) rs
-          → AllZip R (kept_tables (set hs i g)) (remove rs (length (with_rows (take i hs)))))
-          → Beside b h (set hs i g) (remove rs (length (cond b (h ∷ with_rows (take i hs)) (with_rows (take i hs)))))
+          → AllZip R (kept_tables (set hs i g)) (remove rs (length (with_alive (take i hs)))))
+          → Beside b h (set hs i g) (remove rs (length (cond b (h ∷ with_alive (take i hs)) (with_alive (take i hs)))))
       by true [] all later = absurd all
       by true (r ∷ rs) all later = (all.0, later rs all.1)
       by false rs all later = later rs all
 
-  front-fewer : (hs : List HeldTable) (i : ℕ) → length (with_rows (take i hs)) ≤ length (with_rows hs)
+  front-fewer : (hs : List HeldTable) (i : ℕ) → length (with_alive (take i hs)) ≤ length (with_alive hs)
   front-fewer [] zero = omega arith
   front-fewer [] (suc i) = omega arith
   front-fewer (h ∷ hs) zero = omega arith
   front-fewer (h ∷ hs) (suc i) = by (not (length h.alive == 0)) (front-fewer hs i)
     where
-      by : (b : Bool) → length (with_rows (take i hs)) ≤ length (with_rows hs)
-          → length (cond b (h ∷ with_rows (take i hs)) (with_rows (take i hs))) ≤ length (cond b (h ∷ with_rows hs) (with_rows hs))
+      by : (b : Bool) → length (with_alive (take i hs)) ≤ length (with_alive hs)
+          → length (cond b (h ∷ with_alive (take i hs)) (with_alive (take i hs))) ≤ length (cond b (h ∷ with_alive hs) (with_alive hs))
       by true le = omega (arith, le)
       by false le = le
 
   -- there is one beside the table at a place
   pub place-within : (hs : List HeldTable) (i : ℕ) (d : HeldTable) (rs : List B) → i < length hs → 0 < length (get_or hs i d).alive
-      → AllZip R (kept_tables hs) rs → length (with_rows (take i hs)) < length rs
+      → AllZip R (kept_tables hs) rs → length (with_alive (take i hs)) < length rs
   place-within hs i d rs lt some all =
       omega (
         arith,
         count-more hs i d lt some,
         front-fewer hs (i + 1),
         AllZip-long R (kept_tables hs) rs all,
-        length-map (with_rows hs) (λ (h : HeldTable). h.table),
+        length-map (with_alive hs) (λ (h : HeldTable). h.table),
       )

@@ -6,7 +6,7 @@ use Rattle.col_common.specs.declared.error.ColumnarError.TheVariants.{OutOfMemor
 use Rattle.col_model.specs.File.{StandsFor}
 use Rattle.col_model.specs.Refusal.{Refusal, numerical_conflict, too_large}
 use Rattle.col_model.specs.Table.{Table}
-use Rattle.col_segments.specs.Live.{compacted, merged_rows}
+use Rattle.col_segments.specs.Live.{compacted, merged_alive}
 use Rattle.col_segments.specs.Segments.{HeldTable, all_alive}
 
 -- the rows that are alive are rows of the table
@@ -37,6 +37,6 @@ pub record MergesRows (result : Result (List ℕ) ColumnarError) (expected : Res
 -- a file of the rows alive, which are one table now
 pub record CompactsTo (old new : List HeldTable) (file : List ℕ) : Type 0 where
   pub table : Table
-  pub is : merged_rows old ≡ Ok table
+  pub is : merged_alive old ≡ Ok table
   pub stands : StandsFor table file
   pub held : new ≡ all_alive table ∷ []

@@ -8,7 +8,7 @@ use Rattle.col_merge.specs.Parts.{told_part}
 use Rattle.col_model.specs.File.{part_of_table, table_of}
 use Rattle.col_model.specs.Keys.{keys}
 use Rattle.col_model.specs.Table.{Table}
-use Rattle.col_segments.specs.Live.{with_rows}
+use Rattle.col_segments.specs.Live.{with_alive}
 use Rattle.col_segments.specs.Segments.{HeldTable, alive_count}
 
 -- a table without rows and columns
@@ -20,28 +20,28 @@ unfoldable pub table_in : List ℕ → Table
 table_in bytes = unwrap_or (table_of bytes) no_table
 
 -- the bytes stand for a table
-abbrev pub HasTable : List ℕ → Type 0
-HasTable bytes = table_of bytes ≡ Some (table_in bytes)
+abbrev pub IsTableFile : List ℕ → Type 0
+IsTableFile bytes = table_of bytes ≡ Some (table_in bytes)
 
 -- The bytes stand for a table; the rows that are alive are rows of it, and few enough to be
 -- counted by 32 bits.
 pub record IsWhole (bytes alive : List ℕ) : Type 0 where
-  pub table : HasTable bytes
+  pub table : IsTableFile bytes
   pub rows : AllByRecursion (λ row. row < (table_in bytes).row_count) alive
   pub few : length alive < 2 ^ 32
 
 -- an open file of a table
-pub record IsReaderOf (t : Table) (r : SeenReader) : Type 0 where
+pub record ReadsTable (t : Table) (r : SeenReader) : Type 0 where
   pub part : told_part r ≡ Some (part_of_table t)
   pub rows : r.keys.row_count ≡ t.row_count
 
 -- The rows alive are few enough to be counted by 32 bits, and the files are open whose tables have
 -- some.
-pub record AreOpen (hs : List HeldTable) (rs : List SeenReader) : Type 0 where
+pub record AreOpenBeside (hs : List HeldTable) (rs : List SeenReader) : Type 0 where
   pub few : alive_count hs < 2 ^ 32
-  pub open_ : AllZip IsReaderOf (map (λ h. h.table) (with_rows hs)) rs
+  pub open_ : AllZip ReadsTable (map (λ h. h.table) (with_alive hs)) rs
 
 -- The bytes are the file of the reader, or no file.
-abbrev pub IsOpenedFrom : List ℕ → Result SeenReader ColumnarError → Type 0
-IsOpenedFrom bytes (Ok r) = (r.file.told ≡ Some bytes) × (keys bytes ≡ Some r.keys)
-IsOpenedFrom bytes (Err e) = (e ≡ OutOfMemory) ⊎ ((e ≡ InvalidData) × (keys bytes ≡ None))
+abbrev pub OpensBytes : List ℕ → Result SeenReader ColumnarError → Type 0
+OpensBytes bytes (Ok r) = (r.file.told ≡ Some bytes) × (keys bytes ≡ Some r.keys)
+OpensBytes bytes (Err e) = (e ≡ OutOfMemory) ⊎ ((e ≡ InvalidData) × (keys bytes ≡ None))

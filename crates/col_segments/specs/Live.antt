@@ -17,20 +17,16 @@ Row = Slot → List Cell
 -- a row of a table
 abbrev pub row_in : Table → ℕ → Row
 row_in t r slot =
-    unwrap_or (option_map (λ c. row_of c.content r) (find (λ c. same_slot (slot_of c.name c.column_type) slot) t.columns)) []
+    let column = find (λ c. same_slot (slot_of c.name c.column_type) slot) t.columns in
+    unwrap_or (option_map (λ c. row_of c.content r) column) []
 
 -- The rows that are alive, table after table; a row id is a place among them.
 abbrev pub live : List HeldTable → List Row
 live hs = flat_map (λ h. map (row_in h.table) h.alive) hs
 
--- the places of the rows that have a cell from lo to hi under the name and category
-abbrev pub places_between : Slot → Cell → Cell → List Row → List ℕ
-places_between slot lo hi rows =
-    map (λ p. p.0) (filter (λ p. list_any (is_between lo hi) (p.1 slot)) (enumerate_from 0 rows))
-
 -- the tables that have a row alive
-abbrev pub with_rows : List HeldTable → List HeldTable
-with_rows hs = filter (λ h. not (length h.alive == 0)) hs
+abbrev pub with_alive : List HeldTable → List HeldTable
+with_alive hs = filter (λ h. not (length h.alive == 0)) hs
 
 -- their rows that are alive, as (table, row)
 abbrev pub addresses : List HeldTable → List (ℕ × ℕ)
@@ -38,12 +34,13 @@ addresses hs = flat_map (λ p. map (λ r. (p.0, r)) p.1.alive) (enumerate_from 0
 
 -- The merged table of the tables that have a row alive, by the rows alive in order, with nothing
 -- required; or its refusal.
-abbrev pub merged_rows : List HeldTable → Result Table Refusal
-merged_rows hs =
-    let kept = with_rows hs in
+abbrev pub merged_alive : List HeldTable → Result Table Refusal
+merged_alive hs =
+    let kept = with_alive hs in
     let tables = map (λ h. h.table) kept in
-    merged (map part_of_table tables) [] (shuffle (map (λ t. t.row_count) tables) (addresses kept))
+    merged (map part_of_table tables) []
+    (shuffle (map (λ t. t.row_count) tables) (addresses kept))
 
 -- the set as one table, all of whose rows are alive
 abbrev pub compacted : List HeldTable → Result (List HeldTable) Refusal
-compacted hs = merged_rows hs >>= λ t. Ok (all_alive t ∷ [])
+compacted hs = merged_alive hs >>= λ t. Ok (all_alive t ∷ [])

@@ -27,8 +27,8 @@ whole_file bytes = or_refuse (table_of bytes) invalid_data >>= λ table. Ok (all
 
 -- The table of a file to be added to others, with all rows alive. InvalidData where the bytes
 -- stand for none, TooLarge where more rows would be alive than 32 bits count.
-unfoldable pub added : List ℕ → List HeldTable → Result HeldTable Refusal
-added bytes hs = do
+unfoldable pub added_file : List ℕ → List HeldTable → Result HeldTable Refusal
+added_file bytes hs = do
   h ← whole_file bytes
   _ ← refuse_if (nat_le (2 ^ 32) (alive_count hs + length h.alive)) too_large
   Ok h
@@ -39,7 +39,7 @@ with_more hs h = Ok (hs ++ h ∷ [])
 
 -- a file behind the others
 abbrev pub appended : List ℕ → List HeldTable → Result (List HeldTable) Refusal
-appended bytes hs = added bytes hs >>= with_more hs
+appended bytes hs = added_file bytes hs >>= with_more hs
 
 -- Places ascend strictly, none is before the first, and each is below the end.
 abbrev pub are_places : ℕ → ℕ → List ℕ → Bool
@@ -52,14 +52,14 @@ abbrev pub Ascends : List ℕ → Type 0
 Ascends ids = (i j : ℕ) → i ≤ j → j < length ids → slice_index ids i ≤ slice_index ids j
 
 -- the place is among those
-abbrev pub is_among : List ℕ → ℕ → Bool
-is_among ids place = list_any (λ id. id == place) ids
+abbrev pub is_named : List ℕ → ℕ → Bool
+is_named ids place = list_any (λ id. id == place) ids
 
 -- the rows, counted from a place on, but for those at the places that are named
 abbrev pub rows_without : List ℕ → ℕ → List ℕ → List ℕ
 rows_without ids place [] = []
 rows_without ids place (row ∷ rows) =
-    if is_among ids place then rows_without ids (place + 1) rows
+    if is_named ids place then rows_without ids (place + 1) rows
     else row ∷ rows_without ids (place + 1) rows
 
 -- the same of all tables, whose rows are counted one after another

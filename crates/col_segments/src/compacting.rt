@@ -8,8 +8,8 @@ ghost use Rattle.col_model.specs.Table.{Table};
 ghost use Rattle.col_order.specs.Orders.{address_of};
 ghost use Rattle.col_order.specs.RowOrders.{order_of};
 ghost use Rattle.col_segments.specs.Compaction.{MergesRows};
-ghost use Rattle.col_segments.specs.Files.{AreOpen, IsReaderOf};
-ghost use Rattle.col_segments.specs.Live.{addresses, merged_rows, with_rows};
+ghost use Rattle.col_segments.specs.Files.{AreOpenBeside, ReadsTable};
+ghost use Rattle.col_segments.specs.Live.{addresses, merged_alive, with_alive};
 ghost use Rattle.col_segments.specs.Segments.{alive_count};
 
 use crate::Segment;
@@ -27,9 +27,9 @@ pub fn merge_alive(
     held: &[Segment],
     readers: &mut [Reader],
 ) -> Result<Bytes, ColumnarError>
-    requires { AreOpen held.now readers.old }
-    ensures made { MergesRows result (merged_rows held.now) }
-    ensures open_ { AreOpen held.now readers.new }
+    requires { AreOpenBeside held.now readers.old }
+    ensures made { MergesRows result (merged_alive held.now) }
+    ensures open_ { AreOpenBeside held.now readers.new }
 {
     let counts = row_counts(alloc, readers)?;
     let rows = alive_rows(alloc, held)?;
@@ -43,7 +43,7 @@ pub fn merge_alive(
 // The rows that are alive, of the segments that have some.
 fn alive_rows(alloc: Global, held: &[Segment]) -> Result<Vec<RowAddr>, AllocError>
     requires { alive_count held.now < 2 ^ 32 }
-    ensures { IfOk result (λ rows. map address_of rows.items ≡ addresses (with_rows held.now)) }
+    ensures { IfOk result (λ rows. map address_of rows.items ≡ addresses (with_alive held.now)) }
 {
     let mut rows = Vec::new(alloc);
     let mut segment_ord = 0u32;
@@ -77,7 +77,7 @@ fn merge_rows(
     readers: &mut [Reader],
     order: MergeRowOrder,
 ) -> Result<Bytes, ColumnarError>
-    ensures made { (tables : List Table) → AllZip IsReaderOf tables readers.old
+    ensures made { (tables : List Table) → AllZip ReadsTable tables readers.old
         → MergesRows result (merged (map part_of_table tables) [] (order_of order)) }
     ensures kept { AllStay readers.old readers.new }
 {

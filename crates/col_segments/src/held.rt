@@ -1,9 +1,9 @@
 //! Changes of segments, and of the open files beside them.
-ghost use Rattle.std.specs.Prelude.{◌≡◌, ◌⊎◌, ◌<◌, ◌≤◌, ◌+◌, ◌^◌, ◌++◌, ◌∷◌, [], List, true, vec_len, IfOk, OnErr, OnOk};
+ghost use Rattle.std.specs.Prelude.{◌≡◌, ◌⊎◌, ◌<◌, ◌≤◌, ◌+◌, ◌^◌, ◌++◌, ◌∷◌, [], List, true, vec_len, IfOk, MatchResult, OnErr, OnOk};
 ghost use Rattle.std.specs.List.{AllByRecursion, remove};
 ghost use Rattle.col_segments.specs.Compaction.{HasItsRows};
-ghost use Rattle.col_segments.specs.Files.{AreOpen, IsReaderOf};
-ghost use Rattle.col_segments.specs.Segments.{HeldTable, added, alive_count, are_places, without};
+ghost use Rattle.col_segments.specs.Files.{AreOpenBeside, ReadsTable};
+ghost use Rattle.col_segments.specs.Segments.{HeldTable, added_file, alive_count, are_places, without};
 ghost use Rattle.col_writer_columns.specs.Answers.{Gives};
 
 use crate::Segment;
@@ -38,8 +38,8 @@ pub fn rows_are_there(held: &[Segment])
 /// bytes stand for no table, then TooLarge exactly where 32 bits don't count the rows alive.
 pub fn open_addable(alloc: Global, held: &[Segment], file: Bytes) -> Result<Opened, ColumnarError>
     requires { alive_count held.now < 2 ^ 32 }
-    ensures segment { Gives (λ o. o.segment) result (added file held.now) }
-    ensures reader { IfOk result (λ o. IsReaderOf o.segment.table o.reader) }
+    ensures segment { Gives (λ o. o.segment) result (added_file file held.now) }
+    ensures reader { IfOk result (λ o. ReadsTable o.segment.table o.reader) }
 {
     let opened = open_segment(alloc, file)?;
     if opened.segment.num_alive() > u32::MAX - count_alive(held) {
@@ -54,12 +54,13 @@ pub fn push_opened(
     readers: &mut Vec<Reader>,
     opened: Opened,
 ) -> Result<(), AllocError>
-    requires reader { IsReaderOf opened.segment.table opened.reader }
-    requires open_ { AreOpen held.old.items readers.old.items }
+    requires reader { ReadsTable opened.segment.table opened.reader }
+    requires open_ { AreOpenBeside held.old.items readers.old.items }
     requires few { alive_count (held.old.items ++ opened.segment ∷ []) < 2 ^ 32 }
-    ensures ok { OnOk result (held.new.items ≡ held.old.items ++ opened.segment ∷ []) }
-    ensures kept { OnErr result (held.new.items ≡ held.old.items) }
-    ensures open_ { AreOpen held.new.items readers.new.items }
+    ensures held { MatchResult result
+        (λ _. held.new.items ≡ held.old.items ++ opened.segment ∷ [])
+        (λ _. held.new.items ≡ held.old.items) }
+    ensures open_ { AreOpenBeside held.new.items readers.new.items }
 {
     let Opened { segment, reader } = opened;
     held.reserve(1)?;
@@ -69,11 +70,7 @@ pub fn push_opened(
 }
 
 // Keeps a file open that has a row alive.
-fn push_alive(
-    readers: &mut Vec<Reader>,
-    reader: Reader,
-    num_alive: RowId,
-) -> Result<(), AllocError>
+fn push_alive(readers: &mut Vec<Reader>, reader: Reader, num_alive: RowId) -> Result<(), AllocError>
     ensures some { 0 < num_alive
         → OnOk result (readers.new.items ≡ readers.old.items ++ reader ∷ []) }
     ensures none { num_alive ≡ 0 → readers.new.items ≡ readers.old.items }
@@ -88,10 +85,10 @@ fn push_alive(
 
 /// Lets the last segment go.
 pub fn pop_last(held: &mut Vec<Segment>, readers: &mut Vec<Reader>)
-    requires { AreOpen held.old.items readers.old.items }
+    requires { AreOpenBeside held.old.items readers.old.items }
     ensures last { (hs : List HeldTable) (h : HeldTable) → held.old.items ≡ hs ++ h ∷ []
         → held.new.items ≡ hs }
-    ensures open_ { AreOpen held.new.items readers.new.items }
+    ensures open_ { AreOpenBeside held.new.items readers.new.items }
 {
     let Some(segment) = held.pop() else {
         return;
@@ -106,11 +103,12 @@ fn let_go(reader: Option<Reader>) {
 }
 
 /// Drops rows, which takes no memory. A file of which no row stays alive is closed.
+#[tactic(auto, using(crate::proofs::OpenLemmas::drops_open, crate::proofs::OpenLemmas::drops_end))]
 pub fn drop_from(held: &mut Vec<Segment>, readers: &mut Vec<Reader>, ids: &[RowId])
-    requires open_ { AreOpen held.old.items readers.old.items }
+    requires open_ { AreOpenBeside held.old.items readers.old.items }
     requires places { are_places 0 (alive_count held.old.items) ids.now ≡ true }
     ensures held { held.new.items ≡ without ids.now 0 held.old.items }
-    ensures open_ { AreOpen held.new.items readers.new.items }
+    ensures open_ { AreOpenBeside held.new.items readers.new.items }
 {
     let mut first = 0;
     let mut next = 0;

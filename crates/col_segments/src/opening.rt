@@ -2,7 +2,7 @@
 ghost use Rattle.std.specs.Prelude.{◌≡◌, map, Some, IfOk, IfSome};
 ghost use Rattle.std.specs.List.{list_all, range_with_len};
 ghost use Rattle.col_file.specs.Checks.{is_column};
-ghost use Rattle.col_segments.specs.Files.{HasTable, IsOpenedFrom, IsReaderOf, table_in};
+ghost use Rattle.col_segments.specs.Files.{IsTableFile, OpensBytes, ReadsTable, table_in};
 ghost use Rattle.col_segments.specs.Segments.{all_alive, whole_file};
 ghost use Rattle.col_writer_columns.specs.Answers.{Gives};
 
@@ -26,7 +26,7 @@ pub struct Opened {
 /// no table.
 pub fn open_segment(alloc: Global, file: Bytes) -> Result<Opened, ColumnarError>
     ensures segment { Gives (λ o. o.segment) result (whole_file file) }
-    ensures reader { IfOk result (λ o. IsReaderOf o.segment.table o.reader) }
+    ensures reader { IfOk result (λ o. ReadsTable o.segment.table o.reader) }
 {
     let mut reader = open_file(alloc, file.clone()?)?;
     if !are_columns(alloc, &mut reader)? {
@@ -37,9 +37,9 @@ pub fn open_segment(alloc: Global, file: Bytes) -> Result<Opened, ColumnarError>
 
 /// The same of a file that was made of a table. Its columns aren't opened.
 pub fn made_segment(alloc: Global, file: Bytes) -> Result<Opened, AllocError>
-    requires { HasTable file }
+    requires { IsTableFile file }
     ensures segment { IfOk result (λ o. o.segment ≡ all_alive (table_in file)) }
-    ensures reader { IfOk result (λ o. IsReaderOf o.segment.table o.reader) }
+    ensures reader { IfOk result (λ o. ReadsTable o.segment.table o.reader) }
 {
     let shared = file.clone()?;
     match open_file(alloc, shared) {
@@ -51,7 +51,7 @@ pub fn made_segment(alloc: Global, file: Bytes) -> Result<Opened, AllocError>
 
 // Opens a file in memory.
 fn open_file(alloc: Global, bytes: Bytes) -> Result<Reader, ColumnarError>
-    ensures { IsOpenedFrom bytes result }
+    ensures { OpensBytes bytes result }
 {
     match ColumnarReader::open(alloc, FileInMemory::new(bytes)) {
         Ok(reader) => Ok(reader),
@@ -82,10 +82,10 @@ fn all_set(flags: &[bool]) -> bool
 
 // An open file of a table, with all its rows alive.
 fn opened_whole(alloc: Global, file: Bytes, reader: Reader) -> Result<Opened, AllocError>
-    requires table { HasTable file }
+    requires table { IsTableFile file }
     requires told { reader.file.told ≡ Some file }
     ensures segment { IfOk result (λ o. o.segment ≡ all_alive (table_in file)) }
-    ensures reader { IfOk result (λ o. IsReaderOf o.segment.table o.reader) }
+    ensures reader { IfOk result (λ o. ReadsTable o.segment.table o.reader) }
 {
     reader.file_is_whole();
     let alive = all_rows(alloc, reader.num_docs())?;

@@ -10,6 +10,7 @@ use col_common::{ColumnarError, RowId};
 use std::alloc::{AllocError, Global};
 
 /// The ids, four bytes each.
+#[tactic(auto, using(crate::proofs::IdLemmas::spells_none, crate::proofs::IdLemmas::spells_more))]
 pub fn id_bytes(alloc: Global, ids: &[RowId]) -> Result<Vec<u8>, AllocError>
     ensures { IfOk result (λ bytes. row_ids bytes.items ≡ Some ids.now) }
 {
@@ -21,6 +22,7 @@ pub fn id_bytes(alloc: Global, ids: &[RowId]) -> Result<Vec<u8>, AllocError>
 }
 
 // The ids that bytes spell.
+#[tactic(auto, using(crate::proofs::IdLemmas::read_more))]
 pub(crate) fn read_ids(alloc: Global, bytes: &[u8]) -> Result<Vec<RowId>, ColumnarError>
     ensures { Gives (λ ids. ids.items) result (or_refuse (row_ids bytes.now) invalid_data) }
 {
@@ -37,6 +39,7 @@ pub(crate) fn read_ids(alloc: Global, bytes: &[u8]) -> Result<Vec<RowId>, Column
 }
 
 // Whether ids ascend strictly, each below the count of rows.
+#[tactic(auto, using(crate::proofs::PlaceLemmas::places_step))]
 pub(crate) fn are_places(ids: &[RowId], num_rows: RowId) -> bool
     ensures { result ≡ model.are_places 0 num_rows ids.now }
 {
@@ -51,6 +54,7 @@ pub(crate) fn are_places(ids: &[RowId], num_rows: RowId) -> bool
 }
 
 // Keeps the rows that aren't at the places named, which are counted from the first one's on.
+#[tactic(auto, using(crate::proofs::RowLemmas::keeps_none, crate::proofs::RowLemmas::keeps_all))]
 pub(crate) fn keep_rows(rows: &mut Vec<RowId>, ids: &[RowId], first: RowId)
     requires room { first + vec_len rows.old < 2 ^ 32 }
     requires places { Ascends ids.now }
@@ -58,7 +62,7 @@ pub(crate) fn keep_rows(rows: &mut Vec<RowId>, ids: &[RowId], first: RowId)
 {
     let mut kept = 0;
     for at in 0..rows.len() {
-        if !is_among(ids, first + at as RowId) {
+        if !is_named(ids, first + at as RowId) {
             rows[kept] = rows[at];
             kept += 1;
         }
@@ -67,9 +71,9 @@ pub(crate) fn keep_rows(rows: &mut Vec<RowId>, ids: &[RowId], first: RowId)
 }
 
 // Whether a place is among those named.
-fn is_among(ids: &[RowId], place: RowId) -> bool
+fn is_named(ids: &[RowId], place: RowId) -> bool
     requires { Ascends ids.now }
-    ensures { result ≡ model.is_among ids.now place }
+    ensures { result ≡ model.is_named ids.now place }
 {
     ids.binary_search(&place).is_ok()
 }

@@ -2,19 +2,18 @@
 ghost use Rattle.std.specs.Prelude.{◌≡◌, ◌++◌, ◌∷◌, [], List, true, length, Ok, IfOk, IfErr};
 ghost use Rattle.std.specs.List.{AllByRecursion};
 ghost use Rattle.col_segments.specs.Compaction.{CompactsOrConflicts, CompactsTo, RefusesRows};
-ghost use Rattle.col_segments.specs.Files.{HasTable};
-ghost use Rattle.col_segments.specs.Live.{live, merged_rows};
+ghost use Rattle.col_segments.specs.Files.{IsTableFile};
+ghost use Rattle.col_segments.specs.Live.{live, merged_alive};
 ghost use Rattle.col_segments.specs.RowIds.{row_ids};
 ghost use Rattle.col_segments.specs.Segments.{HeldTable, alive_count, appended, are_places, changed, spelled_dropped, without};
 ghost use Rattle.col_writer_columns.specs.Answers.{RecordsOrRefuses};
 
-use crate::Segment;
 use crate::compacting::merge_alive;
 use crate::held::{count_alive, drop_from, open_addable, pop_last, push_opened, rows_are_there};
 use crate::kinds::{ADDED, DROPPED, REPLACED};
 use crate::opening::{Reader, made_segment};
-use crate::rows;
 use crate::rows::read_ids;
+use crate::{Segment, rows};
 use bytes::Bytes;
 use col_common::{ColumnarError, RowId};
 use std::alloc::Global;
@@ -32,13 +31,13 @@ pub struct Segments {
 impl Model for Segments {
     ghost use Rattle.std.specs.Prelude.{List};
     ghost use Rattle.col_segments.specs.Segments.{HeldTable};
-    ghost use Rattle.col_segments.specs.Files.{AreOpen};
+    ghost use Rattle.col_segments.specs.Files.{AreOpenBeside};
 
     ghost Value = { List HeldTable };
 
     ghost view = { λ s. s.held.items };
 
-    ghost invariant = { λ s. AreOpen s.held.items s.readers.items };
+    ghost invariant = { λ s. AreOpenBeside s.held.items s.readers.items };
 }
 
 /// A file of rows that were alive, and the one segment that it makes.
@@ -148,7 +147,7 @@ impl Segments {
     pub fn compacted(&mut self) -> Result<Compacted, ColumnarError>
         ensures ok { IfOk result (λ c. CompactsTo self.old c.segments c.file) }
         ensures again { IfOk result (λ c. appended c.file [] ≡ Ok c.segments) }
-        ensures refused { IfErr result (RefusesRows (merged_rows self.old)) }
+        ensures refused { IfErr result (RefusesRows (merged_alive self.old)) }
         ensures same { self.new ≡ self.old }
     {
         let alloc = self.alloc;
@@ -160,7 +159,7 @@ impl Segments {
 
 // The segment of a file that was made of a table.
 fn one_segment(alloc: Global, file: Bytes) -> Result<Segments, ColumnarError>
-    requires { HasTable file }
+    requires { IsTableFile file }
     ensures ok { IfOk result (λ segments. appended file [] ≡ Ok segments) }
     ensures err { IfErr result (λ e. e ≡ ColumnarError.OutOfMemory) }
 {

@@ -44,14 +44,12 @@ loaded-moments old mid new (Some bytes) run counts none =
 
 -- ---- refusals
 
-rose-earlier : (a b c : ℕ) → a ≤ b → Rose b c → Rose a c
-rose-earlier a b c h r = omega (arith, h, r)
-
 -- a refusal of a reading is one of the opening
 pub read-refuses : (a b c : ℕ) (e : ColumnarError) → a ≤ b → IsReadRefusal e → (e ≡ ReadFault → Rose b c)
     → RefusesOpen (Unit {0}) (Rose a c) e
 read-refuses a b c e le (inl is) rose = subst (RefusesOpen (Unit {0}) (Rose a c)) (sym is) tt
-read-refuses a b c e le (inr (inl is)) rose = subst (RefusesOpen (Unit {0}) (Rose a c)) (sym is) (rose-earlier a b c le (rose is))
+read-refuses a b c e le (inr (inl is)) rose =
+    subst (RefusesOpen (Unit {0}) (Rose a c)) (sym is) (let rose = rose is in omega (arith, le, rose))
 read-refuses a b c e le (inr (inr is)) rose = subst (RefusesOpen (Unit {0}) (Rose a c)) (sym is) tt
 
 -- ---- a set that was opened

@@ -8,7 +8,7 @@ use Rattle.col_disk.proofs.Moments.{leaves_weaker, started}
 use Rattle.col_model.specs.Refusal.{Refusal, invalid_data, bad_order, bad_name, required_conflict, cannot_coerce, numerical_conflict, too_large, forced_type, doc_order, doc_out_of_range, tie_breaker_start}
 use Rattle.col_segments.specs.Segments.{HeldTable}
 use Rattle.col_set.specs.Held.{Stands, held_by}
-use Rattle.col_set.specs.Sets.{SeenSet, IsSet, EachStands, IsBeforeOrGiven, IsCompactAnswer, ChangesSet, LeavesChange}
+use Rattle.col_set.specs.Sets.{StandsUnlessFailed, EachStands, IsBeforeOrGiven, IsCompactAnswer, ChangesParts, LeavesChange}
 use Rattle.col_set.proofs.HeldLemmas.{each-stands}
 use Rattle.col_set.proofs.LeaveLemmas.{if_told, retold}
 use Rattle.col_writer_columns.specs.Answers.{answer_of, MayRefuse}
@@ -39,7 +39,7 @@ pub stopped-known : (e : ColumnarError) → (e ≡ WriteFault) ⊎ (e ≡ OutOfM
 stopped-known e (inl fault) = inr (inl fault)
 stopped-known e (inr memory) = inl memory
 
--- ---- a set, by its parts
+-- ---- the parts of a set
 
 -- each image stands for what is held
 pub now-stands : (disk : SeenDisk) (gate : ℕ) (hs : List HeldTable) → IfSome disk.told (λ _. Stands disk gate hs)
@@ -47,41 +47,40 @@ pub now-stands : (disk : SeenDisk) (gate : ℕ) (hs : List HeldTable) → IfSome
 now-stands disk gate hs stands = if_told disk.told (λ _ s. each-stands disk gate hs s) stands
 
 module _ {D : Type 0} (see : D → SeenDisk) where
-  abbrev pub set_of : D → List HeldTable → Bool → SeenSet D
-  set_of disk hs failed = record { disk = disk; held = hs; failed = failed }
-
-  refused-works : (disk : D) (gate : ℕ) (hs : List HeldTable) (e : ColumnarError) (expected : Result (List HeldTable) Refusal)
-      → ((c : List ℕ) → (see disk).images.left_since (see disk).images.clock c → (see disk).images.may_leave c)
-      → IfSome (see disk).told (λ _. Stands (see disk) gate hs) → MayRefuse expected e
-      → ChangesSet see (set_of disk hs false) (set_of disk hs false) (Err e) expected
-  refused-works disk gate hs e expected only stands may = record {
-    ok = tt;
-    refused = inr may;
-    write_fault = λ same. absurd (refused_no_fault expected e may same);
-    kept = refl;
-    failed = (λ f. absurd (cc f), λ same. absurd (refused_no_fault expected e may same));
-    later = omega arith;
-    tells = refl;
-    any_moment =
-        if_told (see disk).told (λ _ s. started (see disk).images (IsBeforeOrGiven hs expected) only
-        (λ c left. inl (each-stands (see disk) gate hs s c left))) stands;
-    now = λ _. now-stands (see disk) gate hs stands;
-  }
-
-  -- a call that refused before it wrote
-  pub set-refused : (disk : D) (gate : ℕ) (hs same : List HeldTable) (f : Bool) (e : ColumnarError)
+  -- A call that refused before it wrote.
+  pub parts-refused : (disk : D) (gate : ℕ) (hs same : List HeldTable) (f : Bool) (e : ColumnarError)
       (expected : Result (List HeldTable) Refusal)
       → ((c : List ℕ) → (see disk).images.left_since (see disk).images.clock c → (see disk).images.may_leave c)
-      → f ≡ false → IfSome (see disk).told (λ _. Stands (see disk) gate hs) → same ≡ hs → MayRefuse expected e
-      → ChangesSet see (set_of disk hs f) (set_of disk same f) (Err e) expected
-  set-refused disk gate hs same f e expected only works stands is may =
-      subst (λ (g : Bool). ChangesSet see (set_of disk hs g) (set_of disk same g) (Err e) expected) (sym works)
-      (subst (λ (k : List HeldTable). ChangesSet see (set_of disk hs false) (set_of disk k false) (Err e) expected) (sym is)
-      (refused-works disk gate hs e expected only stands may))
+      → f ≡ false → StandsUnlessFailed (see disk) gate hs f → same ≡ hs → MayRefuse expected e
+      → ChangesParts see disk disk gate hs same f (Err e) expected
+  parts-refused disk gate hs same f e expected only works is_set is may =
+      subst (λ (g : Bool). ChangesParts see disk disk gate hs same g (Err e) expected) (sym works)
+      (subst (λ (k : List HeldTable). ChangesParts see disk disk gate hs k false (Err e) expected) (sym is) unchanged)
+    where
+      stands : IfSome (see disk).told (λ _. Stands (see disk) gate hs)
+      stands = is_set works
+
+      unchanged : ChangesParts see disk disk gate hs hs false (Err e) expected
+      unchanged = record {
+        changes = record {
+          ok = tt;
+          refused = inr may;
+          write_fault = λ same. absurd (refused_no_fault expected e may same);
+          kept = refl;
+          failed = (λ f. absurd (cc f), λ same. absurd (refused_no_fault expected e may same));
+          later = omega arith;
+          tells = refl;
+          any_moment =
+              if_told (see disk).told (λ _ s. started (see disk).images (IsBeforeOrGiven hs expected) only
+              (λ c left. inl (each-stands (see disk) gate hs s c left))) stands;
+          now = λ _. now-stands (see disk) gate hs stands;
+        };
+        stands = λ _. stands;
+      }
 
   -- A call that added a change of what is held, by which it is what is expected.
-  module _ (old new : D) (gate : ℕ) (hs after given : List HeldTable) (f failed : Bool)
-      (expected : Result (List HeldTable) Refusal) (is : expected ≡ Ok after) where
+  module _ (old new : D) (gate : ℕ) (hs after given : List HeldTable) (failed : Bool) (expected : Result (List HeldTable) Refusal)
+      (is : expected ≡ Ok after) where
     moments : (r : Result (Unit {0}) ColumnarError) → LeavesChange (see old) (see new) gate hs after failed r
         → IfSome (see old).told (λ _. LeavesOnly (see old).images (see new).images (IsBeforeOrGiven hs expected))
     moments r left =
@@ -89,56 +88,56 @@ module _ {D : Type 0} (see : D → SeenDisk) where
         leaves_weaker (λ c. (held_by c ≡ Some hs) ⊎ (held_by c ≡ Some after)) (IsBeforeOrGiven hs expected) run
         (λ c which. ⊎_elim (λ before. inl before) (λ made. inr (after, is, made)) which)) left.any_moment
 
-    -- each image now stands for these tables, as told of the disk before
-    each-now : (k : List HeldTable) → TellsAlike (see old).told (see new).told → IfSome (see new).told (λ _. Stands (see new) gate k)
-        → IfSome (see old).told (λ _. EachStands (see new).images k)
-    each-now k tells stands =
-        retold (EachStands (see new).images k) (see new).told (see old).told (sym tells) (now-stands (see new) gate k stands)
+    -- each image now stands for what is held, as told of the disk before
+    each-now : TellsAlike (see old).told (see new).told → StandsUnlessFailed (see new) gate given failed → failed ≡ false
+        → IfSome (see old).told (λ _. EachStands (see new).images given)
+    each-now tells is_set still =
+        retold (EachStands (see new).images given) (see new).told (see old).told (sym tells)
+        (now-stands (see new) gate given (is_set still))
 
     -- Ok
-    pub set-changed : given ≡ after → LeavesChange (see old) (see new) gate hs after failed (Ok tt)
-        → ChangesSet see (set_of old hs f) (set_of new given failed) (Ok tt) expected
-    set-changed same left = record {
-      ok = is ∙ ap Ok (sym same);
-      refused = tt;
-      write_fault = λ e. absurd (cc e);
-      kept = tt;
-      failed = left.failed;
-      later = left.later;
-      tells = left.tells;
-      any_moment = moments (Ok tt) left;
-      now =
-          λ _. subst (λ (k : List HeldTable). IfSome (see old).told (λ _. EachStands (see new).images k)) (sym same)
-          (each-now after left.tells left.done);
+    pub parts-ok : given ≡ after → LeavesChange (see old) (see new) gate hs after failed (Ok tt)
+        → ChangesParts see old new gate hs given failed (Ok tt) expected
+    parts-ok same left = record {
+      changes = record {
+        ok = is ∙ ap Ok (sym same);
+        refused = tt;
+        write_fault = λ e. absurd (cc e);
+        kept = tt;
+        failed = left.failed;
+        later = left.later;
+        tells = left.tells;
+        any_moment = moments (Ok tt) left;
+        now = each-now left.tells stands;
+      };
+      stands = stands;
     }
+      where
+        stands : StandsUnlessFailed (see new) gate given failed
+        stands still = subst (λ (k : List HeldTable). IfSome (see new).told (λ _. Stands (see new) gate k)) (sym same) left.done
 
     -- a refusal
-    pub set-stopped : (e : ColumnarError) → given ≡ hs → LeavesChange (see old) (see new) gate hs after failed (Err e)
-        → ChangesSet see (set_of old hs f) (set_of new given failed) (Err e) expected
-    set-stopped e same left = record {
-      ok = tt;
-      refused = by left.known;
-      write_fault = λ fault. ((after, is), left.fault fault);
-      kept = same;
-      failed = left.failed;
-      later = left.later;
-      tells = left.tells;
-      any_moment = moments (Err e) left;
-      now =
-          λ still. subst (λ (k : List HeldTable). IfSome (see old).told (λ _. EachStands (see new).images k)) (sym same)
-          (each-now hs left.tells (left.stopped still));
+    pub parts-err : (e : ColumnarError) → given ≡ hs → LeavesChange (see old) (see new) gate hs after failed (Err e)
+        → ChangesParts see old new gate hs given failed (Err e) expected
+    parts-err e same left = record {
+      changes = record {
+        ok = tt;
+        refused = by left.known;
+        write_fault = λ fault. ((after, is), left.fault fault);
+        kept = same;
+        failed = left.failed;
+        later = left.later;
+        tells = left.tells;
+        any_moment = moments (Err e) left;
+        now = each-now left.tells stands;
+      };
+      stands = stands;
     }
       where
         by : (e ≡ WriteFault) ⊎ (e ≡ OutOfMemory) → (e ≡ WriteFault) ⊎ MayRefuse expected e
         by (inl fault) = inl fault
         by (inr memory) = inr (inl memory)
 
-    -- the set stands for what it holds
-    pub set-stands-ok : given ≡ after → LeavesChange (see old) (see new) gate hs after failed (Ok tt) → IsSet (see new) gate given failed
-    set-stands-ok same left still =
-        subst (λ (k : List HeldTable). IfSome (see new).told (λ _. Stands (see new) gate k)) (sym same) left.done
-
-    pub set-stands-err : (e : ColumnarError) → given ≡ hs → LeavesChange (see old) (see new) gate hs after failed (Err e)
-        → IsSet (see new) gate given failed
-    set-stands-err e same left still =
-        subst (λ (k : List HeldTable). IfSome (see new).told (λ _. Stands (see new) gate k)) (sym same) (left.stopped still)
+        stands : StandsUnlessFailed (see new) gate given failed
+        stands still =
+            subst (λ (k : List HeldTable). IfSome (see new).told (λ _. Stands (see new) gate k)) (sym same) (left.stopped still)

@@ -11,7 +11,7 @@ use Rattle.col_model.specs.Refusal.{Refusal, ◌>>=◌}
 use Rattle.col_segments.specs.Segments.{HeldTable}
 use Rattle.col_set.specs.Held.{held_by}
 use Rattle.col_set.specs.Sets.{SeenSet, EachStands, IsBeforeOrGiven, ChangesSet}
-use Rattle.col_set.specs.Steps.{stepped, reached, IsReached, RunsSteps}
+use Rattle.col_set.specs.Steps.{after_step, reached, IsReached, RunsSteps}
 use Rattle.col_set.specs.declared.steps.Step.{Step}
 use Rattle.col_set.proofs.LeaveLemmas.{if_told, retold}
 use Rattle.col_writer_columns.specs.Answers.{MayRefuse}
@@ -21,7 +21,7 @@ use Rattle.col_writer_columns.specs.Answers.{MayRefuse}
 -- steps in two parts
 reached-append : (hs : List HeldTable) (xs ys : List Step) → reached hs (xs ++ ys) ≡ (reached hs xs >>= λ next. reached next ys)
 reached-append hs [] ys = refl
-reached-append hs (x ∷ xs) ys = go (stepped x hs) (λ next. reached-append next xs ys)
+reached-append hs (x ∷ xs) ys = go (after_step x hs) (λ next. reached-append next xs ys)
   where
     go : (r : Result (List HeldTable) Refusal)
         → ((next : List HeldTable) → reached next (xs ++ ys) ≡ (reached next xs >>= λ last. reached last ys))
@@ -30,15 +30,15 @@ reached-append hs (x ∷ xs) ys = go (stepped x hs) (λ next. reached-append nex
     go (Err e) same = refl
 
 reached-more : (hs now : List HeldTable) (xs : List Step) (x : Step) (ys : List Step) → reached hs xs ≡ Ok now
-    → reached hs (xs ++ x ∷ ys) ≡ (stepped x now >>= λ next. reached next ys)
+    → reached hs (xs ++ x ∷ ys) ≡ (after_step x now >>= λ next. reached next ys)
 reached-more hs now xs x ys is = reached-append hs xs (x ∷ ys) ∙ ap (λ r. r >>= λ next. reached next (x ∷ ys)) is
 
 same-result : (r : Result (List HeldTable) Refusal) → (r >>= λ next. Ok next) ≡ r
 same-result (Ok next) = refl
 same-result (Err e) = refl
 
-reached-one : (hs now : List HeldTable) (xs : List Step) (x : Step) → reached hs xs ≡ Ok now → reached hs (xs ++ x ∷ []) ≡ stepped x now
-reached-one hs now xs x is = reached-more hs now xs x [] is ∙ same-result (stepped x now)
+reached-one : (hs now : List HeldTable) (xs : List Step) (x : Step) → reached hs xs ≡ Ok now → reached hs (xs ++ x ∷ []) ≡ after_step x now
+reached-one hs now xs x is = reached-more hs now xs x [] is ∙ same-result (after_step x now)
 
 -- what stands for the tables after the steps that were made
 here : (hs now : List HeldTable) (xs made left : List Step) → xs ≡ made ++ left → reached hs made ≡ Ok now → (c : List ℕ)
@@ -84,31 +84,31 @@ module _ {D : Type 0} (see : D → SeenDisk) where
     whole-more = was.whole ∙ sym (append_assoc was.made (x ∷ []) left)
 
     -- before the step or after it
-    either-reached : (c : List ℕ) → IsBeforeOrGiven now.held (stepped x now.held) c → IsReached old.held xs c
+    either-reached : (c : List ℕ) → IsBeforeOrGiven now.held (after_step x now.held) c → IsReached old.held xs c
     either-reached c (inl before) = here old.held now.held xs was.made (x ∷ left) was.whole was.is c before
     either-reached c (inr (after, is, given)) =
         here old.held after xs (was.made ++ x ∷ []) left whole-more (reached-one old.held now.held was.made x was.is ∙ is) c given
 
-    moments : (r : Result (Unit {0}) ColumnarError) → ChangesSet see now next r (stepped x now.held)
+    moments : (r : Result (Unit {0}) ColumnarError) → ChangesSet see now next r (after_step x now.held)
         → IfSome (see old.disk).told (λ _. LeavesOnly (see old.disk).images (see next.disk).images (IsReached old.held xs))
     moments r changes =
         both (see old.disk).told was.any_moment (retold Run (see now.disk).told (see old.disk).told (sym was.tells) changes.any_moment)
       where
         Run : Type 0
-        Run = LeavesOnly (see now.disk).images (see next.disk).images (IsBeforeOrGiven now.held (stepped x now.held))
+        Run = LeavesOnly (see now.disk).images (see next.disk).images (IsBeforeOrGiven now.held (after_step x now.held))
 
         both : (told : Told) → IfSome told (λ _. LeavesOnly (see old.disk).images (see now.disk).images (IsReached old.held xs))
-            → IfSome told (λ _. LeavesOnly (see now.disk).images (see next.disk).images (IsBeforeOrGiven now.held (stepped x now.held)))
+            → IfSome told (λ _. LeavesOnly (see now.disk).images (see next.disk).images (IsBeforeOrGiven now.held (after_step x now.held)))
             → IfSome told (λ _. LeavesOnly (see old.disk).images (see next.disk).images (IsReached old.held xs))
         both None a b = tt
-        both (Some bytes) a b = joins (IsReached old.held xs) (IsBeforeOrGiven now.held (stepped x now.held)) a b either-reached
+        both (Some bytes) a b = joins (IsReached old.held xs) (IsBeforeOrGiven now.held (after_step x now.held)) a b either-reached
 
     -- what is now, as told of the disk at first
     since : (P : Type 0) → IfSome (see now.disk).told (λ _. P) → IfSome (see old.disk).told (λ _. P)
     since P h = retold P (see now.disk).told (see old.disk).told (sym was.tells) h
 
     -- one step more
-    pub runs-more : next.failed ≡ false → ChangesSet see now next (Ok tt) (stepped x now.held) → RunsFrom old next xs left
+    pub runs-more : next.failed ≡ false → ChangesSet see now next (Ok tt) (after_step x now.held) → RunsFrom old next xs left
     runs-more works changes = record {
       made = was.made ++ x ∷ [];
       whole = whole-more;
@@ -120,7 +120,7 @@ module _ {D : Type 0} (see : D → SeenDisk) where
     }
 
     -- a step that is refused
-    pub runs-refused : (e : ColumnarError) → ChangesSet see now next (Err e) (stepped x now.held) → RunsSteps see old next xs (Err e)
+    pub runs-refused : (e : ColumnarError) → ChangesSet see now next (Err e) (after_step x now.held) → RunsSteps see old next xs (Err e)
     runs-refused e changes = record {
       ok = tt;
       refused = by changes.refused;
@@ -128,7 +128,7 @@ module _ {D : Type 0} (see : D → SeenDisk) where
       now = λ works. since (EachStands (see next.disk).images next.held) (changes.now works);
     }
       where
-        by : (e ≡ WriteFault) ⊎ MayRefuse (stepped x now.held) e → (e ≡ WriteFault) ⊎ MayRefuse (reached old.held xs) e
+        by : (e ≡ WriteFault) ⊎ MayRefuse (after_step x now.held) e → (e ≡ WriteFault) ⊎ MayRefuse (reached old.held xs) e
         by (inl fault) = inl fault
         by (inr (inl memory)) = inr (inl memory)
         by (inr (inr (r, is, answer))) =

@@ -1,5 +1,5 @@
 -- Sets of segments on disks.
-use Rattle.std.specs.Prelude.{◌≡◌, ◌⊎◌, ◌↔◌, ◌≤◌, ℕ, Bool, true, false, List, Option, Some, None, Result, Ok, Err, IfSome, IfOk, IfErr, OnOk, OnErr}
+use Rattle.std.specs.Prelude.{◌≡◌, ◌⊎◌, ◌↔◌, ◌<◌, ◌≤◌, ◌+◌, ◌^◌, ℕ, Bool, true, false, List, Option, Some, None, Result, Ok, Err, IfSome, IfOk, IfErr, OnOk, OnErr}
 use Rattle.col_common.specs.Causes.{Rose}
 use Rattle.col_common.specs.Outside.{SeenSink}
 use Rattle.col_common.specs.Serializing.{Serializes}
@@ -10,7 +10,7 @@ use Rattle.col_disk.specs.Disks.{SeenDisk, TellsAlike}
 use Rattle.col_model.specs.File.{StandsFor}
 use Rattle.col_model.specs.Refusal.{Refusal}
 use Rattle.col_model.specs.Table.{Table}
-use Rattle.col_segments.specs.Live.{compacted, live, merged_rows}
+use Rattle.col_segments.specs.Live.{compacted, live, merged_alive}
 use Rattle.col_segments.specs.Segments.{HeldTable}
 use Rattle.col_set.specs.Held.{Stands, held_by}
 use Rattle.col_writer_columns.specs.Answers.{MayRefuse}
@@ -27,8 +27,8 @@ abbrev pub EachStands : Images → List HeldTable → Type 0
 EachStands images hs = (c : List ℕ) → images.may_leave c → held_by c ≡ Some hs
 
 -- what holds of every set: each image stands for the tables, unless the disk has failed
-abbrev pub IsSet : SeenDisk → ℕ → List HeldTable → Bool → Type 0
-IsSet disk gate hs failed = failed ≡ false → IfSome disk.told (λ _. Stands disk gate hs)
+abbrev pub StandsUnlessFailed : SeenDisk → ℕ → List HeldTable → Bool → Type 0
+StandsUnlessFailed disk gate hs failed = failed ≡ false → IfSome disk.told (λ _. Stands disk gate hs)
 
 -- ---- changes
 
@@ -64,6 +64,16 @@ pub record ChangesSet {D : Type 0} (see : D → SeenDisk) (old new : SeenSet D)
   pub now : new.failed ≡ false
       → IfSome (see old.disk).told (λ _. EachStands (see new.disk).images new.held)
 
+-- The same of the parts of a set that works: its disk, where the journal ends on it, its tables, and
+-- the note of a fault; they are those of a set again.
+pub record ChangesParts {D : Type 0} (see : D → SeenDisk) (old new : D) (gate : ℕ)
+    (hs ks : List HeldTable) (failed : Bool) (result : Result (Unit {0}) ColumnarError)
+    (expected : Result (List HeldTable) Refusal) : Type 0 where
+  pub changes : ChangesSet see
+      (record { disk = old; held = hs; failed = false })
+      (record { disk = new; held = ks; failed = failed }) result expected
+  pub stands : StandsUnlessFailed (see new) gate ks failed
+
 -- What adding a change leaves of a disk whose images stood for these tables, of which it makes
 -- those, and of the note of a fault.
 pub record LeavesChange (old new : SeenDisk) (gate : ℕ) (hs after : List HeldTable)
@@ -92,11 +102,11 @@ IsCompactAnswer e = (e ≡ OutOfMemory)
     ⊎ ((e ≡ WriteFault) ⊎ ((e ≡ NumericalConflict) ⊎ (e ≡ TooLarge)))
 
 -- After a compaction the file of its table is written, or not; without one the sink stays.
-abbrev pub WritesFile : List HeldTable → SeenSink → SeenSink → Result (Unit {0}) ColumnarError
+abbrev pub WritesCompacted : List HeldTable → SeenSink → SeenSink → Result (Unit {0}) ColumnarError
     → Result (Unit {0}) ColumnarError → Type 0
-WritesFile hs a b (Ok done) result = (t : Table) × (file : List ℕ)
-    × (merged_rows hs ≡ Ok t) × StandsFor t file × Serializes a b result file
-WritesFile hs a b (Err e) result = (result ≡ Err e) × (b ≡ a)
+WritesCompacted hs a b (Ok done) result = (t : Table) × (file : List ℕ)
+    × (merged_alive hs ≡ Ok t) × StandsFor t file × Serializes a b result file
+WritesCompacted hs a b (Err e) result = (result ≡ Err e) × (b ≡ a)
 
 -- What writing a set answers and leaves: it is compacted, and then its file is written.
 pub record WritesSet {D : Type 0} (see : D → SeenDisk) (old new : SeenSet D) (a b : SeenSink)
@@ -105,7 +115,7 @@ pub record WritesSet {D : Type 0} (see : D → SeenDisk) (old new : SeenSet D) (
   pub changes : ChangesSet see old new compaction (compacted old.held)
   pub live : OnOk compaction (live new.held ≡ live old.held)
   pub known : IfErr compaction IsCompactAnswer
-  pub written : WritesFile old.held a b compaction result
+  pub written : WritesCompacted old.held a b compaction result
 
 -- ---- opening
 
@@ -127,6 +137,10 @@ RefusesOpen none rose InvalidData = none
 RefusesOpen none rose ReadFault = rose
 RefusesOpen none rose WriteFault = rose
 RefusesOpen none rose _ = ⊥
+
+-- a place on the disk where a gate may stand
+abbrev pub IsGatePlace : SeenDisk → ℕ → Type 0
+IsGatePlace disk gate = (gate + 1 < 2 ^ 64) × (gate < disk.size)
 
 -- What opening a disk answers, and what it leaves.
 pub record OpensSet {D : Type 0} (see : D → SeenDisk) (disk : D)

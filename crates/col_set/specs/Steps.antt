@@ -14,15 +14,15 @@ use Rattle.col_set.specs.declared.steps.Step.TheVariants as steps
 use Rattle.col_writer_columns.specs.Answers.{MayRefuse}
 
 -- what a step makes of the tables, or its refusal
-abbrev pub stepped : Step → List HeldTable → Result (List HeldTable) Refusal
-stepped (steps.Append file) hs = appended file.items hs
-stepped (steps.Drop ids) hs = dropped ids.items hs
-stepped steps.Compact hs = compacted hs
+abbrev pub after_step : Step → List HeldTable → Result (List HeldTable) Refusal
+after_step (steps.Append file) hs = appended file.items hs
+after_step (steps.Drop ids) hs = dropped ids.items hs
+after_step steps.Compact hs = compacted hs
 
 -- the tables after the steps, or the first refusal
 abbrev pub reached : List HeldTable → List Step → Result (List HeldTable) Refusal
 reached hs [] = Ok hs
-reached hs (x ∷ xs) = stepped x hs >>= λ next. reached next xs
+reached hs (x ∷ xs) = after_step x hs >>= λ next. reached next xs
 
 -- The bytes stand for the tables after the first so many steps, none skipped and none in part.
 pub record IsReached (hs : List HeldTable) (xs : List Step) (c : List ℕ) : Type 0 where

@@ -3,6 +3,7 @@
 
 mod change;
 mod loading;
+mod parts;
 mod set;
 mod staging;
 mod steps;

@@ -1,5 +1,5 @@
 //! Reads a disk's journal, and makes its changes.
-ghost use Rattle.std.specs.Prelude.{◌≡◌, ◌⊎◌, ◌<◌, ◌≤◌, ◌+◌, ◌^◌, List, [], Option, Some, None, IfOk, IfErr, IfSome, OnOk};
+ghost use Rattle.std.specs.Prelude.{◌≡◌, ◌⊎◌, ◌<◌, ◌≤◌, List, [], Option, Some, None, IfOk, IfErr, IfSome, OnOk, MatchResult};
 ghost use Rattle.col_common.specs.Causes.{Rose};
 ghost use Rattle.col_common.specs.declared.error.ColumnarError.TheVariants.{InvalidData};
 ghost use Rattle.col_disk.specs.Crash.{LeavesOnly};
@@ -8,7 +8,7 @@ ghost use Rattle.col_journal.specs.Found.{change_of};
 ghost use Rattle.col_journal.specs.Journal.{Change, replayed};
 ghost use Rattle.col_journal.specs.Settled.{IsReadTo, IsSettled};
 ghost use Rattle.col_set.specs.Held.{Stands, held_by, step};
-ghost use Rattle.col_set.specs.Sets.{IsHeldAlike, RefusesOpen};
+ghost use Rattle.col_set.specs.Sets.{IsGatePlace, IsHeldAlike, RefusesOpen};
 
 use col_common::{ColumnarError, HandleError};
 use col_disk::Disk;
@@ -23,7 +23,8 @@ pub(crate) fn load<D: Disk>(
     segments: &mut Segments,
 ) -> Result<u64, ColumnarError>
     requires { segments.old ≡ [] }
-    ensures ok { IfOk result (λ gate. IfSome (D.seen disk.old).told (λ bytes.
+    ensures ok { IfOk result (λ gate. IsGatePlace (D.seen disk.new) gate
+        × IfSome (D.seen disk.old).told (λ bytes.
         (held_by bytes ≡ Some segments.new) × Stands (D.seen disk.new) gate segments.new)) }
     ensures refused { IfErr result (RefusesOpen
         (IfSome (D.seen disk.old).told (λ bytes. held_by bytes ≡ None))
@@ -31,9 +32,8 @@ pub(crate) fn load<D: Disk>(
     ensures any_moment { IfSome (D.seen disk.old).told (λ bytes.
         LeavesOnly (D.seen disk.old).images (D.seen disk.new).images
         (λ c. (D.seen disk.old).images.may_leave c ⊎ IsHeldAlike bytes c)) }
-    ensures tells { TellsAlike (D.seen disk.old).told (D.seen disk.new).told }
-    ensures later { (D.seen disk.old).faults ≤ (D.seen disk.new).faults }
-    ensures within { IfOk result (λ gate. (gate + 1 < 2 ^ 64) × (gate < (D.seen disk.new).size)) }
+    ensures later { TellsAlike (D.seen disk.old).told (D.seen disk.new).told
+        × ((D.seen disk.old).faults ≤ (D.seen disk.new).faults) }
 {
     match ready(disk) {
         Ok(()) => {}
@@ -59,11 +59,10 @@ fn replay<D: Disk>(
     ensures invalid_data { (all : Option (List Change)) → IsReadTo (D.seen disk.old) 0 [] all
         → result ≡ Err InvalidData
         → IfSome all (λ changes. replayed step segments.old changes ≡ None) }
-    ensures refused { IfErr result (RefusesOpen (Unit {0})
-        (Rose (D.seen disk.old).faults (D.seen disk.new).faults)) }
-    ensures stays { Stays (D.seen disk.old) (D.seen disk.new) }
-    ensures later { (D.seen disk.old).faults ≤ (D.seen disk.new).faults }
-    ensures within { IfOk result (λ gate. (gate + 1 < 2 ^ 64) × (gate < (D.seen disk.new).size)) }
+    ensures answer { MatchResult result (IsGatePlace (D.seen disk.new))
+        (RefusesOpen (Unit {0}) (Rose (D.seen disk.old).faults (D.seen disk.new).faults)) }
+    ensures stays { Stays (D.seen disk.old) (D.seen disk.new)
+        × ((D.seen disk.old).faults ≤ (D.seen disk.new).faults) }
 {
     let _size = disk.len();
     let mut gate = 0;

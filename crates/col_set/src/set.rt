@@ -5,14 +5,13 @@ ghost use Rattle.col_segments.specs.Live.{compacted, live};
 ghost use Rattle.col_segments.specs.Segments.{alive_count, appended, dropped};
 ghost use Rattle.col_set.specs.Sets.{done_of, ChangesSet, EachStands, IsCompactAnswer, OpensSet, WritesSet};
 
-use crate::change::add_change;
 use crate::loading::load;
-use crate::staging::{stage_file, stage_ids};
+use crate::parts::{append_file, compact_all, drop_places};
 use bytes::Bytes;
 use col_common::{ColumnarError, RowId, Sink, serialize_bytes};
 use col_disk::Disk;
 use col_journal::Journal;
-use col_segments::{ADDED, Compacted, DROPPED, REPLACED, Segments};
+use col_segments::Segments;
 use std::alloc::Global;
 use std::marker::Model;
 
@@ -28,7 +27,7 @@ pub struct SegmentSet<D: Disk + Drop> {
 }
 
 impl<D: Disk + Drop> Model for SegmentSet<D> {
-    ghost use Rattle.col_set.specs.Sets.{SeenSet, IsSet};
+    ghost use Rattle.col_set.specs.Sets.{SeenSet, StandsUnlessFailed};
 
     ghost Value = { SeenSet D };
 
@@ -39,7 +38,7 @@ impl<D: Disk + Drop> Model for SegmentSet<D> {
     } };
 
     ghost invariant = { λ s.
-        IsSet (D.seen s.journal.disk) s.journal.gate s.segments s.failed };
+        StandsUnlessFailed (D.seen s.journal.disk) s.journal.gate s.segments s.failed };
 }
 
 impl<D: Disk + Drop> SegmentSet<D> {
@@ -106,17 +105,12 @@ impl<D: Disk + Drop> SegmentSet<D> {
         ensures { ChangesSet D.seen self.old self.new result
             (appended file.items self.old.held) }
     {
-        let file = match stage_file(&mut self.segments, file) {
-            Ok(file) => file,
-            Err(error) => return Err(error),
-        };
-        match add_change(&mut self.journal, &mut self.failed, ADDED, &file) {
-            Ok(()) => Ok(()),
-            Err(error) => {
-                self.segments.pop();
-                Err(error)
-            }
-        }
+        append_file(
+            &mut self.journal,
+            &mut self.segments,
+            &mut self.failed,
+            file,
+        )
     }
 
     /// Drops the rows at these places. It answers BadOrder exactly where they don't ascend
@@ -126,17 +120,13 @@ impl<D: Disk + Drop> SegmentSet<D> {
         ensures { ChangesSet D.seen self.old self.new result
             (dropped ids.now self.old.held) }
     {
-        let bytes = match stage_ids(self.alloc, &self.segments, ids) {
-            Ok(bytes) => bytes,
-            Err(error) => return Err(error),
-        };
-        match add_change(&mut self.journal, &mut self.failed, DROPPED, &bytes) {
-            Ok(()) => {
-                self.segments.drop_rows(ids);
-                Ok(())
-            }
-            Err(error) => Err(error),
-        }
+        drop_places(
+            self.alloc,
+            &mut self.journal,
+            &mut self.segments,
+            &mut self.failed,
+            ids,
+        )
     }
 
     // Makes the set one file, and gives it.
@@ -147,20 +137,7 @@ impl<D: Disk + Drop> SegmentSet<D> {
         ensures file { IfOk result (CompactsTo self.old.held self.new.held) }
         ensures known { IfErr result IsCompactAnswer }
     {
-        let Compacted { file, segments } = match self.segments.compacted() {
-            Ok(compacted) => compacted,
-            Err(error) => return Err(error),
-        };
-        match add_change(&mut self.journal, &mut self.failed, REPLACED, &file) {
-            Ok(()) => {
-                self.segments = segments;
-                Ok(file)
-            }
-            Err(error) => {
-                let_go(file, segments);
-                Err(error)
-            }
-        }
+        compact_all(&mut self.journal, &mut self.segments, &mut self.failed)
     }
 
     /// Makes the set one file of the rows alive, in order, which stay. It answers
@@ -193,9 +170,4 @@ impl<D: Disk + Drop> SegmentSet<D> {
         };
         serialize_bytes(sink, &file)
     }
-}
-
-fn let_go(file: Bytes, segments: Segments) {
-    drop(file);
-    drop(segments);
 }

@@ -1,7 +1,7 @@
 //! Changes of a set, one after another.
 ghost use Rattle.std.specs.Prelude.{◌≡◌, false};
 ghost use Rattle.col_set.specs.Sets.{ChangesSet};
-ghost use Rattle.col_set.specs.Steps.{stepped, RunsSteps};
+ghost use Rattle.col_set.specs.Steps.{after_step, RunsSteps};
 
 use crate::SegmentSet;
 use col_common::{ColumnarError, RowId};
@@ -19,7 +19,7 @@ pub enum Step {
 fn take_step<D: Disk + Drop>(set: &mut SegmentSet<D>, step: Step) -> Result<(), ColumnarError>
     requires { set.old.failed ≡ false }
     ensures { ChangesSet D.seen set.old set.new result
-        (stepped step set.old.held) }
+        (after_step step set.old.held) }
 {
     match step {
         Step::Append(file) => set.append(file),

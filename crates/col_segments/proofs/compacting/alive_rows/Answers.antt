@@ -28,8 +28,8 @@ loop-place-preserved c =
           let some : 0 < length (get_or hs i d).alive = omega (arith, count, w.if-num_alive-gt0.true) in
           let alive = w.alive.ensures ∙ ap (λ (h : HeldTable). h.alive) c.index-held-place.is in
           let named =
-              w.in_ok-push_rows.ensures ∙ (λ j. was.named j ++ map (λ (r : ℕ). (was.counted j, r)) (alive j))
-              ∙ sym (addresses-more hs i d within some) in
+          w.in_ok-push_rows.ensures ∙ (λ j. was.named j ++ map (λ (r : ℕ). (was.counted j, r)) (alive j))
+          ∙ sym (addresses-more hs i d within some) in
           record {
             named = rw w.rows-is named;
             counted = w.segment_ord-is ∙ ap (λ n. n + 1) was.counted ∙ sym (count-more hs i d within some);

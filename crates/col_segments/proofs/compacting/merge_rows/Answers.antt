@@ -9,8 +9,8 @@ pub returns-in-Ok-clause-made : goal.returns-in-Ok-clause-made
 returns-in-Ok-clause-made c tables files =
     let order = order_of c.args.order in
     let made =
-        merge-made tables c.args.readers.now c.merge_columnar.new.columnar_readers files (λ (parts : List Part). merged parts [] order)
-        c.new-file.result c.merge_columnar.new.output c.merge_columnar.new.output tt c.new-file.ensures refl c.in-Ok.ensures.answer in
+    merge-made tables c.args.readers.now c.merge_columnar.new.columnar_readers files (λ (parts : List Part). merged parts [] order)
+    c.new-file.result c.merge_columnar.new.output c.merge_columnar.new.output tt c.new-file.ensures refl c.in-Ok.ensures.answer in
     written (merged (map part_of_table tables) [] order) c.merge_columnar.new.output c.file_of.result made
     c.file_of.ensures.ok c.file_of.ensures.err
 

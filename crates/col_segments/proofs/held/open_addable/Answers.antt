@@ -15,8 +15,8 @@ returns-in_err-opened-clause-segment c =
 pub returns-then-num_alive-count_alive-clause-segment : goal.returns-then-num_alive-count_alive-clause-segment
 returns-then-num_alive-count_alive-clause-segment c =
     let many =
-        added-too_large c.args.file c.args.held.now c.in_ok-opened.opened.segment c.in_ok-opened.ensures.segment.ok
-        (omega (arith, c.num_alive.ensures, c.count_alive.ensures, c.if-num_alive-count_alive.true)) in
+    added-too_large c.args.file c.args.held.now c.in_ok-opened.opened.segment c.in_ok-opened.ensures.segment.ok
+    (omega (arith, c.num_alive.ensures, c.count_alive.ensures, c.if-num_alive-count_alive.true)) in
     record { ok = tt; refused = inr (too_large, many, refl) }
 
 pub returns-clause-segment : goal.returns-clause-segment

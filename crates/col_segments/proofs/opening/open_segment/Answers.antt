@@ -2,7 +2,7 @@ use Rattle.std.proofs.Common.{◌≡◌, List, ℕ, Some, Ok, Err, inr, refl, sy
 use Rattle.std.proofs.lemmas.Result.{err_from_is_err_and}
 use Rattle.col_model.specs.Keys.{keys}
 use Rattle.col_model.specs.Refusal.{invalid_data}
-use Rattle.col_segments.specs.Files.{IsOpenedFrom}
+use Rattle.col_segments.specs.Files.{OpensBytes}
 use Rattle.col_segments.proofs.FileLemmas.{columns-bad, columns-whole, file-whole, not-opened}
 use Rattle.col_segments.proofs.opening.open_segment.Goals as goal
 
@@ -10,7 +10,7 @@ pub returns-in_err-reader-clause-segment : goal.returns-in_err-reader-clause-seg
 returns-in_err-reader-clause-segment c =
     let p = err_from_is_err_and c.from_residual-in_err-reader.result c.from_residual-in_err-reader.ensures.1 in
     let opened =
-        subst (λ (b : List ℕ). IsOpenedFrom b (Err c.in_err-reader.field-0.0)) c.in_ok-clone.ensures.cases c.in_err-reader.ensures in
+    subst (λ (b : List ℕ). OpensBytes b (Err c.in_err-reader.field-0.0)) c.in_ok-clone.ensures.cases c.in_err-reader.ensures in
     rw (p.1, p.2) record { ok = tt; refused = not-opened c.args.file c.in_err-reader.field-0.0 opened }
 
 pub opened_whole-requires-clause-table : goal.opened_whole-requires-clause-table

@@ -10,4 +10,4 @@ returns-in-Err-Memory-clause-any_moment g c = opened-moments _ _ (g.D.Disk.seen 
 pub returns-clause-any_moment : goal.returns-clause-any_moment
 returns-clause-any_moment g c =
     loaded-moments _ _ _ (g.D.Disk.seen c.args.disk.now).told c.ready.ensures.any_moment
-    (g.met.D.Disk.laws c.ready.new.disk).counts_now c.replay.ensures.stays.images
+    (g.met.D.Disk.laws c.ready.new.disk).counts_now c.replay.ensures.stays.0.images

@@ -49,8 +49,8 @@ returns-in_err-apply_read-clause-invalid_data g c all r e =
     let is : c.apply_read.result ≡ Err InvalidData = search rules in
     read-refused disk _ all _ _ so_far.0 (change_of c.in-Some.found) next so_far.2 (rw is at c.apply_read.ensures.refused)
 
-pub returns-in_err-found-clause-refused : goal.returns-in_err-found-clause-refused
-returns-in_err-found-clause-refused g c =
+pub returns-in_err-found-clause-answer : goal.returns-in_err-found-clause-answer
+returns-in_err-found-clause-answer g c =
     let p = err_from_is_err_and c.from_residual.result c.from_residual.ensures.1 in
     let e = c.in_err-found.field-0.0 in
     rw (p.1, p.2) (read-refuses _ _ _ e c.loop-found.invariant.later c.in_err-found.ensures.reads.known

@@ -1,7 +1,7 @@
 use Rattle.std.proofs.Common.{◌≡◌, ◌∷◌, length, sym, ap, subst, arith}
 use Rattle.std.specs.Vec.Iter.{into_iter_items}
 use Rattle.std.proofs.lemmas.Result.{err_from_is_err_and}
-use Rattle.col_set.specs.Steps.{stepped}
+use Rattle.col_set.specs.Steps.{after_step}
 use Rattle.col_set.proofs.StepLemmas.{RunsFrom, runs-none, runs-more, runs-refused, still-works}
 use Rattle.col_set.proofs.steps.run_steps.Goals as goal
 
@@ -31,7 +31,7 @@ loop-step-preserved g c =
     let now = subst (RunsFrom see old at.set xs) steps at.invariant.0 in
     let new = c.take_step.new.set in
     let changes = c.in_ok-take_step.ensures in
-    (runs-more see old at.set new xs left x now (still-works see at.set new (stepped x at.set.held) changes) changes, omega arith)
+    (runs-more see old at.set new xs left x now (still-works see at.set new (after_step x at.set.held) changes) changes, omega arith)
 
 pub returns-in_err-take_step : goal.returns-in_err-take_step
 returns-in_err-take_step g c =

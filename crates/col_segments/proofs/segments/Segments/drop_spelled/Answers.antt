@@ -10,7 +10,7 @@ returns-then-not-are_places c =
     let ids = c.in_ok-ids.ids.items in
     let there = sym c.deref.ensures.value in
     let fails : are_places 0 (alive_count hs) ids ≡ false =
-        ap (are_places 0 (alive_count hs)) there ∙ sym c.are_places.ensures ∙ c.if-not-are_places.true in
+    ap (are_places 0 (alive_count hs)) there ∙ sym c.are_places.ensures ∙ c.if-not-are_places.true in
     record {
       ok = tt;
       refused = inr (bad_order, spelled c.args.bytes.now hs ids c.in_ok-ids.ensures.ok ∙ dropped-refused ids hs fails, refl);
