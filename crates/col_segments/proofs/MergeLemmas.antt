@@ -73,7 +73,7 @@ module _ (tables : List Table) (olds news : List SeenReader) (files : AllZip Rea
         adds.table,
         adds.is,
         subst (StandsFor adds.table)
-            (sym (same ∙ same_Some ys (xs ++ adds.file) adds.added_file ∙ ap (λ zs. zs ++ adds.file) none)) adds.stands,
+            (sym (same ∙ same_Some ys (xs ++ adds.file) adds.added ∙ ap (λ zs. zs ++ adds.file) none)) adds.stands,
       )
 
   -- a refusal that a merge answers is the one that is expected

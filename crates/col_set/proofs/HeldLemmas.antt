@@ -100,7 +100,7 @@ replays-more start now next gate end_ first hs after found o was finds within st
   read = λ all r.
       let so_far = was.read all r in
       let read : IsReadTo next end_ (so_far.0 ++ change_of found ∷ []) all =
-          subst (FindsChange next gate so_far.0 all) is (finds so_far.0 all so_far.1) in
+      subst (FindsChange next gate so_far.0 all) is (finds so_far.0 all so_far.1) in
       (so_far.0 ++ change_of found ∷ [], read, one-more first hs after so_far.0 (change_of found) so_far.2 made);
   stays = stays_both was.stays stays;
   within = (subst (λ p. IfSome p (λ f. (gate < f.1) × (f.1 < next.size))) is within).1;

@@ -6,7 +6,7 @@ use Rattle.col_common.specs.declared.error.ColumnarError.TheVariants.{OutOfMemor
 use Rattle.col_common.specs.declared.outside.HandleError.{HandleError}
 use Rattle.col_common.specs.declared.outside.HandleError.TheVariants.{Failed, Memory}
 use Rattle.col_disk.specs.Crash.{LeavesOnly}
-use Rattle.col_disk.specs.Disks.{Answer, GoesOn, SeenDisk, TellsAlike}
+use Rattle.col_disk.specs.Disks.{Answer, IsLater, SeenDisk, TellsAlike}
 use Rattle.col_disk.proofs.Moments.{leaves_weaker}
 use Rattle.col_journal.specs.Journal.{Change, IsBeforeOrAfter}
 use Rattle.col_journal.specs.Settled.{AddsChange, IsSettled}
@@ -29,7 +29,7 @@ retold P (Some bytes) (Some more) same h = h
 
 -- A call that adds a change to a journal whose disk stands for tables.
 module _ (old new : SeenDisk) (gate end_ : ℕ) (hs after : List HeldTable) (change : Change) (r : Answer)
-    (adds : (changes : List Change) → IsSettled old gate changes → AddsChange old new end_ changes change r) (later : GoesOn old new r)
+    (adds : (changes : List Change) → IsSettled old gate changes → AddsChange old new end_ changes change r) (later : IsLater old new r)
     (stands : IfSome old.told (λ _. Stands old gate hs)) (makes : changed change.kind change.bytes hs ≡ Ok after) where
   made : step change hs ≡ Some after
   made = ap made_by makes

@@ -59,7 +59,3 @@ pub set-opened : (old : Told) (disk : SeenDisk) (gate : ℕ) (hs : List HeldTabl
     → IfSome old (λ bytes. (held_by bytes ≡ Some hs) × Stands disk gate hs)
     → IfSome old (λ bytes. (held_by bytes ≡ Some hs) × EachStands disk.images hs)
 set-opened old disk gate hs h = if_told old (λ bytes p. (p.0, each-stands disk gate hs p.1)) h
-
-pub set-stands : (old : Told) (disk : SeenDisk) (gate : ℕ) (hs : List HeldTable) → TellsAlike old disk.told
-    → IfSome old (λ bytes. (held_by bytes ≡ Some hs) × Stands disk gate hs) → IfSome disk.told (λ _. Stands disk gate hs)
-set-stands old disk gate hs tells h = retold (Stands disk gate hs) old disk.told tells (if_told old (λ bytes p. p.1) h)

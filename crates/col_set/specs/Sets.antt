@@ -28,7 +28,8 @@ EachStands images hs = (c : List ℕ) → images.may_leave c → held_by c ≡ S
 
 -- what holds of every set: each image stands for the tables, unless the disk has failed
 abbrev pub StandsUnlessFailed : SeenDisk → ℕ → List HeldTable → Bool → Type 0
-StandsUnlessFailed disk gate hs failed = failed ≡ false → IfSome disk.told (λ _. Stands disk gate hs)
+StandsUnlessFailed disk gate hs failed =
+    failed ≡ false → IfSome disk.told (λ _. Stands disk gate hs)
 
 -- ---- changes
 
@@ -64,8 +65,8 @@ pub record ChangesSet {D : Type 0} (see : D → SeenDisk) (old new : SeenSet D)
   pub now : new.failed ≡ false
       → IfSome (see old.disk).told (λ _. EachStands (see new.disk).images new.held)
 
--- The same of the parts of a set that works: its disk, where the journal ends on it, its tables, and
--- the note of a fault; they are those of a set again.
+-- The same of the parts of a set that works: its disk, where the journal ends on it, its tables,
+-- and the note of a fault; they are those of a set again.
 pub record ChangesParts {D : Type 0} (see : D → SeenDisk) (old new : D) (gate : ℕ)
     (hs ks : List HeldTable) (failed : Bool) (result : Result (Unit {0}) ColumnarError)
     (expected : Result (List HeldTable) Refusal) : Type 0 where

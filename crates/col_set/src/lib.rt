@@ -13,4 +13,3 @@ pub use steps::{Step, run_steps};
 
 #[cfg(test)]
 mod tests;
-

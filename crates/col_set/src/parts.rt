@@ -22,7 +22,8 @@ pub(crate) fn append_file<D: Disk + Drop>(
     file: Vec<u8>,
 ) -> Result<(), ColumnarError>
     requires works { failed.old ≡ false }
-    requires stands { StandsUnlessFailed (D.seen journal.old.disk) journal.old.gate segments.old failed.old }
+    requires stands { StandsUnlessFailed
+        (D.seen journal.old.disk) journal.old.gate segments.old failed.old }
     ensures { ChangesParts D.seen journal.old.disk journal.new.disk journal.new.gate
         segments.old segments.new failed.new result (appended file.items segments.old) }
 {
@@ -48,7 +49,8 @@ pub(crate) fn drop_places<D: Disk + Drop>(
     ids: &[RowId],
 ) -> Result<(), ColumnarError>
     requires works { failed.old ≡ false }
-    requires stands { StandsUnlessFailed (D.seen journal.old.disk) journal.old.gate segments.old failed.old }
+    requires stands { StandsUnlessFailed
+        (D.seen journal.old.disk) journal.old.gate segments.old failed.old }
     ensures { ChangesParts D.seen journal.old.disk journal.new.disk journal.new.gate
         segments.old segments.new failed.new result (dropped ids.now segments.old) }
 {
@@ -72,7 +74,8 @@ pub(crate) fn compact_all<D: Disk + Drop>(
     failed: &mut bool,
 ) -> Result<Bytes, ColumnarError>
     requires works { failed.old ≡ false }
-    requires stands { StandsUnlessFailed (D.seen journal.old.disk) journal.old.gate segments.old failed.old }
+    requires stands { StandsUnlessFailed
+        (D.seen journal.old.disk) journal.old.gate segments.old failed.old }
     ensures changes { ChangesParts D.seen journal.old.disk journal.new.disk journal.new.gate
         segments.old segments.new failed.new (done_of result) (compacted segments.old) }
     ensures file { IfOk result (CompactsTo segments.old segments.new) }

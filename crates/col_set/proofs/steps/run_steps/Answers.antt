@@ -35,12 +35,12 @@ loop-step-preserved g c =
 
 pub returns-in_err-take_step : goal.returns-in_err-take_step
 returns-in_err-take_step g c =
-    let see = g.D.Disk.seen in
-    let old = c.args.set.now in
     let at = c.loop-step in
     let xs = c.args.steps.items in
     let x = c.in-Some.step in
     let left = into_iter_items c.next.new.self in
+    let see = g.D.Disk.seen in
+    let old = c.args.set.now in
     let steps : into_iter_items at.step-iterator ≡ x ∷ left = c.in-Some.ensures.steps.0 in
     let now = subst (RunsFrom see old at.set xs) steps at.invariant.0 in
     let p = err_from_is_err_and c.from_residual.result c.from_residual.ensures.1 in
