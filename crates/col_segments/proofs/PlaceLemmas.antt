@@ -4,7 +4,7 @@ use Rattle.std.specs.Prelude.{Result, Ok, Err, MatchResult}
 use Rattle.std.specs.Result.{is_ok}
 use Rattle.std.proofs.lemmas.Bool.{eq-eqb, ne_eqb, leb-true, and_parts, cases_lt}
 use Rattle.std.proofs.lemmas.List.{drop_more}
-use Rattle.col_segments.specs.Segments.{are_places, is_named}
+use Rattle.col_segments.specs.Segments.{are_places, is_listed}
 
 -- one place is looked at
 pub places_step : (first n : ℕ) (ids : List ℕ) (i : ℕ) → i < length ids
@@ -47,16 +47,16 @@ places-ascend first n (id ∷ ids) e (suc i) (suc j) le lt =
 
 -- ---- a place among those that ascend
 
-among-true : (ids : List ℕ) (x i : ℕ) → i < length ids → get_or ids i 0 ≡ x → is_named ids x ≡ true
+among-true : (ids : List ℕ) (x i : ℕ) → i < length ids → get_or ids i 0 ≡ x → is_listed ids x ≡ true
 among-true [] x i lt e = absurd (omega arith)
-among-true (id ∷ ids) x zero lt e = ap (λ b. b || is_named ids x) (eq-eqb id x e)
+among-true (id ∷ ids) x zero lt e = ap (λ b. b || is_listed ids x) (eq-eqb id x e)
 among-true (id ∷ ids) x (suc i) lt e = or_true (id == x) (among-true ids x i (omega arith) e)
   where
-    or_true : (a : Bool) → is_named ids x ≡ true → (a || is_named ids x) ≡ true
+    or_true : (a : Bool) → is_listed ids x ≡ true → (a || is_listed ids x) ≡ true
     or_true true h = refl
     or_true false h = h
 
-among-false : (ids : List ℕ) (x : ℕ) → ((k : ℕ) → k < length ids → get_or ids k 0 ≢ x) → is_named ids x ≡ false
+among-false : (ids : List ℕ) (x : ℕ) → ((k : ℕ) → k < length ids → get_or ids k 0 ≢ x) → is_listed ids x ≡ false
 among-false [] x none = refl
 among-false (id ∷ ids) x none = λ i. ne_eqb id x (none 0 (omega arith)) i || among-false ids x (λ k lt. none (suc k) (omega (arith, lt))) i
 
@@ -74,6 +74,6 @@ gap-other ids x i (le, below, above) k lt e =
 
 -- what a search by halves found
 pub among-searched : (ids : List ℕ) (x : ℕ) (r : Result ℕ ℕ)
-    → MatchResult r (λ i. (i < length ids) × (get_or ids i 0 ≡ x)) (IsGapAt ids x) → is_ok r ≡ is_named ids x
+    → MatchResult r (λ i. (i < length ids) × (get_or ids i 0 ≡ x)) (IsGapAt ids x) → is_ok r ≡ is_listed ids x
 among-searched ids x (Ok i) found = sym (among-true ids x i found.0 found.1)
 among-searched ids x (Err i) gap = sym (among-false ids x (gap-other ids x i gap))

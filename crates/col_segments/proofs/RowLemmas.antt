@@ -4,7 +4,7 @@ use Rattle.std.specs.Prelude.{if◌then◌else◌}
 use Rattle.std.specs.List.{AllByRecursion}
 use Rattle.std.proofs.Math.ListN.{set, length-set}
 use Rattle.std.proofs.lemmas.List.{append-nil, drop_more, take_all, take_more, take_more_set, drop-set-lt, get_or-drop}
-use Rattle.col_segments.specs.Segments.{is_named, rows_without}
+use Rattle.col_segments.specs.Segments.{is_listed, rows_without}
 
 -- the items behind the first
 abbrev pub tail_of : {A : Type 0} → List A → List A
@@ -15,13 +15,13 @@ tail_of (x ∷ xs) = xs
 
 -- the row, where its place isn't named
 abbrev kept_row : List ℕ → ℕ → ℕ → List ℕ
-kept_row ids place row = if is_named ids place then [] else row ∷ []
+kept_row ids place row = if is_listed ids place then [] else row ∷ []
 
 without-push : (ids : List ℕ) (place : ℕ) (rows : List ℕ) (row : ℕ)
     → rows_without ids place (rows ++ row ∷ []) ≡ rows_without ids place rows ++ kept_row ids (place + length rows) row
 without-push ids place [] row = ap (λ n. kept_row ids n row) (omega arith)
 without-push ids place (r ∷ rows) row =
-    by (is_named ids place) (rows_without ids (place + 1) (rows ++ row ∷ [])) (rows_without ids (place + 1) rows)
+    by (is_listed ids place) (rows_without ids (place + 1) (rows ++ row ∷ [])) (rows_without ids (place + 1) rows)
     (kept_row ids (place + suc (length rows)) row)
     (without-push ids (place + 1) rows row ∙ ap (λ n. rows_without ids (place + 1) rows ++ kept_row ids n row) (omega arith))
   where
@@ -54,7 +54,7 @@ module _ (ids : List ℕ) (first : ℕ) (old now : List ℕ) (at kept : ℕ) (wa
   inside : at < length old
   inside = omega (arith, was.long, within)
 
-  looked : (b : Bool) → is_named ids (first + at) ≡ b
+  looked : (b : Bool) → is_listed ids (first + at) ≡ b
       → rows_without ids first (take (at + 1) old)
       ≡ rows_without ids first (take at old) ++ (if b then [] else get_or old at 0 ∷ [])
   looked b is =
@@ -71,7 +71,7 @@ module _ (ids : List ℕ) (first : ℕ) (old now : List ℕ) (at kept : ℕ) (wa
   behind = ap tail_of (sym (drop_more now at 0 within) ∙ was.back ∙ drop_more old at 0 inside)
 
   -- a row that is dropped
-  pub keeps-fewer : is_named ids (first + at) ≡ true → Keeps ids first old (at + 1) kept now
+  pub keeps-fewer : is_listed ids (first + at) ≡ true → Keeps ids first old (at + 1) kept now
   keeps-fewer is = record {
     long = was.long;
     fewer = omega (arith, was.fewer);
@@ -80,7 +80,7 @@ module _ (ids : List ℕ) (first : ℕ) (old now : List ℕ) (at kept : ℕ) (wa
   }
 
   -- a row that stays
-  pub keeps-more : is_named ids (first + at) ≡ false → Keeps ids first old (at + 1) (kept + 1) (set now kept (get_or now at 0))
+  pub keeps-more : is_listed ids (first + at) ≡ false → Keeps ids first old (at + 1) (kept + 1) (set now kept (get_or now at 0))
   keeps-more is = record {
     long = length-set now kept (get_or now at 0) ∙ was.long;
     fewer = omega (arith, was.fewer);
@@ -106,7 +106,7 @@ same-item (x ∷ xs) (suc i) d lt = same-item xs i d (omega arith)
 -- no more rows stay than there were
 pub rows-fewer : (ids : List ℕ) (place : ℕ) (rows : List ℕ) → length (rows_without ids place rows) ≤ length rows
 rows-fewer ids place [] = omega arith
-rows-fewer ids place (row ∷ rows) = by (is_named ids place) (rows-fewer ids (place + 1) rows)
+rows-fewer ids place (row ∷ rows) = by (is_listed ids place) (rows-fewer ids (place + 1) rows)
   where
     by : (b : Bool) → length (rows_without ids (place + 1) rows) ≤ length rows
         → length (if b then rows_without ids (place + 1) rows else row ∷ rows_without ids (place + 1) rows) ≤ suc (length rows)
@@ -117,7 +117,7 @@ rows-fewer ids place (row ∷ rows) = by (is_named ids place) (rows-fewer ids (p
 pub rows-all : (P : ℕ → Type 0) (ids : List ℕ) (place : ℕ) (rows : List ℕ) → AllByRecursion P rows
     → AllByRecursion P (rows_without ids place rows)
 rows-all P ids place [] all = tt
-rows-all P ids place (row ∷ rows) all = by (is_named ids place) (rows-all P ids (place + 1) rows all.1)
+rows-all P ids place (row ∷ rows) all = by (is_listed ids place) (rows-all P ids (place + 1) rows all.1)
   where
     by : (b : Bool) → AllByRecursion P (rows_without ids (place + 1) rows)
         → AllByRecursion P (if b then rows_without ids (place + 1) rows else row ∷ rows_without ids (place + 1) rows)

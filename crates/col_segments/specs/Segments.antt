@@ -52,14 +52,14 @@ abbrev pub Ascends : List ℕ → Type 0
 Ascends ids = (i j : ℕ) → i ≤ j → j < length ids → slice_index ids i ≤ slice_index ids j
 
 -- the place is among those
-abbrev pub is_named : List ℕ → ℕ → Bool
-is_named ids place = list_any (λ id. id == place) ids
+abbrev pub is_listed : List ℕ → ℕ → Bool
+is_listed ids place = list_any (λ id. id == place) ids
 
 -- the rows, counted from a place on, but for those at the places that are named
 abbrev pub rows_without : List ℕ → ℕ → List ℕ → List ℕ
 rows_without ids place [] = []
 rows_without ids place (row ∷ rows) =
-    if is_named ids place then rows_without ids (place + 1) rows
+    if is_listed ids place then rows_without ids (place + 1) rows
     else row ∷ rows_without ids (place + 1) rows
 
 -- the same of all tables, whose rows are counted one after another

@@ -62,7 +62,7 @@ pub(crate) fn keep_rows(rows: &mut Vec<RowId>, ids: &[RowId], first: RowId)
 {
     let mut kept = 0;
     for at in 0..rows.len() {
-        if !is_named(ids, first + at as RowId) {
+        if !is_listed(ids, first + at as RowId) {
             rows[kept] = rows[at];
             kept += 1;
         }
@@ -71,9 +71,9 @@ pub(crate) fn keep_rows(rows: &mut Vec<RowId>, ids: &[RowId], first: RowId)
 }
 
 // Whether a place is among those named.
-fn is_named(ids: &[RowId], place: RowId) -> bool
+fn is_listed(ids: &[RowId], place: RowId) -> bool
     requires { Ascends ids.now }
-    ensures { result ≡ model.is_named ids.now place }
+    ensures { result ≡ model.is_listed ids.now place }
 {
     ids.binary_search(&place).is_ok()
 }
