@@ -27,6 +27,7 @@ state-more : (first : List ℕ) (entries : List Entry) (entry : Entry)
 state-more first entries entry = after-more (all_synced first) entries entry
 
 module _ (first : List ℕ) (entries : List Entry) where
+  -- a crash may leave it in the state after the entries
   abbrev LeftAfter : List ℕ → List Entry → Type 0
   LeftAfter c es = IsLeftIn (state_of first es) c
 
@@ -55,6 +56,7 @@ kept_first first bytes entries same none =
     subst (λ es. IsHistory first es bytes false) (sym none) (subst (λ b. IsHistory first [] b false) same kept)
 
 module _ {first bytes : List ℕ} {entries : List Entry} {pending : Bool} (kept : IsHistory first entries bytes pending) where
+  -- the state that the entries lead to
   abbrev s : State
   s = state_of first entries
 
@@ -66,18 +68,22 @@ module _ {first bytes : List ℕ} {entries : List Entry} {pending : Bool} (kept 
   module _ {at : ℕ} {asked old new : List ℕ} {w : Write} {room : List Entry} (later : List Entry) (old_is : old ≡ bytes)
       (was_made : IsMadeWrite at asked old w new) (le : at ≤ length bytes) (roomy : room ≡ entries)
       (wrote : later ≡ room ++ Wrote w ∷ []) where
+    -- what was made, of the bytes of the disk
     made : IsMadeWrite at asked bytes w new
     made = subst (λ l. IsMadeWrite at asked l w new) old_is was_made
 
+    -- the entries then
     more : later ≡ entries ++ Wrote w ∷ []
     more = wrote ∙ ap (λ (es : List Entry). es ++ Wrote w ∷ []) roomy
 
+    -- the place lies within
     there : w.pos ≤ length bytes
     there = omega (arith, made.pos, le)
 
     inside : w.pos ≤ length s.bytes
     inside = omega (arith, there, ap length kept.replayed)
 
+    -- what is kept of it
     pub kept_written : IsHistory first later new true
     kept_written =
         let state : state_of first later ≡ state_after s (Wrote w) = ap (state_of first) more ∙ state-more first entries (Wrote w) in
@@ -90,6 +96,7 @@ module _ {first bytes : List ℕ} {entries : List Entry} {pending : Bool} (kept 
           clean = λ p. absurd (cc p);
         }
 
+    -- an image then is one from before, torn
     write_tears : Tears at (length asked) (images_after first entries) (images_after first later)
     write_tears =
         let tears : Tears w.pos w.size (images_after first entries) (images_after first (entries ++ Wrote w ∷ [])) = record {
@@ -102,6 +109,7 @@ module _ {first bytes : List ℕ} {entries : List Entry} {pending : Bool} (kept 
         subst (λ n. Tears at n (images_after first entries) (images_after first later)) made.size
         (subst (λ p. Tears p w.size (images_after first entries) (images_after first later)) made.pos after)
 
+    -- the bytes then
     long : length new ≡ max (length bytes) (at + length w.bytes.items)
     long = omega (arith, ap length made.new_is, length-overwritten w.pos w.bytes.items bytes there, made.pos)
 
@@ -125,6 +133,7 @@ module _ {first bytes : List ℕ} {entries : List Entry} {pending : Bool} (kept 
         record { told = (new, refl, subst (Torn at (length asked) bytes) (sym new_at) torn); images = write_tears }
     write_leaves (Err Memory) fails faults now failed done_is whole small = absurd (cc failed)
 
+    -- so it meets what a disk's write promises
     pub writes : (r : Answer) (fails : Bool) (faults now : ℕ) → IsOkUnless r Failed → OnOk r (fails ≡ false)
         → (fails ≡ false → w.bytes.items ≡ asked) → length new < 2 ^ 64
         → HasCause faults now r → WritesAt (told_by_history first entries bytes faults) (told_by_history first later new now) at asked r
@@ -136,9 +145,11 @@ module _ {first bytes : List ℕ} {entries : List Entry} {pending : Bool} (kept 
 
   -- a sync that finds a write pending
   module _ (later : List Entry) (more : later ≡ entries ++ Synced ∷ []) where
+    -- all is on the disk then
     state : state_of first later ≡ all_synced s.bytes
     state = ap (state_of first) more ∙ state-more first entries Synced
 
+    -- what is kept of it
     pub kept_synced : IsHistory first later bytes false
     kept_synced = record {
       replayed = ap (λ (u : State). u.bytes) state ∙ kept.replayed;
@@ -146,6 +157,7 @@ module _ {first bytes : List ℕ} {entries : List Entry} {pending : Bool} (kept 
       clean = λ p. subst IsClean (sym state) (record { ranges = refl; base = refl });
     }
 
+    -- a crash leaves what is read, which it could leave before
     sync_only : Only bytes (images_after first later)
     sync_only c left =
         let clean : IsClean (all_synced s.bytes) = record { ranges = refl; base = refl } in
@@ -170,6 +182,7 @@ module _ {first bytes : List ℕ} {entries : List Entry} {pending : Bool} (kept 
           fewer = fewer;
         }
 
+    -- so it meets what a disk's sync promises
     pub sync_pending : (faults now : ℕ) → HasCause {T = Unit {0}} faults now (Ok tt)
         → Syncs (told_by_history first entries bytes faults) (told_by_history first later bytes now) (Ok tt)
     sync_pending faults now cause = record {
@@ -183,6 +196,7 @@ module _ {first bytes : List ℕ} {entries : List Entry} {pending : Bool} (kept 
   idle_only : pending ≡ false → Only bytes (images_after first entries)
   idle_only idle c left = clean_only s c (kept.clean idle) left ∙ kept.replayed
 
+  -- which meets it too
   pub sync_idle : pending ≡ false → (faults now : ℕ) → HasCause {T = Unit {0}} faults now (Ok tt)
       → Syncs (told_by_history first entries bytes faults) (told_by_history first entries bytes now) (Ok tt)
   sync_idle idle faults now cause = record {

@@ -66,6 +66,7 @@ still_outside at n i ranges free out = ⊎_elim
 -- Of an image after a write, the image before it: the bytes in the range as they were at the last sync, and nothing
 -- past the end that there was.
 module _ (base bytes c : List ℕ) (at n : ℕ) where
+  -- how many bytes it has, and which
   abbrev count : ℕ
   count = min (length c) (length bytes)
 
@@ -75,6 +76,7 @@ module _ (base bytes c : List ℕ) (at n : ℕ) where
   abbrev pub untorn_image : List ℕ
   untorn_image = map byte (range_with_len 0 count)
 
+  -- its length and its bytes, as they were defined
   long : length untorn_image ≡ min (length c) (length bytes)
   long = length-map-range_with_len byte 0 count
 

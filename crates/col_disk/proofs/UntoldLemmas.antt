@@ -20,6 +20,7 @@ untold_leaves (Ok done) at old new was now bytes failed reaches fits =
 untold_leaves (Err Failed) at old new was now bytes failed reaches fits = record { told = refl; images = anything_torn at (length bytes) }
 untold_leaves (Err Memory) at old new was now bytes failed reaches fits = absurd (cc failed)
 
+-- so it meets what a disk's write promises
 pub untold_writes : (r : Answer) (at old new was now : ℕ) (bytes : List ℕ) → old ≤ new → IsOkUnless r Failed
     → OnOk r (at + length bytes ≤ new) → OnOk r (at + length bytes < 2 ^ 64) → HasCause was now r
     → WritesAt (untold_disk old was) (untold_disk new now) at bytes r

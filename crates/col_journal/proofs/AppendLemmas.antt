@@ -26,9 +26,11 @@ refused e = Err e
 
 module _ (gate : ℕ) (changes : List Change) (change : Change) {old : SeenDisk} (disk : IsDisk old)
     (settled : IsSettled old gate changes) where
+  -- what a crash may leave
   abbrev P : List ℕ → Type 0
   P = IsBeforeOrAfter changes change
 
+  -- the change is written behind the gate
   abbrev Stages : SeenDisk → Answer → Type 0
   Stages mid r = WritesParts old mid (gate + 1) (behind_gate change) r
 
@@ -81,12 +83,15 @@ module _ (gate : ℕ) (changes : List Change) (change : Change) {old : SeenDisk}
 
   -- the write that opens the gate
   module _ {mid synced : SeenDisk} (between : IsDisk mid) (puts : Stages mid (Ok tt)) (syncs : Syncs mid synced (Ok tt)) where
+    -- the change is one that can be spelled
     fits : length change.bytes < 2 ^ 64
     fits = omega (arith, puts.fits, length-append change.bytes (0 ∷ []))
 
+    -- it stands on the disk
     on_disk : StagedOn synced
     on_disk = staged_on puts syncs
 
+    -- so a crash leaves the changes with it or without
     opening : {new : SeenDisk} {r : Answer} → WritesParts synced new gate (1 ∷ []) r → LeavesOnly old.images new.images P
     opening {new} {r} opens =
         let Q = MayBeTorn synced.images gate 1 in

@@ -54,6 +54,7 @@ change_at bytes gate size = (front_of_size (drop (gate + 1) bytes) size).0
 
 -- the bytes behind a gate, where a change of so many bytes stands there
 module _ (rest : List ℕ) (size : ℕ) (is : size ≡ told_length rest) (room : 9 + size ≤ length rest) where
+  -- the change, the eight bytes of its length, all of its bytes, and what follows
   abbrev change : Change
   change = (front_of_size rest size).0
 
@@ -66,6 +67,7 @@ module _ (rest : List ℕ) (size : ℕ) (is : size ≡ told_length rest) (room :
   abbrev tail : List ℕ
   tail = drop size (drop 9 rest)
 
+  -- how long each is
   eight_long : length eight ≡ 8
   eight_long = omega (arith, length-take 8 (drop 1 rest), length-drop 1 rest, room)
 
@@ -75,6 +77,7 @@ module _ (rest : List ℕ) (size : ℕ) (is : size ≡ told_length rest) (room :
   spelled_long : length spelled ≡ 9 + size
   spelled_long = omega (arith, length-append eight change.bytes, eight_long, bytes_long)
 
+  -- the bytes are the change's, and what follows
   rest_is : rest ≡ spelled ++ tail
   rest_is =
       let first : rest ≡ change.kind ∷ drop 1 rest = drop_more rest 0 0 (omega (arith, room)) in
@@ -84,6 +87,7 @@ module _ (rest : List ℕ) (size : ℕ) (is : size ≡ told_length rest) (room :
       first ∙ ap (λ (l : List ℕ). change.kind ∷ l) (second ∙ ap (λ (l : List ℕ). eight ++ l) third)
       ∙ sym (append_assoc (change.kind ∷ eight) change.bytes tail)
 
+  -- so the change is found there, whatever follows
   found : (tail : List ℕ) → front_change (spelled ++ tail) ≡ Some (change, tail)
   found tail =
       ap front_change (append_assoc (change.kind ∷ eight) change.bytes tail)
@@ -127,21 +131,25 @@ no_more rest short = go (nat_le (9 + told_length rest) (length rest)) refl
 
 -- the parts of a head, which begins at a gate
 module _ (bytes head : List ℕ) (gate n : ℕ) (is : head ≡ slice_range bytes gate (gate + n)) where
+  -- it is the first bytes from the gate on
   taken : head ≡ take n (drop gate bytes)
   taken = let count : gate + n - gate ≡ n = omega arith in is ∙ ap (λ (k : ℕ). take k (drop gate bytes)) count
 
+  -- the gate
   gate_byte : 0 < n → get_or head 0 0 ≡ get_or bytes gate 0
   gate_byte some =
       let place : gate + 0 ≡ gate = omega arith in
       ap (λ (l : List ℕ). get_or l 0 0) taken ∙ get_or-take n (drop gate bytes) 0 0 some ∙ get_or-drop gate bytes 0 0
       ∙ ap (λ (k : ℕ). get_or bytes k 0) place
 
+  -- the kind
   kind_byte : n ≡ 10 → get_or head 1 0 ≡ get_or (drop (gate + 1) bytes) 0 0
   kind_byte ten =
       let place : gate + 1 ≡ gate + 1 + 0 = omega arith in
       ap (λ (l : List ℕ). get_or l 1 0) taken ∙ get_or-take n (drop gate bytes) 1 0 (omega (arith, ten)) ∙ get_or-drop gate bytes 1 0
       ∙ ap (λ (k : ℕ). get_or bytes k 0) place ∙ sym (get_or-drop (gate + 1) bytes 0 0)
 
+  -- the length
   length_bytes : n ≡ 10 → from_le_bytes w64 (slice_range head 2 (length head)) ≡ told_length (drop (gate + 1) bytes)
   length_bytes ten =
       let rest : slice_range head 2 (length head) ≡ drop 2 head =
