@@ -11,7 +11,6 @@ use Rattle.col_model.proofs.StackTables.{not-refused}
 use Rattle.col_segments.specs.Files.{IsTableFile, table_in}
 use Rattle.col_segments.specs.RowIds.{row_ids}
 use Rattle.col_segments.specs.Segments.{HeldTable, alive_count, all_alive, whole_file, added_file, appended, with_more, are_places, without, dropped, spelled_dropped, changed}
-use Rattle.col_segments.specs.declared.kinds.TheConstants.{ADDED, DROPPED, REPLACED}
 use Rattle.col_segments.proofs.FileLemmas.{file-whole}
 use Rattle.col_writer_columns.specs.Answers.{answer_of, MayRefuse, Gives}
 
@@ -85,10 +84,10 @@ pub spelled : (bytes : List ℕ) (hs : List HeldTable) (ids : List ℕ) → or_r
 spelled bytes hs ids is = ap (λ r. r >>= λ ids. dropped ids hs) is
 
 -- no change is of another kind
-pub no-kind : (kind : ℕ) (bytes : List ℕ) (hs : List HeldTable) → kind ≢ ADDED → kind ≢ DROPPED → kind ≢ REPLACED
+pub no-kind : (kind : ℕ) (bytes : List ℕ) (hs : List HeldTable) → kind ≢ 0 → kind ≢ 1 → kind ≢ 2
     → changed kind bytes hs ≡ Err invalid_data
 no-kind kind bytes hs a b c = λ i.
-    if ne_eqb kind ADDED a i then appended bytes hs
-    else if ne_eqb kind DROPPED b i then spelled_dropped bytes hs
-    else if ne_eqb kind REPLACED c i then appended bytes []
+    if ne_eqb kind 0 a i then appended bytes hs
+    else if ne_eqb kind 1 b i then spelled_dropped bytes hs
+    else if ne_eqb kind 2 c i then appended bytes []
     else Err invalid_data

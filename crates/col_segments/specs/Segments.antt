@@ -6,7 +6,6 @@ use Rattle.col_model.specs.File.{table_of}
 use Rattle.col_model.specs.Refusal.{Refusal, ◌>>=◌, or_refuse, refuse_if, invalid_data, bad_order, too_large}
 use Rattle.col_model.specs.Table.{Table}
 use Rattle.col_segments.specs.RowIds.{row_ids}
-use Rattle.col_segments.specs.declared.kinds.TheConstants.{ADDED, DROPPED, REPLACED}
 
 -- a table, and the rows of it that are alive, ascending
 pub record HeldTable : Type 0 where
@@ -79,11 +78,11 @@ dropped ids hs =
 abbrev pub spelled_dropped : List ℕ → List HeldTable → Result (List HeldTable) Refusal
 spelled_dropped bytes hs = or_refuse (row_ids bytes) invalid_data >>= λ ids. dropped ids hs
 
--- What a change makes of the tables: a file behind the others, places whose rows are dropped, or a
--- file in place of all. InvalidData where it is of no such kind.
+-- What a change makes of the tables: 0 is a file behind the others, 1 places whose rows are
+-- dropped, 2 a file in place of all. InvalidData where it is of no such kind.
 abbrev pub changed : ℕ → List ℕ → List HeldTable → Result (List HeldTable) Refusal
 changed kind bytes hs =
-    if kind == ADDED then appended bytes hs
-    else if kind == DROPPED then spelled_dropped bytes hs
-    else if kind == REPLACED then appended bytes []
+    if kind == 0 then appended bytes hs
+    else if kind == 1 then spelled_dropped bytes hs
+    else if kind == 2 then appended bytes []
     else Err invalid_data
