@@ -1,4 +1,4 @@
-mod PartLemmas
+pub mod PartLemmas
 mod WordLemmas
 mod FindLemmas
 mod PlainLemmas

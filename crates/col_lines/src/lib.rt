@@ -10,7 +10,9 @@ mod row_order;
 mod term_type;
 
 pub use col_questions::TypedValue;
-pub use line::{Call, Line, parse_line, read_line};
+pub use line::{Call, Line, parse_json, parse_line, parse_shape, read_line};
+pub use parts::as_u32;
+pub use plain::parse_plain;
 pub use print::push_line;
 pub use row_order::{RowOrder, SortKey};
 pub use term_type::TermType;

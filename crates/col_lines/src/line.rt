@@ -90,7 +90,8 @@ fn parse_any(alloc: Global, piece: &[u8]) -> Result<Option<Line>, AllocError>
     }
 }
 
-fn parse_json(alloc: Global, piece: &[u8]) -> Result<Option<Value>, AllocError>
+/// The JSON value of a piece, none where it is no JSON text.
+pub fn parse_json(alloc: Global, piece: &[u8]) -> Result<Option<Value>, AllocError>
     ensures { IfOk result (λ value. option_map view value
         ≡ option_and_then read (only_if (is_utf8 piece.now) piece.now)) }
 {
@@ -126,8 +127,12 @@ fn parse_items(alloc: Global, items: &mut [Value]) -> Result<Option<Line>, Alloc
     }
 }
 
-// The line of a first word and the parts behind it.
-fn parse_shape(alloc: Global, head: &Value, rest: &mut [Value]) -> Result<Option<Line>, AllocError>
+/// The line of a first word and the parts behind it, none of a bad one.
+pub fn parse_shape(
+    alloc: Global,
+    head: &Value,
+    rest: &mut [Value],
+) -> Result<Option<Line>, AllocError>
     ensures { IfOk result (λ line. option_map script_line_of line
         ≡ line_among shapes (view head.now ∷ map view rest.old)) }
 {

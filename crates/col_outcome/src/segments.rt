@@ -29,8 +29,8 @@ pub fn segment_files(alloc: Global, segments: &[Segment]) -> Result<Vec<Bytes>, 
     Ok(files)
 }
 
-// The file of a segment, or its first refusal.
-fn segment_file(alloc: Global, segment: &Segment) -> Result<Bytes, ColumnarError>
+/// The file of a segment, or its first refusal.
+pub fn segment_file(alloc: Global, segment: &Segment) -> Result<Bytes, ColumnarError>
     ensures { (s : model.Segment) → filled s ≡ segment_of segment.now →
         Makes StandsFor result (segment_table s) }
 {

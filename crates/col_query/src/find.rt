@@ -142,8 +142,9 @@ pub(crate) fn docs_between(
     }
 }
 
-// Puts the documents with a value from one end to the other.
-fn put_between(
+/// Puts the documents of a range that have a value from one end to the other, which are values of
+/// the column's type; the list holds nothing else then. Refuses for want of memory alone.
+pub fn put_between(
     column: &DynamicColumn,
     lo: &QueryValue,
     hi: &QueryValue,

@@ -14,5 +14,5 @@ mod words;
 
 pub use answers::{answer, documents_of};
 pub use col_questions::{Query, QueryError, QueryValue, parse_query};
-pub use find::put_docs_between;
+pub use find::{put_between, put_docs_between};
 pub use laws::{and_takes_any_order, not_of_and_is_or_of_nots};

@@ -1,3 +1,3 @@
 mod PieceLemmas
-mod DraftLemmas
+pub mod DraftLemmas
 mod TakeLemmas

@@ -6,5 +6,5 @@ mod draft;
 mod script;
 mod segment;
 
-pub use script::{Script, parse_script};
+pub use script::{Script, parse_script, split_line};
 pub use segment::Segment;

@@ -40,8 +40,8 @@ pub fn parse_script(alloc: Global, bytes: &[u8]) -> Result<Option<Script>, Alloc
     Ok(Some(script))
 }
 
-// The bytes before the first line feed, and those behind it if there is one.
-fn split_line(bytes: &[u8]) -> (&[u8], Option<&[u8]>)
+/// The bytes before the first line feed, and those behind it if there is one.
+pub fn split_line(bytes: &[u8]) -> (&[u8], Option<&[u8]>)
     ensures pieces { slice_split (λ b. b == 10) bytes.now ≡ result.0.now ∷ pieces_left result.1 }
     ensures shorter { IfSome result.1 (λ rest. length rest.now < length bytes.now) }
 {
