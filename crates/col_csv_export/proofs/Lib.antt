@@ -1,5 +1,5 @@
 mod TextLemmas
-mod PuttingLemmas
+mod PutLemmas
 mod RecordLemmas
 mod BlockLemmas
 mod ExportLemmas

@@ -1,12 +1,14 @@
 -- What writing a file's table as CSV leaves. States docs/RULES.md, Tables as CSV.
-use Rattle.std.specs.Prelude.{◌≡◌, ℕ, true, false, List, Option, Some, None, Result, Ok, Err, IfSome}
+use Rattle.std.specs.Prelude.{◌≡◌, ℕ, true, false, List, Option, Some, None, Result, Ok, Err}
+use Rattle.std.specs.Prelude.{IfSome}
 use Rattle.col_common.specs.Causes.{Rose}
 use Rattle.col_common.specs.Outside.{SeenFile, SeenSink, Appends, Faulted}
 use Rattle.col_model.specs.File.{table_of}
 use Rattle.col_model.specs.Table.{Table}
 use Rattle.col_csv.specs.Csv.{csv_of, has_multivalued}
 use Rattle.col_csv.specs.declared.csv_error.CsvError.{CsvError}
-use Rattle.col_csv.specs.declared.csv_error.CsvError.TheVariants.{OutOfMemory, ReadFault, WriteFault, InvalidData, NotFlat}
+use Rattle.col_csv.specs.declared.csv_error.CsvError.TheVariants.{OutOfMemory, ReadFault}
+use Rattle.col_csv.specs.declared.csv_error.CsvError.TheVariants.{WriteFault, InvalidData, NotFlat}
 
 -- The text of a table was added, whose rows have at most one value of each column.
 pub record AddsText (a b : SeenSink) (expected : Option Table) : Type 0 where

@@ -1,10 +1,12 @@
 -- Records made of fields, and put into a sink one behind another.
-use Rattle.std.specs.Prelude.{◌≡◌, ◌<◌, ◌≤◌, ◌-◌, ◌⊎◌, ℕ, false, List, [], ◌++◌, map, Some, Result, Err, OnOk, IfErr}
+use Rattle.std.specs.Prelude.{◌≡◌, ◌<◌, ◌≤◌, ◌-◌, ◌⊎◌, ℕ, false, List, [], ◌++◌, map, Some, Result}
+use Rattle.std.specs.Prelude.{Err, OnOk, IfErr}
 use Rattle.std.specs.List.{range_with_len}
 use Rattle.std.specs.declared.vec.Vec.{Vec}
 use Rattle.std.specs.declared.alloc.Global.{Global}
 use Rattle.csv.specs.Records.{Row, fields_of, partial_of}
-use Rattle.csv.specs.Writing.{default_writer, fields_written, has_written, text_written, writer_setup}
+use Rattle.csv.specs.Writing.{default_writer, fields_written, has_written, text_written}
+use Rattle.csv.specs.Writing.{writer_setup}
 use Rattle.csv.specs.declared.writer.Writer.{Writer}
 use Rattle.col_common.specs.Outside.{SeenSink, Appends, Faulted, Grows}
 use Rattle.col_common.specs.declared.error.ColumnarError.{ColumnarError}

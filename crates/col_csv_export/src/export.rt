@@ -103,7 +103,7 @@ fn write_records<K: Sink>(
 }
 
 // Puts the first record.
-#[tactic(auto, using(crate::proofs::PuttingLemmas::puts_fields, crate::proofs::PuttingLemmas::puts_no_memory,))]
+#[tactic(auto, using(crate::proofs::PutLemmas::puts_fields, crate::proofs::PutLemmas::puts_memory))]
 fn put_header<K: Sink>(
     alloc: Global,
     columns: &[OpenColumn],

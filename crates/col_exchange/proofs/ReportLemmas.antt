@@ -15,6 +15,7 @@ pub behind-nothing : (told : Option (List ℕ)) (before after : List ℕ) (repor
 behind-nothing None before after report none same h = tt
 behind-nothing (Some bytes) before after report none same h = by (table_of bytes) h
   where
-    by : (o : Option Table) → IsExpected (λ t (_ : Unit {0}). after ≡ before ++ report_of t [] true) tt o → IsExpected IsShortReport report o
+    by : (o : Option Table) → IsExpected (λ t (_ : Unit {0}). after ≡ before ++ report_of t [] true) tt o
+        → IsExpected IsShortReport report o
     by None h = absurd h
     by (Some t) h = same ∙ h ∙ ap (λ b. b ++ report_of t [] true) none

@@ -1,13 +1,15 @@
 -- One input written as CSV, and a CSV text written as a file, each with a report. States
 -- docs/RULES.md, Tables as CSV.
-use Rattle.std.specs.Prelude.{◌≡◌, ◌≤◌, ◌+◌, ℕ, true, false, List, [], ◌∷◌, length, Option, Some, None, Result, Ok, Err, IfSome}
+use Rattle.std.specs.Prelude.{◌≡◌, ◌≤◌, ◌+◌, ℕ, true, false, List, [], ◌∷◌, length, Option, Some}
+use Rattle.std.specs.Prelude.{None, Result, Ok, Err, IfSome}
 use Rattle.std.specs.declared.alloc.Global.{Global}
 use Rattle.std.specs.declared.vec.Vec.{Vec}
 use Rattle.col_common.specs.Causes.{Rose}
 use Rattle.col_common.specs.Outside.{SeenFile}
 use Rattle.col_csv.specs.Csv.{csv_of, has_multivalued}
 use Rattle.col_csv.specs.declared.csv_error.CsvError.{CsvError}
-use Rattle.col_csv.specs.declared.csv_error.CsvError.TheVariants.{OutOfMemory, ReadFault, InvalidData, NotFlat, BadCsv}
+use Rattle.col_csv.specs.declared.csv_error.CsvError.TheVariants.{OutOfMemory, ReadFault}
+use Rattle.col_csv.specs.declared.csv_error.CsvError.TheVariants.{InvalidData, NotFlat, BadCsv}
 use Rattle.col_exchange.specs.declared.exporting.Exchanged.{Exchanged}
 use Rattle.col_file.specs.Files.{IsExpected, ReadsFile}
 use Rattle.col_model.specs.File.{Part, StandsFor, parts_of, table_of}

@@ -1,6 +1,7 @@
 //! One input written as CSV, and the report on it.
 ghost use Rattle.std.specs.Prelude.{◌≡◌, ◌+◌, length, map, vec_len};
-ghost use Rattle.col_exchange.specs.Exchanges.{AnswersWithText, ExportsInput, ExportsOne, IsExport, IsText};
+ghost use Rattle.col_exchange.specs.Exchanges.{AnswersWithText, ExportsInput, ExportsOne};
+ghost use Rattle.col_exchange.specs.Exchanges.{IsExport, IsText};
 ghost use Rattle.col_file.specs.Files.{ReadsFile};
 ghost use Rattle.col_file.specs.Readers.{Reads};
 

@@ -1,5 +1,5 @@
-//! Tables exchanged with CSV: one input written as a text, and a text written as a file, each with a
-//! short report on the table. Contracts see what the definitions make of them.
+//! Tables exchanged with CSV: one input written as a text, and a text written as a file, each with
+//! a short report on the table. Contracts see what the definitions make of them.
 #![tactic(auto)]
 
 mod exporting;

@@ -3,7 +3,7 @@ use Rattle.std.proofs.lemmas.Result.{err_from_is_err_and}
 use Rattle.col_csv.specs.Csv.{records_text, row_records}
 use Rattle.col_csv_export.specs.Putting.{PutsText}
 use Rattle.col_opened.specs.Opened.{column_of}
-use Rattle.col_csv_export.proofs.PuttingLemmas.{puts-nothing, puts-then, puts-refused}
+use Rattle.col_csv_export.proofs.PutLemmas.{puts-nothing, puts-then, puts-refused}
 use Rattle.col_csv_export.proofs.BlockLemmas.{rows-joined}
 use Rattle.col_csv_export.proofs.export.put_rows.Goals as goal
 

@@ -1,5 +1,5 @@
 use Rattle.std.proofs.lemmas.Result.{err_from_is_err_and}
-use Rattle.col_csv_export.proofs.PuttingLemmas.{texts-refused, texts-written}
+use Rattle.col_csv_export.proofs.PutLemmas.{texts-refused, texts-written}
 use Rattle.col_csv_export.proofs.export.write_records.Goals as goal
 
 pub returns-in_err-put_rows : goal.returns-in_err-put_rows

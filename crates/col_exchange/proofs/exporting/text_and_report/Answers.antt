@@ -10,7 +10,8 @@ returns-in_err-bytes-clause-answer g c =
 pub returns-in_err-report-clause-answer : goal.returns-in_err-report-clause-answer
 returns-in_err-report-clause-answer g c =
     let p = err_from_is_err_and c.from_residual-in_err-report.result c.from_residual-in_err-report.ensures.1 in
-    rw p.1 (report-refused c.args.reader.now.file c.text_of.new.reader.file c.short_report.new.reader.file _ _ p.0 p.2 c.in_ok-bytes.ensures.kept.file c.in_err-report.ensures.answer)
+    rw p.1 (report-refused c.args.reader.now.file c.text_of.new.reader.file c.short_report.new.reader.file
+    _ _ p.0 p.2 c.in_ok-bytes.ensures.kept.file c.in_err-report.ensures.answer)
 
 pub returns-clause-answer : goal.returns-clause-answer
 returns-clause-answer g c =

@@ -55,8 +55,8 @@ puts-refused a b c done e s t u xs ys zs first second =
     puts-stopped a c e s u s u (xs ++ ys) zs (puts-then a b c done (Err e) s t u xs ys first second)
 
 -- want of memory before anything was put
-pub puts_no_memory : (a : SeenSink) (s t xs : List ℕ) → PutsText a a (Err OutOfMemory) s t xs
-puts_no_memory a s t xs = record {
+pub puts_memory : (a : SeenSink) (s t xs : List ℕ) → PutsText a a (Err OutOfMemory) s t xs
+puts_memory a s t xs = record {
   ok = tt;
   grown = ([], appends_none a);
   later = omega arith;
