@@ -1,10 +1,9 @@
 -- Files that are added, and rows that are dropped.
-use Rattle.std.proofs.Common.{◌≡◌, ◌≢◌, inl, inr, ℕ, ◌+◌, ◌<◌, ◌≤◌, ◌^◌, Bool, true, false, not, nat_le, List, [], ◌∷◌, ◌++◌, length, Result, Ok, Err, refl, sym, ap, ◌∙◌, subst, arith}
+use Rattle.std.proofs.Common.{◌≡◌, ◌≢◌, inl, inr, ℕ, ◌+◌, ◌<◌, ◌≤◌, ◌^◌, true, false, not, nat_le, List, [], ◌∷◌, ◌++◌, length, Result, Ok, Err, refl, sym, ap, ◌∙◌, subst, arith}
 use Rattle.std.specs.Prelude.{if◌then◌else◌}
 use Rattle.std.proofs.lemmas.Bool.{le-leb, lt-leb, leb-false, ne_eqb}
 use Rattle.std.proofs.lemmas.List.Sums.{sum_by-append, sum_by-cons}
 use Rattle.col_common.specs.declared.error.ColumnarError.{ColumnarError}
-use Rattle.col_common.specs.declared.error.ColumnarError.TheVariants.{TooLarge}
 use Rattle.col_model.specs.Refusal.{Refusal, ◌>>=◌, refuse_if, or_refuse, invalid_data, bad_order, too_large}
 use Rattle.col_model.proofs.RefusalLaws.{bind-ok, refuse_if-ok, same_Ok}
 use Rattle.col_model.proofs.StackTables.{not-refused}
@@ -12,7 +11,7 @@ use Rattle.col_segments.specs.Files.{IsTableFile, table_in}
 use Rattle.col_segments.specs.RowIds.{row_ids}
 use Rattle.col_segments.specs.Segments.{HeldTable, alive_count, all_alive, whole_file, added_file, appended, with_more, are_places, without, dropped, spelled_dropped, changed}
 use Rattle.col_segments.proofs.FileLemmas.{file-whole}
-use Rattle.col_writer_columns.specs.Answers.{answer_of, MayRefuse, Gives}
+use Rattle.col_writer_columns.specs.Answers.{MayRefuse}
 
 -- a file that isn't opened isn't added
 pub added-refused : (bytes : List ℕ) (hs : List HeldTable) (e : ColumnarError) → MayRefuse (whole_file bytes) e

@@ -1,14 +1,14 @@
 -- What refuses a compaction.
-use Rattle.std.proofs.Common.{◌≡◌, ◌⊎◌, inl, inr, ◌<◌, ◌+◌, ◌^◌, ◌==◌, ◌&&◌, ◌||◌, not, nat_lt, nat_le, ℕ, zero, suc, Bool, true, false, cond, List, [], ◌∷◌, ◌++◌, map, find, flat_map, filter_map, length, slice_get, Option, Some, None, option_map, option_and_then, is_some, is_none, unwrap_or, Result, Ok, Err, refl, sym, ap, ◌∙◌, subst, arith}
-use Rattle.std.specs.Prelude.{⊤, if◌then◌else◌}
-use Rattle.std.specs.List.{list_all, list_any, enumerate_from, AllByRecursion}
+use Rattle.std.proofs.Common.{◌≡◌, ◌⊎◌, inl, inr, ◌<◌, ◌+◌, ◌^◌, ◌==◌, ◌&&◌, not, nat_lt, nat_le, ℕ, suc, Bool, true, false, cond, List, [], ◌∷◌, map, flat_map, filter_map, length, slice_get, Option, Some, None, option_map, unwrap_or, Result, Ok, Err, refl, sym, ap, ◌∙◌, subst, arith}
+use Rattle.std.specs.Prelude.{if◌then◌else◌}
+use Rattle.std.specs.List.{list_all, enumerate_from, AllByRecursion}
 use Rattle.std.proofs.lemmas.Bool.{lt-ltb}
 use Rattle.std.proofs.lemmas.List.Folds.{list_all-append}
-use Rattle.col_model.specs.Category.{Slot, same_slot}
+use Rattle.col_model.specs.Category.{Slot}
 use Rattle.col_model.specs.ColumnType.{ColumnType}
-use Rattle.col_model.specs.File.{PartColumn, part_of_column, part_of_table, whole_column}
+use Rattle.col_model.specs.File.{part_of_table}
 use Rattle.col_model.specs.Limits.{is_too_large}
-use Rattle.col_model.specs.Merge.{part_slot, column_in, whole_column_in, has_bad_column, joined_column, joined_content, joined_type, kept_columns, shared_type, all_slots, row_counts, merged}
+use Rattle.col_model.specs.Merge.{joined_column, joined_content, joined_type, kept_columns, shared_type, all_slots, row_counts, merged}
 use Rattle.col_model.specs.Order.{Order, has_row, picks, shuffle}
 use Rattle.col_model.specs.Refusal.{Refusal, ◌>>=◌, or_refuse, refuse_if, each_ok, bad_order, invalid_data, numerical_conflict, too_large}
 use Rattle.col_model.specs.Table.{Column, Content, Table}
@@ -17,7 +17,7 @@ use Rattle.col_model.proofs.SeenLaws.{not-zero}
 use Rattle.col_model.proofs.StackSeen.{none-bad}
 use Rattle.col_order.proofs.PickLemmas.{picks-shuffle}
 use Rattle.col_segments.specs.Compaction.{HasItsRows, IsCompactRefusal, CompactsOrConflicts}
-use Rattle.col_segments.specs.Live.{with_alive, addresses, merged_alive, compacted}
+use Rattle.col_segments.specs.Live.{with_alive, addresses, merged_alive}
 use Rattle.col_segments.specs.Segments.{HeldTable, all_alive}
 
 -- ---- one slot

@@ -1,6 +1,6 @@
 -- Files in memory that are opened.
-use Rattle.std.proofs.Common.{◌≡◌, inl, inr, ℕ, zero, suc, ◌+◌, ◌<◌, ◌≤◌, ◌^◌, ◌&&◌, Bool, true, false, List, [], ◌∷◌, ◌++◌, map, length, Option, Some, None, is_some, unwrap_or, option_and_then, Result, Ok, Err, IfSome, refl, sym, ap, ◌∙◌, subst, arith, add-one}
-use Rattle.std.specs.List.{AllByRecursion, list_all, range_with_len}
+use Rattle.std.proofs.Common.{◌≡◌, inl, inr, ℕ, ◌+◌, ◌<◌, ◌^◌, ◌&&◌, Bool, true, false, List, [], ◌∷◌, ◌++◌, map, length, Option, Some, None, is_some, unwrap_or, option_and_then, Ok, Err, IfSome, refl, sym, ap, ◌∙◌, subst, arith}
+use Rattle.std.specs.List.{list_all, range_with_len}
 use Rattle.std.proofs.lemmas.List.FromFn.{length-range_with_len}
 use Rattle.std.proofs.lemmas.Option.{same_Some}
 use Rattle.col_common.specs.Causes.{Rose}
@@ -12,12 +12,13 @@ use Rattle.col_file.specs.Files.{RefusesFile}
 use Rattle.col_file.specs.Readers.{SeenReader}
 use Rattle.col_model.specs.File.{Part, PartColumn, parts_of, part_column, part_of_table, table_of, table_of_part, whole_column, for_each}
 use Rattle.col_model.specs.Keys.{Entry, FileKeys, keys}
-use Rattle.col_model.specs.Refusal.{Refusal, ◌>>=◌, or_refuse, invalid_data}
+use Rattle.col_model.specs.Refusal.{◌>>=◌, or_refuse, invalid_data}
 use Rattle.col_model.specs.Table.{Column, Content, Table}
 use Rattle.col_model.proofs.ListLaws.{range-more}
 use Rattle.col_model.proofs.PartLaws.{whole-table}
 use Rattle.col_segments.specs.Files.{no_table, table_in, IsTableFile, IsWhole, ReadsTable, OpensBytes}
-use Rattle.col_segments.specs.Segments.{all_alive, whole_file}
+use Rattle.col_segments.specs.Segments.{all_alive, are_places, whole_file}
+use Rattle.col_segments.proofs.PlaceLemmas.{places-range}
 use Rattle.col_writer_columns.specs.Answers.{MayRefuse}
 
 -- ---- the end of a file
@@ -136,10 +137,6 @@ reader-of bytes r is told read = record {
 pub range-from : (n : ℕ) → range_with_len 0 (n + 1) ≡ range_with_len 0 n ++ n ∷ []
 range-from n = range-more 0 n ∙ ap (λ m. range_with_len 0 n ++ m ∷ []) (omega arith)
 
-rows-below : (k n m : ℕ) → k + n ≤ m → AllByRecursion (λ row. row < m) (range_with_len k n)
-rows-below k zero m le = tt
-rows-below k (suc n) m le = (omega (arith, le), rows-below (k + 1) n m (omega (arith, le)))
-
 -- the rows of a file, all of which are alive
 module _ (bytes : List ℕ) (r : SeenReader) (rows : List ℕ) (n : ℕ) (is : IsTableFile bytes) (reads : ReadsTable (table_in bytes) r)
     (counted : n ≡ r.keys.row_count) (all : rows ≡ range_with_len 0 n) where
@@ -150,8 +147,8 @@ module _ (bytes : List ℕ) (r : SeenReader) (rows : List ℕ) (n : ℕ) (is : I
   rows-whole fits = record {
     table = is;
     rows =
-        subst (AllByRecursion (λ row. row < (table_in bytes).row_count)) (sym all)
-        (rows-below 0 n (table_in bytes).row_count (omega (arith, as_many)));
+        subst (λ (rows : List ℕ). are_places 0 (table_in bytes).row_count rows ≡ true) (sym all)
+        (places-range 0 n (table_in bytes).row_count (omega (arith, as_many)));
     few = omega (arith, ap length all, length-range_with_len 0 n, fits);
   }
 

@@ -3,6 +3,8 @@ pub mod AddLemmas
 pub mod ConflictLemmas
 mod DropLemmas
 mod FileLemmas
+mod FindLemmas
+mod FindsLemmas
 mod FoundLemmas
 mod IdLemmas
 mod KeptLemmas

@@ -1,5 +1,5 @@
 -- Compaction keeps the rows that are alive.
-use Rattle.std.proofs.Common.{◌≡◌, ℕ, suc, ◌+◌, ◌==◌, not, Bool, true, false, cond, List, [], ◌∷◌, ◌++◌, map, find, flat_map, length, slice_get, Option, Some, option_map, option_and_then, unwrap_or, refl, sym, ap, ◌∙◌, arith, length-append}
+use Rattle.std.proofs.Common.{◌≡◌, ℕ, suc, ◌+◌, ◌==◌, not, Bool, true, false, cond, List, [], ◌∷◌, ◌++◌, map, find, flat_map, length, slice_get, Option, Some, option_map, option_and_then, unwrap_or, refl, ap, ◌∙◌, arith, length-append}
 use Rattle.std.specs.Prelude.{Ok}
 use Rattle.std.specs.List.{range_with_len, enumerate_from}
 use Rattle.std.proofs.lemmas.List.{map-append, append-nil, length-map}
@@ -19,7 +19,7 @@ use Rattle.col_segments.proofs.PickedLemmas.{merged-rows, rows_at}
 -- ---- the rows of tables
 
 -- a column of a table, as a part has it
-part-column : (slot : Slot) (cs : List Column)
+pub part-column : (slot : Slot) (cs : List Column)
     → option_and_then whole_column (find (λ c. same_slot (part_slot c) slot) (map part_of_column cs)) ≡ column_at slot cs
 part-column slot [] = refl
 part-column slot (c ∷ cs) = by (same_slot (column_slot c) slot) (part-column slot cs)

@@ -1,5 +1,5 @@
 -- The rows alive of segments as one file.
-use Rattle.std.proofs.Common.{◌≡◌, inl, inr, ◌+◌, ◌^◌, nat_le, Bool, true, false, option_and_then, length, ℕ, List, [], ◌∷◌, ◌++◌, map, Option, Some, None, IfSome, Result, Ok, Err, refl, sym, ap, ap₂, ◌∙◌, subst}
+use Rattle.std.proofs.Common.{◌≡◌, inl, inr, ◌+◌, ◌^◌, nat_le, Bool, true, false, option_and_then, length, ℕ, List, [], ◌∷◌, ◌++◌, map, Option, Some, IfSome, Result, Ok, Err, refl, sym, ap, ap₂, ◌∙◌, subst}
 use Rattle.std.specs.Prelude.{IfOk, IfErr}
 use Rattle.std.specs.List.{AllZip}
 use Rattle.std.proofs.lemmas.Option.{same_Some}
@@ -8,8 +8,8 @@ use Rattle.col_common.specs.declared.error.ColumnarError.{ColumnarError}
 use Rattle.col_common.specs.declared.error.ColumnarError.TheVariants.{OutOfMemory, NumericalConflict, TooLarge}
 use Rattle.col_file.specs.Readers.{SeenReader, Reads}
 use Rattle.col_merge.specs.Merges.{AddsTable, MergesFiles}
-use Rattle.col_merge.specs.Parts.{told_part, told_parts}
-use Rattle.col_merge.specs.Readings.{AllStay}
+use Rattle.col_merge.specs.Parts.{told_parts}
+use Rattle.col_merge.specs.Readings.{AllRead, AllStay}
 use Rattle.col_merge.specs.Turns.{RefusesMerge, RefusesParts, refusal_of}
 use Rattle.col_merge_plan.specs.Slots.{counts_read}
 use Rattle.col_model.specs.File.{Part, StandsFor, parts_of, part_of_table}
@@ -28,19 +28,25 @@ use Rattle.col_writer_columns.specs.Answers.{MayRefuse}
 -- ---- open files of tables
 
 -- a file that was read has its table still
-read-again : (t : Table) (old new : SeenReader) → ReadsTable t old → Reads (length old.keys.entries) old new → ReadsTable t new
-read-again t old new is reads = record {
+read-again : (times : FileKeys → ℕ) (t : Table) (old new : SeenReader) → ReadsTable t old → Reads (times old.keys) old new
+    → ReadsTable t new
+read-again times t old new is reads = record {
   part = ap (option_and_then parts_of) reads.file.told ∙ is.part;
   rows = ap (λ (k : FileKeys). k.row_count) reads.keys ∙ is.rows;
 }
 
 -- the same of all
-pub all-again : (hs : List HeldTable) (olds news : List SeenReader) → AreOpenBeside hs olds → AllStay olds news → AreOpenBeside hs news
-all-again hs olds news are stay = record {
+pub all-read : (times : FileKeys → ℕ) (hs : List HeldTable) (olds news : List SeenReader) → AreOpenBeside hs olds
+    → AllRead times olds news → AreOpenBeside hs news
+all-read times hs olds news are stay = record {
   few = are.few;
   open_ =
-      zip-through ReadsTable (λ old new. Reads (length old.keys.entries) old new) (kept_tables hs) olds news read-again are.open_ stay;
+      zip-through ReadsTable (λ old new. Reads (times old.keys) old new) ReadsTable (kept_tables hs) olds news (read-again times)
+      are.open_ stay;
 }
+
+pub all-again : (hs : List HeldTable) (olds news : List SeenReader) → AreOpenBeside hs olds → AllStay olds news → AreOpenBeside hs news
+all-again = all-read (λ k. length k.entries)
 
 -- the parts of the files are those of the tables
 files-parts : (tables : List Table) (rs : List SeenReader) → AllZip ReadsTable tables rs → told_parts rs ≡ Some (map part_of_table tables)

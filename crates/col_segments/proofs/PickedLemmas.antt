@@ -1,5 +1,5 @@
 -- The rows of a merged table are those that are picked.
-use Rattle.std.proofs.Common.{◌≡◌, inl, inr, ℕ, zero, suc, ◌+◌, ◌^◌, nat_le, List, [], ◌∷◌, map, filter_map, length, slice_get, Option, Some, None, option_map, unwrap_or, refl, sym, ap, ◌∙◌, arith}
+use Rattle.std.proofs.Common.{◌≡◌, inl, inr, ℕ, zero, suc, ◌+◌, ◌^◌, nat_le, List, [], ◌∷◌, map, filter_map, length, slice_get, Option, Some, None, option_map, unwrap_or, refl, sym, ap, ◌∙◌}
 use Rattle.std.specs.Prelude.{Result, Ok, ⊤}
 use Rattle.std.specs.List.{range_with_len}
 use Rattle.col_model.specs.Category.{Slot}

@@ -1,9 +1,11 @@
 -- Places of rows that are dropped.
-use Rattle.std.proofs.Common.{◌≡◌, ◌≢◌, ◌⊎◌, ⊎_elim, inl, inr, ◌||◌, ℕ, zero, suc, ◌+◌, ◌<◌, ◌≤◌, ◌==◌, ◌&&◌, Bool, true, false, nat_le, nat_lt, List, [], ◌∷◌, length, drop, get_or, refl, sym, ap, arith}
+use Rattle.std.proofs.Common.{◌≡◌, ◌≢◌, ⊎_elim, ◌||◌, ℕ, zero, suc, ◌+◌, ◌<◌, ◌≤◌, ◌==◌, ◌&&◌, Bool, true, false, nat_le, nat_lt, List, [], ◌∷◌, length, drop, get_or, refl, sym, ap, arith}
 use Rattle.std.specs.Prelude.{Result, Ok, Err, MatchResult}
+use Rattle.std.specs.List.{AllByRecursion, range_with_len}
 use Rattle.std.specs.Result.{is_ok}
-use Rattle.std.proofs.lemmas.Bool.{eq-eqb, ne_eqb, leb-true, and_parts, cases_lt}
+use Rattle.std.proofs.lemmas.Bool.{eq-eqb, ne_eqb, le-leb, lt-ltb, cases_lt}
 use Rattle.std.proofs.lemmas.List.{drop_more}
+use Rattle.col_places.proofs.WalkLemmas.{places-first, places-last, places-rest}
 use Rattle.col_segments.specs.Segments.{are_places, is_listed}
 
 -- one place is looked at
@@ -14,22 +16,11 @@ places_step first n ids i within = ap (are_places first n) (drop_more ids i 0 wi
 
 -- ---- places ascend
 
-module _ (first n id : ℕ) (ids : List ℕ) (places : are_places first n (id ∷ ids) ≡ true) where
-  -- those behind the first are places
-  places-rest : are_places (id + 1) n ids ≡ true
-  places-rest = (and_parts (nat_le first id && nat_lt id n) (are_places (id + 1) n ids) places).1
-
-  -- and it isn't before the first row
-  places-here : first ≤ id
-  places-here =
-      let here = (and_parts (nat_le first id && nat_lt id n) (are_places (id + 1) n ids) places).0 in
-      leb-true first id (and_parts (nat_le first id) (nat_lt id n) here).0
-
 places-from : (first n : ℕ) (ids : List ℕ) (i : ℕ) → are_places first n ids ≡ true → i < length ids → first ≤ get_or ids i 0
 places-from first n [] i e lt = absurd (omega arith)
-places-from first n (id ∷ ids) zero e lt = places-here first n id ids e
+places-from first n (id ∷ ids) zero e lt = places-first first n id ids e
 places-from first n (id ∷ ids) (suc i) e lt =
-    let here = places-here first n id ids e in
+    let here = places-first first n id ids e in
     let later = places-from (id + 1) n ids i (places-rest first n id ids e) (omega arith) in
     omega (arith, here, later)
 
@@ -44,6 +35,19 @@ places-ascend first n (id ∷ ids) e zero (suc j) le lt =
 places-ascend first n (id ∷ ids) e (suc i) zero le lt = absurd (omega arith)
 places-ascend first n (id ∷ ids) e (suc i) (suc j) le lt =
     places-ascend (id + 1) n ids (places-rest first n id ids e) i j (omega arith) (omega arith)
+
+-- each is below the end
+pub places-below : (first end_ : ℕ) (ids : List ℕ) → are_places first end_ ids ≡ true → AllByRecursion (λ id. id < end_) ids
+places-below first end_ [] e = tt
+places-below first end_ (id ∷ ids) e =
+    (places-last first end_ id ids e, places-below (id + 1) end_ ids (places-rest first end_ id ids e))
+
+-- all rows of a table
+pub places-range : (k n end_ : ℕ) → k + n ≤ end_ → are_places k end_ (range_with_len k n) ≡ true
+places-range k zero end_ le = refl
+places-range k (suc n) end_ le =
+    let rest = places-range (k + 1) n end_ (omega (arith, le)) in
+    λ i. le-leb k k (omega arith) i && lt-ltb k end_ (omega (arith, le)) i && rest i
 
 -- ---- a place among those that ascend
 

@@ -1,5 +1,5 @@
 -- What stands beside the tables that have a row alive, one for each.
-use Rattle.std.proofs.Common.{◌≡◌, ℕ, zero, suc, ◌+◌, ◌-◌, ◌<◌, ◌≤◌, ◌==◌, not, Bool, true, false, cond, List, [], ◌∷◌, ◌++◌, length, take, get_or, map, refl, sym, ap, ◌∙◌, subst, arith, length-append}
+use Rattle.std.proofs.Common.{◌≡◌, ℕ, zero, suc, ◌+◌, ◌-◌, ◌<◌, ◌≤◌, ◌==◌, not, Bool, true, false, cond, List, [], ◌∷◌, ◌++◌, length, take, get_or, map, sym, ap, ◌∙◌, subst, arith, length-append}
 use Rattle.std.specs.List.{AllZip, remove}
 use Rattle.std.proofs.Math.ListN.{set}
 use Rattle.std.proofs.lemmas.List.{map-append, length-map}
@@ -34,14 +34,14 @@ zip-weaker R Q (x ∷ xs) [] f all = absurd all
 zip-weaker R Q (x ∷ xs) (y ∷ ys) f all = (f x y all.0, zip-weaker R Q xs ys f all.1)
 
 -- one list beside two others
-pub zip-through : {A B : Type 0} (R : A → B → Type 0) (S : B → B → Type 0) (xs : List A) (ys zs : List B)
-    → ((x : A) (y z : B) → R x y → S y z → R x z) → AllZip R xs ys → AllZip S ys zs → AllZip R xs zs
-zip-through R S [] [] [] f all also = tt
-zip-through R S [] [] (z ∷ zs) f all also = absurd also
-zip-through R S [] (y ∷ ys) zs f all also = absurd all
-zip-through R S (x ∷ xs) [] zs f all also = absurd all
-zip-through R S (x ∷ xs) (y ∷ ys) [] f all also = absurd also
-zip-through R S (x ∷ xs) (y ∷ ys) (z ∷ zs) f all also = (f x y z all.0 also.0, zip-through R S xs ys zs f all.1 also.1)
+pub zip-through : {A B C : Type 0} (R : A → B → Type 0) (S : B → C → Type 0) (Q : A → C → Type 0) (xs : List A) (ys : List B)
+    (zs : List C) → ((x : A) (y : B) (z : C) → R x y → S y z → Q x z) → AllZip R xs ys → AllZip S ys zs → AllZip Q xs zs
+zip-through R S Q [] [] [] f all also = tt
+zip-through R S Q [] [] (z ∷ zs) f all also = absurd also
+zip-through R S Q [] (y ∷ ys) zs f all also = absurd all
+zip-through R S Q (x ∷ xs) [] zs f all also = absurd all
+zip-through R S Q (x ∷ xs) (y ∷ ys) [] f all also = absurd also
+zip-through R S Q (x ∷ xs) (y ∷ ys) (z ∷ zs) f all also = (f x y z all.0 also.0, zip-through R S Q xs ys zs f all.1 also.1)
 
 -- ---- tables that have a row alive
 
@@ -149,3 +149,22 @@ module _ {B : Type 0} (R : Table → B → Type 0) where
         AllZip-long R (kept_tables hs) rs all,
         length-map (with_alive hs) (λ (h : HeldTable). h.table),
       )
+
+  -- and it is of that table
+  pub kept-at : (hs : List HeldTable) (i : ℕ) (d : HeldTable) (rs : List B) (e : B) → i < length hs → 0 < length (get_or hs i d).alive
+      → AllZip R (kept_tables hs) rs → R (get_or hs i d).table (get_or rs (length (with_alive (take i hs))) e)
+  kept-at [] i d rs e lt some all = absurd (omega (arith, lt))
+  kept-at (h ∷ hs) zero d rs e lt some all = by rs (subst (λ b. Beside b h hs rs) (some-alive h some) all)
+    where
+      by : (rs : List B) → Beside true h hs rs → R h.table (get_or rs 0 e)
+      by [] all = absurd all
+      by (r ∷ rs) all = all.0
+  kept-at (h ∷ hs) (suc i) d rs e lt some all =
+      by (not (length h.alive == 0)) rs all (λ rs. kept-at hs i d rs e (omega (arith, lt)) some)
+    where
+      by : (b : Bool) (rs : List B) → Beside b h hs rs
+          → ((rs : List B) → AllZip R (kept_tables hs) rs → R (get_or hs i d).table (get_or rs (length (with_alive (take i hs))) e))
+          → R (get_or hs i d).table (get_or rs (length (cond b (h ∷ with_alive (take i hs)) (with_alive (take i hs)))) e)
+      by true [] all later = absurd all
+      by true (r ∷ rs) all later = later rs all.1
+      by false rs all later = later rs all

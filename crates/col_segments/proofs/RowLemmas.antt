@@ -1,10 +1,11 @@
 -- Rows of one table that are dropped by their places.
-use Rattle.std.proofs.Common.{◌≡◌, ℕ, zero, suc, ◌+◌, ◌<◌, ◌≤◌, Bool, true, false, List, [], ◌∷◌, ◌++◌, length, take, drop, get_or, refl, sym, ap, ◌∙◌, arith}
+use Rattle.std.proofs.Common.{◌≡◌, ℕ, zero, suc, ◌+◌, ◌<◌, ◌≤◌, ◌&&◌, nat_le, nat_lt, Bool, true, false, List, [], ◌∷◌, ◌++◌, length, take, drop, get_or, refl, sym, ap, ◌∙◌, arith}
 use Rattle.std.specs.Prelude.{if◌then◌else◌}
-use Rattle.std.specs.List.{AllByRecursion}
 use Rattle.std.proofs.Math.ListN.{set, length-set}
+use Rattle.std.proofs.lemmas.Bool.{and_parts}
 use Rattle.std.proofs.lemmas.List.{append-nil, drop_more, take_all, take_more, take_more_set, drop-set-lt, get_or-drop}
-use Rattle.col_segments.specs.Segments.{is_listed, rows_without}
+use Rattle.col_places.proofs.WalkLemmas.{places-first, places-lower, places-rest}
+use Rattle.col_segments.specs.Segments.{are_places, is_listed, rows_without}
 
 -- the items behind the first
 abbrev pub tail_of : {A : Type 0} → List A → List A
@@ -113,13 +114,19 @@ rows-fewer ids place (row ∷ rows) = by (is_listed ids place) (rows-fewer ids (
     by true le = omega (arith, le)
     by false le = omega (arith, le)
 
--- what holds of all rows holds of those that stay
-pub rows-all : (P : ℕ → Type 0) (ids : List ℕ) (place : ℕ) (rows : List ℕ) → AllByRecursion P rows
-    → AllByRecursion P (rows_without ids place rows)
-rows-all P ids place [] all = tt
-rows-all P ids place (row ∷ rows) all = by (is_listed ids place) (rows-all P ids (place + 1) rows all.1)
+-- those that stay ascend
+pub rows-rise : (ids : List ℕ) (place first end_ : ℕ) (rows : List ℕ) → are_places first end_ rows ≡ true
+    → are_places first end_ (rows_without ids place rows) ≡ true
+rows-rise ids place first end_ [] are = refl
+rows-rise ids place first end_ (row ∷ rows) are =
+    by (is_listed ids place) (rows-rise ids (place + 1) (row + 1) end_ rows (places-rest first end_ row rows are))
   where
-    by : (b : Bool) → AllByRecursion P (rows_without ids (place + 1) rows)
-        → AllByRecursion P (if b then rows_without ids (place + 1) rows else row ∷ rows_without ids (place + 1) rows)
-    by true later = later
-    by false later = (all.0, later)
+    here : (nat_le first row && nat_lt row end_) ≡ true
+    here = (and_parts (nat_le first row && nat_lt row end_) (are_places (row + 1) end_ rows) are).0
+
+    by : (b : Bool) → are_places (row + 1) end_ (rows_without ids (place + 1) rows) ≡ true
+        → are_places first end_ (if b then rows_without ids (place + 1) rows else row ∷ rows_without ids (place + 1) rows) ≡ true
+    by true later =
+        let low = places-first first end_ row rows are in
+        places-lower first (row + 1) end_ (rows_without ids (place + 1) rows) (omega (arith, low)) later
+    by false later = λ i. here i && later i

@@ -1,6 +1,6 @@
 -- Files in memory, and the tables that they stand for.
-use Rattle.std.specs.Prelude.{◌≡◌, ◌⊎◌, ◌<◌, ◌^◌, ℕ, List, [], length, map, unwrap_or, Some, None, Result, Ok, Err}
-use Rattle.std.specs.List.{AllByRecursion, AllZip}
+use Rattle.std.specs.Prelude.{◌≡◌, ◌⊎◌, ◌<◌, ◌^◌, ℕ, List, [], length, map, unwrap_or, true, Some, None, Result, Ok, Err}
+use Rattle.std.specs.List.{AllZip}
 use Rattle.col_common.specs.declared.error.ColumnarError.{ColumnarError}
 use Rattle.col_common.specs.declared.error.ColumnarError.TheVariants.{OutOfMemory, InvalidData}
 use Rattle.col_file.specs.Readers.{SeenReader}
@@ -9,7 +9,7 @@ use Rattle.col_model.specs.File.{part_of_table, table_of}
 use Rattle.col_model.specs.Keys.{keys}
 use Rattle.col_model.specs.Table.{Table}
 use Rattle.col_segments.specs.Live.{with_alive}
-use Rattle.col_segments.specs.Segments.{HeldTable, alive_count}
+use Rattle.col_segments.specs.Segments.{HeldTable, alive_count, are_places}
 
 -- a table without rows and columns
 abbrev pub no_table : Table
@@ -23,11 +23,11 @@ table_in bytes = unwrap_or (table_of bytes) no_table
 abbrev pub IsTableFile : List ℕ → Type 0
 IsTableFile bytes = table_of bytes ≡ Some (table_in bytes)
 
--- The bytes stand for a table; the rows that are alive are rows of it, and few enough to be
+-- The bytes stand for a table; the rows that are alive ascend, are rows of it, and few enough to be
 -- counted by 32 bits.
 pub record IsWhole (bytes alive : List ℕ) : Type 0 where
   pub table : IsTableFile bytes
-  pub rows : AllByRecursion (λ row. row < (table_in bytes).row_count) alive
+  pub rows : are_places 0 (table_in bytes).row_count alive ≡ true
   pub few : length alive < 2 ^ 32
 
 -- an open file of a table

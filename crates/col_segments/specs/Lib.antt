@@ -1,5 +1,6 @@
 pub mod RowIds
 pub mod Segments
 pub mod Live
+pub mod Found
 pub mod Files
 pub mod Compaction

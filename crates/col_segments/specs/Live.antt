@@ -1,9 +1,9 @@
 -- The rows of a set, and its tables as one.
-use Rattle.std.specs.Prelude.{ℕ, ◌==◌, ◌&&◌, not, Bool, List, [], ◌∷◌, map, filter, find, flat_map, length, option_map, unwrap_or, Result, Ok}
-use Rattle.std.specs.List.{enumerate_from, list_any, range_with_len}
+use Rattle.std.specs.Prelude.{ℕ, ◌==◌, not, List, [], ◌∷◌, map, filter, find, flat_map, length, option_map, unwrap_or, Result, Ok}
+use Rattle.std.specs.List.{enumerate_from}
 use Rattle.col_model.specs.Category.{Slot, slot_of, same_slot}
 use Rattle.col_model.specs.File.{part_of_table}
-use Rattle.col_model.specs.Lookup.{is_between, row_of}
+use Rattle.col_model.specs.Lookup.{row_of}
 use Rattle.col_model.specs.Merge.{merged}
 use Rattle.col_model.specs.Order.{shuffle}
 use Rattle.col_model.specs.Refusal.{Refusal, ◌>>=◌}

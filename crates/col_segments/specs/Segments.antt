@@ -1,10 +1,11 @@
 -- Segments: tables with the rows that are alive in each, and what each change makes of them. States
 -- docs/RULES.md, Sets of segments.
-use Rattle.std.specs.Prelude.{ℕ, ◌<◌, ◌≤◌, ◌+◌, ◌^◌, ◌==◌, ◌&&◌, not, nat_le, nat_lt, slice_index, Bool, true, List, [], ◌∷◌, ◌++◌, length, sum_by, if◌then◌else◌, Result, Ok, Err}
-use Rattle.std.specs.List.{list_any, range_with_len}
+use Rattle.std.specs.Prelude.{ℕ, ◌<◌, ◌≤◌, ◌+◌, ◌^◌, ◌==◌, not, nat_le, slice_index, List, [], ◌∷◌, ◌++◌, length, sum_by, if◌then◌else◌, Result, Ok, Err}
+use Rattle.std.specs.List.{range_with_len}
 use Rattle.col_model.specs.File.{table_of}
 use Rattle.col_model.specs.Refusal.{Refusal, ◌>>=◌, or_refuse, refuse_if, invalid_data, bad_order, too_large}
 use Rattle.col_model.specs.Table.{Table}
+pub use Rattle.col_places.specs.Places.{are_places, is_listed}
 use Rattle.col_segments.specs.RowIds.{row_ids}
 
 -- a table, and the rows of it that are alive, ascending
@@ -40,19 +41,9 @@ with_more hs h = Ok (hs ++ h ∷ [])
 abbrev pub appended : List ℕ → List HeldTable → Result (List HeldTable) Refusal
 appended bytes hs = added_file bytes hs >>= with_more hs
 
--- Places ascend strictly, none is before the first, and each is below the end.
-abbrev pub are_places : ℕ → ℕ → List ℕ → Bool
-are_places first end_ [] = true
-are_places first end_ (id ∷ ids) =
-    nat_le first id && nat_lt id end_ && are_places (id + 1) end_ ids
-
 -- no number is above a later one
 abbrev pub Ascends : List ℕ → Type 0
 Ascends ids = (i j : ℕ) → i ≤ j → j < length ids → slice_index ids i ≤ slice_index ids j
-
--- the place is among those
-abbrev pub is_listed : List ℕ → ℕ → Bool
-is_listed ids place = list_any (λ id. id == place) ids
 
 -- the rows, counted from a place on, but for those at the places that are named
 abbrev pub rows_without : List ℕ → ℕ → List ℕ → List ℕ

@@ -1,6 +1,7 @@
 //! Changes of segments, and of the open files beside them.
 ghost use Rattle.std.specs.Prelude.{◌≡◌, ◌⊎◌, ◌<◌, ◌≤◌, ◌+◌, ◌^◌, ◌++◌, ◌∷◌, [], List, true, vec_len, IfOk, MatchResult, OnErr, OnOk};
 ghost use Rattle.std.specs.List.{AllByRecursion, remove};
+ghost use Rattle.col_model.specs.Sound.{IsSound};
 ghost use Rattle.col_segments.specs.Compaction.{HasItsRows};
 ghost use Rattle.col_segments.specs.Files.{AreOpenBeside, ReadsTable};
 ghost use Rattle.col_segments.specs.Segments.{HeldTable, added_file, alive_count, are_places, without};
@@ -31,6 +32,15 @@ pub fn rows_are_there(held: &[Segment])
 {
     for segment in held {
         segment.rows_are_there();
+    }
+}
+
+/// That the tables are sound.
+pub fn tables_are_sound(held: &[Segment])
+    ensures { AllByRecursion (λ h. IsSound h.table) held.now }
+{
+    for segment in held {
+        segment.table_is_sound();
     }
 }
 

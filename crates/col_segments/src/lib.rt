@@ -3,6 +3,7 @@
 #![tactic(auto)]
 
 mod compacting;
+mod finding;
 mod held;
 mod kinds;
 mod opening;

@@ -1,7 +1,9 @@
 //! A file in memory, and the rows of it that are alive.
-ghost use Rattle.std.specs.Prelude.{◌≡◌, ◌<◌, ◌+◌, ◌^◌, length};
+ghost use Rattle.std.specs.Prelude.{◌≡◌, ◌<◌, ◌+◌, ◌^◌, length, true};
+ghost use Rattle.col_common.specs.Reading.{IsBytes};
+ghost use Rattle.col_model.specs.Sound.{IsSound};
 ghost use Rattle.col_segments.specs.Compaction.{HasItsRows};
-ghost use Rattle.col_segments.specs.Segments.{Ascends, rows_without};
+ghost use Rattle.col_segments.specs.Segments.{Ascends, are_places, rows_without};
 
 use crate::rows::keep_rows;
 use bytes::Bytes;
@@ -49,6 +51,20 @@ impl Segment {
         let _ = &self.file;
     }
 
+    /// That these rows ascend.
+    pub fn rows_rise(&self)
+        ensures { are_places 0 self.now.table.row_count self.now.alive ≡ true }
+    {
+        let _ = &self.file;
+    }
+
+    /// That the table is sound.
+    pub fn table_is_sound(&self)
+        ensures { IsSound self.now.table }
+    {
+        are_bytes(&self.file);
+    }
+
     /// Drops the rows at places, which are counted from the first one's on.
     pub fn drop_places(&mut self, ids: &[RowId], first: RowId)
         requires room { first + length self.old.alive < 2 ^ 32 }
@@ -57,4 +73,11 @@ impl Segment {
     {
         keep_rows(&mut self.alive, ids, first);
     }
+}
+
+// That each number of a slice of bytes is a byte.
+fn are_bytes(bytes: &[u8])
+    ensures { IsBytes bytes.now }
+{
+    let _ = bytes;
 }

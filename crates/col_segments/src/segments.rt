@@ -1,14 +1,19 @@
 //! Segments in memory, to which changes are made.
 ghost use Rattle.std.specs.Prelude.{◌≡◌, ◌++◌, ◌∷◌, [], List, true, length, Ok, IfOk, IfErr};
 ghost use Rattle.std.specs.List.{AllByRecursion};
+ghost use Rattle.col_common.specs.Replacing.{Replaces};
+ghost use Rattle.col_questions.specs.Steps.{end_of};
 ghost use Rattle.col_segments.specs.Compaction.{CompactsOrConflicts, CompactsTo, RefusesRows};
 ghost use Rattle.col_segments.specs.Files.{IsTableFile};
+ghost use Rattle.col_segments.specs.Found.{places_between};
 ghost use Rattle.col_segments.specs.Live.{live, merged_alive};
 ghost use Rattle.col_segments.specs.RowIds.{row_ids};
 ghost use Rattle.col_segments.specs.Segments.{HeldTable, alive_count, appended, are_places, changed, spelled_dropped, without};
+ghost use Rattle.col_types.specs.Kinds.{kind_of};
 ghost use Rattle.col_writer_columns.specs.Answers.{RecordsOrRefuses};
 
 use crate::compacting::merge_alive;
+use crate::finding::find_places;
 use crate::held::{count_alive, drop_from, open_addable, pop_last, push_opened, rows_are_there};
 use crate::kinds::{ADDED, DROPPED, REPLACED};
 use crate::opening::{Reader, made_segment};
@@ -16,6 +21,8 @@ use crate::rows::read_ids;
 use crate::{Segment, rows};
 use bytes::Bytes;
 use col_common::{ColumnarError, RowId};
+use col_questions::QueryValue;
+use col_types::ColumnType;
 use std::alloc::Global;
 use std::marker::Model;
 
@@ -71,6 +78,35 @@ impl Segments {
         ensures { result ≡ are_places 0 (alive_count self.now) ids.now }
     {
         rows::are_places(ids, count_alive(&self.held))
+    }
+
+    /// Puts the places of the rows that have a value from one end to the other under a name and the
+    /// category of a type, counted among the rows alive, ascending; the list holds nothing else
+    /// then. Ends of another kind than the type's values find none. Refuses for want of memory
+    /// alone.
+    pub fn find(
+        &mut self,
+        name: &str,
+        column_type: ColumnType,
+        lo: &QueryValue,
+        hi: &QueryValue,
+        places: &mut Vec<RowId>,
+    ) -> Result<(), ColumnarError>
+        ensures found { Replaces result places.new.items (places_between name.now
+            (kind_of column_type) (end_of lo.now) (end_of hi.now) (live self.old)) }
+        ensures same { self.new ≡ self.old }
+    {
+        let alloc = self.alloc;
+        find_places(
+            alloc,
+            &self.held,
+            &mut self.readers,
+            name,
+            column_type,
+            lo,
+            hi,
+            places,
+        )
     }
 
     /// That a compaction conflicts in its numbers, is too large, or is made.

@@ -5,7 +5,7 @@ use Rattle.col_disk.specs.Disks.{SeenDisk, Stays}
 use Rattle.col_disk.proofs.Moments.{adds_nothing, stays_both}
 use Rattle.col_journal.specs.Found.{FindsChange, change_of}
 use Rattle.col_journal.specs.Journal.{Change, changes_from, changes_of, replayed}
-use Rattle.col_journal.specs.Settled.{IsReadTo, IsSettled}
+use Rattle.col_journal.specs.Settled.{IsReadTo}
 use Rattle.col_journal.specs.declared.found.Found.{Found}
 use Rattle.col_journal.proofs.SettledLemmas.{ended}
 use Rattle.col_segments.specs.Segments.{HeldTable}

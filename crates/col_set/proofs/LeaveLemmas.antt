@@ -1,9 +1,7 @@
 -- What adding a change leaves of a disk that stands for tables.
-use Rattle.std.proofs.Common.{◌≡◌, ◌⊎◌, inl, inr, ⊎_elim, ℕ, Bool, true, false, List, [], ◌∷◌, ◌++◌, Option, Some, None, Result, Ok, Err, IfSome, refl, sym, ap}
-use Rattle.std.specs.Prelude.{OnOk}
+use Rattle.std.proofs.Common.{◌≡◌, ◌⊎◌, inl, inr, ℕ, true, false, List, [], ◌∷◌, ◌++◌, Some, None, Ok, Err, IfSome, refl, ap}
 use Rattle.col_common.specs.Outside.{Told}
 use Rattle.col_common.specs.declared.error.ColumnarError.TheVariants.{OutOfMemory, WriteFault}
-use Rattle.col_common.specs.declared.outside.HandleError.{HandleError}
 use Rattle.col_common.specs.declared.outside.HandleError.TheVariants.{Failed, Memory}
 use Rattle.col_disk.specs.Crash.{LeavesOnly}
 use Rattle.col_disk.specs.Disks.{Answer, IsLater, SeenDisk, TellsAlike}

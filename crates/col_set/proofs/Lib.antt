@@ -1,5 +1,4 @@
 mod HeldLemmas
-mod LeaveLemmas
+pub mod LeaveLemmas
 mod OpenLemmas
 mod SetLemmas
-mod StepLemmas

@@ -1,11 +1,11 @@
 -- Disks that are opened.
-use Rattle.std.proofs.Common.{◌≡◌, ◌⊎◌, inl, inr, ⊎_elim, ℕ, ◌≤◌, List, [], Option, Some, None, option_and_then, IfSome, refl, sym, ap, subst, arith}
+use Rattle.std.proofs.Common.{◌≡◌, ◌⊎◌, inl, inr, ⊎_elim, ℕ, ◌≤◌, List, [], Some, None, option_and_then, IfSome, sym, ap, subst, arith}
 use Rattle.col_common.specs.Causes.{Rose}
 use Rattle.col_common.specs.Outside.{Told}
 use Rattle.col_common.specs.declared.error.ColumnarError.{ColumnarError}
 use Rattle.col_common.specs.declared.error.ColumnarError.TheVariants.{ReadFault}
 use Rattle.col_disk.specs.Crash.{AddsNone, Images, LeavesOnly}
-use Rattle.col_disk.specs.Disks.{SeenDisk, TellsAlike}
+use Rattle.col_disk.specs.Disks.{SeenDisk}
 use Rattle.col_disk.proofs.Moments.{goes_on, leaves_weaker, none_time}
 use Rattle.col_journal.specs.Found.{IsReadRefusal}
 use Rattle.col_journal.specs.Journal.{HaveNoChange, replayed}
@@ -13,7 +13,7 @@ use Rattle.col_segments.specs.Segments.{HeldTable}
 use Rattle.col_set.specs.Held.{Stands, held_by, step}
 use Rattle.col_set.specs.Sets.{EachStands, IsHeldAlike, RefusesOpen}
 use Rattle.col_set.proofs.HeldLemmas.{each-stands}
-use Rattle.col_set.proofs.LeaveLemmas.{if_told, retold}
+use Rattle.col_set.proofs.LeaveLemmas.{if_told}
 
 -- ---- moments
 

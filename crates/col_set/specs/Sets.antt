@@ -1,8 +1,7 @@
 -- Sets of segments on disks.
-use Rattle.std.specs.Prelude.{◌≡◌, ◌⊎◌, ◌↔◌, ◌<◌, ◌≤◌, ◌+◌, ◌^◌, ℕ, Bool, true, false, List, Option, Some, None, Result, Ok, Err, IfSome, IfOk, IfErr, OnOk, OnErr}
+use Rattle.std.specs.Prelude.{◌≡◌, ◌⊎◌, ◌↔◌, ◌<◌, ◌≤◌, ◌+◌, ◌^◌, ℕ, Bool, true, false, List, Some, None, Result, Ok, Err, IfSome, IfOk, IfErr, OnOk, OnErr}
 use Rattle.col_common.specs.Causes.{Rose}
-use Rattle.col_common.specs.Outside.{SeenSink}
-use Rattle.col_common.specs.Serializing.{Serializes}
+use Rattle.col_common.specs.Outside.{SeenSink, Appends, AppendsNothing, AppendsPrefix, Faulted}
 use Rattle.col_common.specs.declared.error.ColumnarError.{ColumnarError}
 use Rattle.col_common.specs.declared.error.ColumnarError.TheVariants.{OutOfMemory, ReadFault, WriteFault, InvalidData, NumericalConflict, TooLarge}
 use Rattle.col_disk.specs.Crash.{Images, LeavesOnly}
@@ -102,11 +101,20 @@ abbrev pub IsCompactAnswer : ColumnarError → Type 0
 IsCompactAnswer e = (e ≡ OutOfMemory)
     ⊎ ((e ≡ WriteFault) ⊎ ((e ≡ NumericalConflict) ⊎ (e ≡ TooLarge)))
 
+-- Ok added just these bytes, a fault of the sink some of the first of them, want of memory none.
+pub record WritesBytes (old new : SeenSink) (result : Result (Unit {0}) ColumnarError)
+    (bytes : List ℕ) : Type 0 where
+  pub ok : OnOk result (Appends old new bytes)
+  pub cut_short : result ≡ Err WriteFault → AppendsPrefix old new bytes × Faulted old new
+  pub memory : result ≡ Err OutOfMemory → AppendsNothing old new
+  pub causes : IfErr result (λ e. (e ≡ OutOfMemory) ⊎ (e ≡ WriteFault))
+  pub later : old.faults ≤ new.faults
+
 -- After a compaction the file of its table is written, or not; without one the sink stays.
 abbrev pub WritesCompacted : List HeldTable → SeenSink → SeenSink → Result (Unit {0}) ColumnarError
     → Result (Unit {0}) ColumnarError → Type 0
 WritesCompacted hs a b (Ok done) result = (t : Table) × (file : List ℕ)
-    × (merged_alive hs ≡ Ok t) × StandsFor t file × Serializes a b result file
+    × (merged_alive hs ≡ Ok t) × StandsFor t file × WritesBytes a b result file
 WritesCompacted hs a b (Err e) result = (result ≡ Err e) × (b ≡ a)
 
 -- What writing a set answers and leaves: it is compacted, and then its file is written.

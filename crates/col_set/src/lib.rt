@@ -6,10 +6,10 @@ mod loading;
 mod parts;
 mod set;
 mod staging;
-mod steps;
+mod writing;
 
 pub use set::SegmentSet;
-pub use steps::{Step, run_steps};
+pub use writing::write_bytes;
 
 #[cfg(test)]
 mod tests;

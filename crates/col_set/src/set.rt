@@ -1,17 +1,24 @@
 //! Sets of segments on disks.
 ghost use Rattle.std.specs.Prelude.{◌≡◌, ℕ, false, length, List, IfErr, IfOk, IfSome, OnOk};
+ghost use Rattle.col_common.specs.Replacing.{Replaces};
+ghost use Rattle.col_questions.specs.Steps.{end_of};
 ghost use Rattle.col_segments.specs.Compaction.{CompactsOrConflicts, CompactsTo};
+ghost use Rattle.col_segments.specs.Found.{places_between};
 ghost use Rattle.col_segments.specs.Live.{compacted, live};
 ghost use Rattle.col_segments.specs.Segments.{alive_count, appended, dropped};
 ghost use Rattle.col_set.specs.Sets.{done_of, ChangesSet, EachStands, IsCompactAnswer, OpensSet, WritesSet};
+ghost use Rattle.col_types.specs.Kinds.{kind_of};
 
 use crate::loading::load;
 use crate::parts::{append_file, compact_all, drop_places};
+use crate::writing::write_bytes;
 use bytes::Bytes;
-use col_common::{ColumnarError, RowId, Sink, serialize_bytes};
+use col_common::{ColumnarError, RowId, Sink};
 use col_disk::Disk;
 use col_journal::Journal;
+use col_questions::QueryValue;
 use col_segments::Segments;
+use col_types::ColumnType;
 use std::alloc::Global;
 use std::marker::Model;
 
@@ -98,6 +105,25 @@ impl<D: Disk + Drop> SegmentSet<D> {
         self.failed
     }
 
+    /// Puts the places of the rows that have a value from one end to the other under a name and the
+    /// category of a type, counted among the rows alive, ascending; the list holds nothing else
+    /// then. Ends of another kind than the type's values find none. Refuses for want of memory
+    /// alone.
+    pub fn find(
+        &mut self,
+        name: &str,
+        column_type: ColumnType,
+        lo: &QueryValue,
+        hi: &QueryValue,
+        places: &mut Vec<RowId>,
+    ) -> Result<(), ColumnarError>
+        ensures found { Replaces result places.new.items (places_between name.now
+            (kind_of column_type) (end_of lo.now) (end_of hi.now) (live self.old.held)) }
+        ensures same { self.new ≡ self.old }
+    {
+        self.segments.find(name, column_type, lo, hi, places)
+    }
+
     /// Adds a file with all its rows alive. It answers InvalidData exactly where the bytes stand
     /// for no table, then TooLarge exactly where 32 bits don't count the rows alive.
     pub fn append(&mut self, file: Vec<u8>) -> Result<(), ColumnarError>
@@ -168,6 +194,6 @@ impl<D: Disk + Drop> SegmentSet<D> {
             Ok(file) => file,
             Err(error) => return Err(error),
         };
-        serialize_bytes(sink, &file)
+        write_bytes(sink, &file)
     }
 }

@@ -1,7 +1,9 @@
 //! Sets of segments, by examples.
-use crate::{SegmentSet, Step, run_steps};
+use crate::SegmentSet;
 use col_common::{ColumnarError, VecSink};
 use col_disk::{Disk, DiskOnFile, MemDisk};
+use col_questions::QueryValue;
+use col_types::ColumnType;
 use std::alloc::Global;
 use std::test::Fail;
 
@@ -48,6 +50,56 @@ fn the_bytes_of_a_disk_are_a_set_or_none(rt: HostRuntime) -> Result<(), Fail> {
     Ok(())
 }
 
+// What finds rows of 10, 20, 10 and 20, of which the first is dropped: a name, a type and two ends,
+// and the places.
+const LOOKUPS: &[(&str, ColumnType, i128, i128, &[u32])] = &[
+    ("a", ColumnType::U64, 10, 20, &[0, 1, 2]),
+    ("a", ColumnType::I64, 10, 20, &[0, 1, 2]),
+    ("a", ColumnType::I64, 10, 10, &[1]),
+    ("a", ColumnType::U64, i128::MIN, i128::MAX, &[0, 1, 2]),
+    ("a", ColumnType::U64, -5, 19, &[1]),
+    ("a", ColumnType::U64, 11, i128::MAX, &[0, 2]),
+    ("a", ColumnType::U64, i128::MIN, -1, &[]),
+    ("a", ColumnType::U64, i128::MAX, i128::MAX, &[]),
+    ("a", ColumnType::U64, 20, 10, &[]),
+    ("a", ColumnType::DateTime, 10, 20, &[]),
+    ("a", ColumnType::Str, 10, 20, &[]),
+    ("b", ColumnType::U64, 10, 20, &[]),
+];
+
+#[test]
+fn rows_are_found_by_values(rt: HostRuntime) -> Result<(), Fail> {
+    let alloc = rt.alloc();
+    let mut set = opened(alloc, &[], &[])?;
+    assert!(rt; !set.failed());
+    assert!(rt; set.append(TEN_AND_TWENTY.to_vec(alloc)?).is_ok());
+    assert!(rt; !set.failed());
+    assert!(rt; set.append(TEN_AND_TWENTY.to_vec(alloc)?).is_ok());
+    assert!(rt; !set.failed());
+    assert!(rt; set.drop_rows(&[0]).is_ok());
+    for (name, column_type, lo, hi, expected) in LOOKUPS {
+        let found = found_in(alloc, &mut set, name, *column_type, *lo, *hi)?;
+        assert_eq!(rt; found.as_slice(), *expected);
+    }
+    Ok(())
+}
+
+// The places of a lookup by numbers.
+fn found_in(
+    alloc: Global,
+    set: &mut SegmentSet<MemDisk>,
+    name: &str,
+    column_type: ColumnType,
+    lo: i128,
+    hi: i128,
+) -> Result<Vec<u32>, Fail> {
+    let lo = QueryValue::Num(lo);
+    let hi = QueryValue::Num(hi);
+    let mut places = Vec::new(alloc);
+    set.find(name, column_type, &lo, &hi, &mut places)?;
+    Ok(places)
+}
+
 #[test]
 fn a_set_is_found_again_on_its_disk(rt: HostRuntime) -> Result<(), Fail> {
     let alloc = rt.alloc();
@@ -83,10 +135,8 @@ fn a_set_is_found_again_on_its_disk(rt: HostRuntime) -> Result<(), Fail> {
 fn a_gate_that_fails_to_open_ends_the_changes(rt: HostRuntime) -> Result<(), Fail> {
     let alloc = rt.alloc();
     let mut set = opened(alloc, &[], &[7])?;
-    let steps = [Step::Append(TEN_AND_TWENTY.to_vec(alloc)?), Step::Compact];
-    let steps = Vec::from_array(alloc, steps)?;
     assert!(rt; !set.failed());
-    let stopped = run_steps(&mut set, steps);
+    let stopped = set.append(TEN_AND_TWENTY.to_vec(alloc)?);
     assert!(rt; matches!(stopped, Err(ColumnarError::WriteFault)));
     assert!(rt; set.failed());
     let rows = rows_of(alloc, set.into_disk());

@@ -1,4 +1,4 @@
-use Rattle.std.proofs.Common.{◌≡◌, ◌<◌, ◌≤◌, ℕ, length, get_or, refl, ap, ◌∙◌, arith}
+use Rattle.std.proofs.Common.{◌<◌, ◌≤◌, length, get_or, refl, ap, ◌∙◌, arith}
 use Rattle.col_segments.specs.Segments.{HeldTable, alive_count}
 use Rattle.col_segments.proofs.OpenLemmas.{drops-kept, drops-next, next-within}
 use Rattle.col_segments.proofs.DropLemmas.{dropped_from, places-fit}

@@ -1,4 +1,4 @@
-use Rattle.std.proofs.Common.{◌≡◌, Some, None, Err, IfSome, sym, ap, subst, rules}
+use Rattle.std.proofs.Common.{◌≡◌, None, Err, IfSome, sym, ap, subst, rules}
 use Rattle.std.proofs.lemmas.Result.{err_from_is_err_and}
 use Rattle.col_common.specs.declared.error.ColumnarError.TheVariants.{InvalidData}
 use Rattle.col_journal.specs.Found.{FindsChange, change_of}

@@ -1,0 +1,5 @@
+mod AllLemmas
+pub mod KindLemmas
+mod ListedLemmas
+mod RangeLemmas
+pub mod WalkLemmas
