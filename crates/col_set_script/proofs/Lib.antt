@@ -1,0 +1,6 @@
+mod IdLemmas
+mod WordLemmas
+mod LookLemmas
+mod DraftLemmas
+mod CallLemmas
+mod StepLemmas

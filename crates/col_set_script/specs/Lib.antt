@@ -1,0 +1,4 @@
+pub mod SetScripts
+pub mod Steps
+pub mod Lines
+pub mod Drafts
