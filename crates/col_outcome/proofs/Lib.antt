@@ -7,7 +7,6 @@ pub mod MergedFileLemmas
 mod MergedLemmas
 mod OpeningLemmas
 pub mod OrderLemmas
-mod SegmentLemmas
 mod StayLemmas
 mod TakenLemmas
 mod TableLemmas

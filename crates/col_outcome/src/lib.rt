@@ -15,5 +15,4 @@ mod upgrading;
 pub use checking::check_and_report;
 pub use merging::{FileAndReport, merge_and_report};
 pub use part::Part;
-pub use segments::segment_file;
 pub use upgrading::upgrade_and_report;

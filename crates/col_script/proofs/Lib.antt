@@ -1,3 +1,5 @@
 mod PieceLemmas
 pub mod DraftLemmas
 mod TakeLemmas
+mod FileLemmas
+pub mod RefusalLemmas

@@ -4,3 +4,4 @@ pub use Rattle.col_lines.specs.Lines
 pub use Rattle.col_lines.specs.RowOrders
 pub mod Segments
 pub mod Scripts
+pub mod Files

@@ -1,12 +1,16 @@
 //! The segments of a script, and the calls that record into them.
-ghost use Rattle.std.specs.Prelude.{◌≡◌, [], IfSome, OnErr, OnOk};
+ghost use Rattle.std.specs.Prelude.{◌≡◌, [], IfSome, None, OnErr, OnOk};
 ghost use Rattle.col_model.specs.Recording.{content_after, recorded};
+ghost use Rattle.col_model.specs.Written.{written};
+ghost use Rattle.col_program.specs.Outcome.{segment_table};
+ghost use Rattle.col_program.specs.Script as model;
 ghost use Rattle.col_writer_columns.specs.Answers.{RecordsOrRefuses};
 ghost use Rattle.col_lines.specs.Lines.{call_of};
 ghost use Rattle.col_questions.specs.Values.{typed_cell};
-ghost use Rattle.col_script.specs.Segments.{segment_of, after_call};
+ghost use Rattle.col_script.specs.Files.{MakesFile};
+ghost use Rattle.col_script.specs.Segments.{filled, segment_of, after_call};
 
-use col_common::{ColumnarError, DocId};
+use col_common::{Buffer, ColumnarError, DocId, RowId};
 use col_lines::{Call, TypedValue};
 use col_types::NumericalValue;
 use col_writer::ColumnarWriter;
@@ -53,6 +57,30 @@ impl Segment {
             }
         }
     }
+
+    /// The bytes of the segment's file, or its first refusal.
+    pub fn file_bytes(&self, alloc: Global) -> Result<Vec<u8>, ColumnarError>
+        ensures { (s : model.Segment) → filled s ≡ segment_of self.now
+            → MakesFile result (segment_table s) }
+    {
+        match self.refusal {
+            Some(refusal) => Err(refusal),
+            None => written_bytes(alloc, &self.columns, self.num_docs),
+        }
+    }
+}
+
+// The bytes of a file of what was recorded.
+fn written_bytes(
+    alloc: Global,
+    columns: &ColumnarWriter,
+    num_docs: RowId,
+) -> Result<Vec<u8>, ColumnarError>
+    ensures { MakesFile result (written columns.now num_docs None) }
+{
+    let mut file = Buffer::new(alloc);
+    columns.serialize(num_docs, None, &mut file)?;
+    Ok(file.into_bytes())
 }
 
 // Makes a call on a writer.

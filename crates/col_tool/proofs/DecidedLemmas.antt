@@ -1,8 +1,7 @@
 -- The statuses that a script alone decides.
-use Rattle.std.proofs.Common.{◌≡◌, ◌==◌, ◌⊎◌, ◌∙◌, ℕ, List, [], ◌∷◌, ◌++◌, length, Option, Some, None, IfSome, Result, Ok, Err, false, Contains, inl, inr, refl, sym, ap, subst, append-nil, arith, zero, suc}
-use Rattle.std.proofs.lemmas.Bool.{ltb-false}
-use Rattle.std.specs.Prelude.{◌≤◌, ◌||◌, nat_lt, if◌then◌else◌}
-use Rattle.col_common.specs.Outside.{Told, Takes, IsAtEnd}
+use Rattle.std.proofs.Common.{◌≡◌, ◌==◌, ◌⊎◌, ◌∙◌, ℕ, List, [], ◌∷◌, length, Option, Some, None, IfSome, Result, Ok, Err, false, Contains, inl, inr, refl, sym, ap, subst, arith, zero, suc}
+use Rattle.std.specs.Prelude.{◌||◌, nat_lt, if◌then◌else◌}
+use Rattle.col_common.specs.Outside.{Told}
 use Rattle.col_common.specs.Refused.{code_of}
 use Rattle.col_common.specs.declared.error.ColumnarError.{ColumnarError}
 use Rattle.col_common.specs.declared.error.ColumnarError.TheVariants.{OutOfMemory, ReadFault, WriteFault, InvalidData, BadOrder, BadName, RequiredConflict, CannotCoerce, NumericalConflict, TooLarge, NoCodec, ForcedType, DocOrder, DocOutOfRange, TieBreakerStart, NotUtf8}
@@ -15,7 +14,7 @@ use Rattle.col_tool.specs.Answer.{ScriptDecidesFirst}
 use Rattle.col_tool.specs.Expected.{refusal_in, script_refusal, bytes_refusal}
 use Rattle.col_tool.specs.Statuses.{ScriptDecides, script_statuses}
 use Rattle.col_tool.specs.declared.refusal.Refusal as tool
-use Rattle.col_tool.proofs.RefusedLemmas.{code-answer}
+use Rattle.col_headline.proofs.StatusLemmas.{code-answer}
 
 -- none of the statuses that a script alone decides
 abbrev IsOther : ℕ → Type 0
@@ -38,16 +37,6 @@ failed-decides (Some n) Failed status cause = inr cause
 failed-decides None Failed status (inl memory) = undecided status (rw memory refl)
 failed-decides None Failed status (inr fault) = undecided status (rw fault.0 refl)
 
--- nor do they where the script is read
-pub read-decides : (told : Told) (refusal : List ℕ → Option ℕ) (Failed : Type 0) (e : ColumnarError)
-    → (e ≡ OutOfMemory) ⊎ (e ≡ ReadFault) → (e ≡ ReadFault → Failed)
-    → IfSome told (λ bytes. ScriptDecides (refusal bytes) Failed (code_of e))
-read-decides None refusal Failed e cause failed = tt
-read-decides (Some bytes) refusal Failed e (inl memory) failed =
-    failed-decides (refusal bytes) Failed (code_of e) (inl (ap code_of memory))
-read-decides (Some bytes) refusal Failed e (inr fault) failed =
-    failed-decides (refusal bytes) Failed (code_of e) (inr (ap code_of fault, failed fault))
-
 -- what decides where nothing fails decides where something may fail
 pub decides-failing : (refusal : Option ℕ) (Failed : Type 0) (result : Result FileAndReport tool.Refusal)
     → ScriptDecidesFirst refusal ⊥ result → ScriptDecidesFirst refusal Failed result
@@ -57,18 +46,15 @@ decides-failing (Some n) Failed (Err e) (inl own) = inl own
 decides-failing (Some n) Failed (Err e) (inr (inl memory)) = inr (inl memory)
 decides-failing (Some n) Failed (Err e) (inr (inr fault)) = absurd fault.1
 
--- what decides of the bytes that were read, where these aren't too many, decides of what the script told
-pub read-decided : (old new : Told) (bytes : List ℕ) (Failed : Type 0) (result : Result FileAndReport tool.Refusal)
-    → Takes old new bytes → (length bytes ≤ max_script_length → IsAtEnd new) → nat_lt max_script_length (length bytes) ≡ false
-    → ScriptDecidesFirst (script_refusal (script_of bytes)) ⊥ result
-    → IfSome old (λ told. ScriptDecidesFirst (bytes_refusal told) Failed result)
-read-decided old None bytes Failed result takes ended short h =
-    subst (λ o. IfSome o (λ told. ScriptDecidesFirst (bytes_refusal told) Failed result)) (sym takes) tt
-read-decided old (Some left) bytes Failed result takes ended short h =
-    let none = ended (ltb-false max_script_length (length bytes) short) in
-    let whole : old ≡ Some bytes = takes ∙ ap (λ l. Some (bytes ++ l)) none ∙ ap Some (append-nil bytes) in
-    let own = script_refusal (script_of bytes) in
-    subst (λ o. IfSome o (λ told. ScriptDecidesFirst (bytes_refusal told) Failed result)) (sym whole)
+-- what a text decides that isn't too long, the source decides that has it
+pub read-decided : (told : Told) (text : List ℕ) (Failed : Type 0) (result : Result FileAndReport tool.Refusal)
+    → IfSome told (λ bytes. bytes ≡ text) → nat_lt max_script_length (length text) ≡ false
+    → ScriptDecidesFirst (script_refusal (script_of text)) ⊥ result
+    → IfSome told (λ bytes. ScriptDecidesFirst (bytes_refusal bytes) Failed result)
+read-decided None text Failed result same short h = tt
+read-decided (Some bytes) text Failed result same short h =
+    let own = script_refusal (script_of text) in
+    subst (λ b. ScriptDecidesFirst (bytes_refusal b) Failed result) (sym same)
     (subst (λ b. ScriptDecidesFirst (if b then Some 21 else own) Failed result) (sym short)
     (decides-failing own Failed result h))
 

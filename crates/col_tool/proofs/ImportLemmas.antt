@@ -1,10 +1,6 @@
 -- What the answer to an import leaves.
-use Rattle.std.proofs.Common.{◌≡◌, ◌∙◌, ℕ, List, ◌++◌, length, Option, Some, None, Result, Ok, Err, IfErr, IfSome, Contains, zero, suc, true, false, inl, inr, refl, sym, ap, subst, append-nil, arith}
-use Rattle.std.proofs.lemmas.Bool.{lt-ltb, ltb-false, ltb-true}
-use Rattle.std.proofs.lemmas.List.{length-append}
-use Rattle.std.specs.Prelude.{◌≤◌, nat_lt, if◌then◌else◌}
-use Rattle.col_common.specs.Outside.{IsAtEnd, SeenSink, Takes, Told}
-use Rattle.col_csv.specs.CsvTable.{table_of_csv}
+use Rattle.std.proofs.Common.{ℕ, Option, Some, None, Result, Ok, Err, IfErr, IfSome, Contains, zero, suc, inl, inr, refl, ap, arith}
+use Rattle.col_common.specs.Outside.{SeenSink, Told}
 use Rattle.col_csv.specs.Refused.{code_of}
 use Rattle.col_csv.specs.declared.csv_error.CsvError.{CsvError}
 use Rattle.col_csv.specs.declared.csv_error.CsvError.TheVariants.{OutOfMemory, BadCsv}
@@ -13,11 +9,10 @@ use Rattle.col_exchange.specs.declared.exporting.Exchanged.{Exchanged}
 use Rattle.col_file.specs.Files.{IsExpected}
 use Rattle.col_model.specs.Table.{Table}
 use Rattle.col_outcome.specs.declared.merging.FileAndReport.{FileAndReport}
-use Rattle.col_program.specs.Outcome.{max_script_length, refused}
 use Rattle.col_tool.specs.Answer.{Delivers, IsAnswer, Leaves, import_refusals, refusal_status, text_refusals}
 use Rattle.col_tool.specs.Exchanges.{imported, outcome_of_import}
 use Rattle.col_tool.specs.declared.refusal.Refusal.{Refusal}
-use Rattle.col_tool.specs.declared.refusal.Refusal.TheVariants.{Csv, LongScript}
+use Rattle.col_tool.specs.declared.refusal.Refusal.TheVariants.{Csv}
 use Rattle.col_tool.proofs.ExchangedStatuses.{import-no_write, import-not_done}
 use Rattle.col_tool.proofs.Left.{leaves_delivered, leaves_refused}
 
@@ -48,35 +43,6 @@ text-import (Ok made) h = tt
 text-import (Err e) (zero, within, is) = (0, omega arith, is)
 text-import (Err e) (suc zero, within, is) = (3, omega arith, is)
 text-import (Err e) (suc (suc k), within, is) = absurd (omega (arith, within))
-
--- ---- what is on the source
-
--- what bytes come to that were read, where these aren't too many, what is on the source comes to
-pub import-read : (old new : Told) (bytes : List ℕ) (result : Result FileAndReport Refusal) → Takes old new bytes
-    → (length bytes ≤ max_script_length → IsAtEnd new) → nat_lt max_script_length (length bytes) ≡ false
-    → IsAnswer (imported (table_of_csv bytes)) result
-    → IfSome old (λ told. IsAnswer (outcome_of_import told) result)
-import-read old None bytes result takes ended short h =
-    subst (λ o. IfSome o (λ told. IsAnswer (outcome_of_import told) result)) (sym takes) tt
-import-read old (Some left) bytes result takes ended short h =
-    let none = ended (ltb-false max_script_length (length bytes) short) in
-    let whole : old ≡ Some bytes = takes ∙ ap (λ l. Some (bytes ++ l)) none ∙ ap Some (append-nil bytes) in
-    let own = imported (table_of_csv bytes) in
-    subst (λ o. IfSome o (λ told. IsAnswer (outcome_of_import told) result)) (sym whole)
-    (subst (λ b. IsAnswer (if b then refused 21 else own) result) (sym short) h)
-
--- where too many were read, it comes to a refusal
-pub import-long : (old new : Told) (bytes : List ℕ) → Takes old new bytes → nat_lt max_script_length (length bytes) ≡ true
-    → IfSome old (λ told. IsAnswer (outcome_of_import told) (Err LongScript))
-import-long old None bytes takes long =
-    subst (λ o. IfSome o (λ told. IsAnswer (outcome_of_import told) (Err LongScript))) (sym takes) tt
-import-long old (Some left) bytes takes long =
-    let own = imported (table_of_csv (bytes ++ left)) in
-    let more : nat_lt max_script_length (length (bytes ++ left)) ≡ true =
-    lt-ltb max_script_length (length (bytes ++ left))
-    (omega (arith, length-append bytes left, ltb-true max_script_length (length bytes) long)) in
-    subst (λ o. IfSome o (λ told. IsAnswer (outcome_of_import told) (Err LongScript))) (sym takes)
-    (subst (λ b. IsAnswer (if b then refused 21 else own) (Err LongScript)) (sym more) (inl refl))
 
 -- ---- what is left
 

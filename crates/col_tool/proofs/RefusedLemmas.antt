@@ -1,29 +1,17 @@
 -- The statuses of refusals.
 use Rattle.std.proofs.Common.{◌≡◌, ◌==◌, ℕ, suc, zero, Bool, true, false, [], ◌∷◌, ◌++◌, Contains, inl, inr, refl, arith}
-use Rattle.std.specs.Prelude.{◌||◌, ◌⊎◌}
+use Rattle.std.specs.Prelude.{◌||◌}
 use Rattle.std.proofs.lemmas.List.Elements.{All-contains, All-from_recursion, Contains-append_left, Contains-append_right}
 use Rattle.col_common.specs.Refused.{code_of}
 use Rattle.col_common.specs.declared.error.ColumnarError.{ColumnarError}
 use Rattle.col_common.specs.declared.error.ColumnarError.TheVariants.{OutOfMemory, ReadFault, WriteFault, InvalidData, BadOrder, BadName, RequiredConflict, CannotCoerce, NumericalConflict, TooLarge, NoCodec, ForcedType, DocOrder, DocOutOfRange, TieBreakerStart, NotUtf8}
 use Rattle.col_model.specs.Refusal.{Refusal, status_of, invalid_data, bad_order, bad_name, required_conflict, cannot_coerce, numerical_conflict, too_large, forced_type, doc_order, doc_out_of_range, tie_breaker_start}
 use Rattle.col_writer_columns.specs.Answers.{answer_of}
+use Rattle.col_headline.proofs.StatusLemmas.{code-answer}
 use Rattle.col_outcome.specs.Making.{IsKnown}
 use Rattle.col_tool.specs.Answer.{answers, refusals}
 use Rattle.col_tool.specs.Statuses.{Exactly, check_statuses, statuses}
-
--- an answer has the status of the refusal that it is
-pub code-answer : (r : Refusal) → code_of (answer_of r) ≡ status_of r
-code-answer invalid_data = refl
-code-answer bad_order = refl
-code-answer bad_name = refl
-code-answer required_conflict = refl
-code-answer cannot_coerce = refl
-code-answer numerical_conflict = refl
-code-answer too_large = refl
-code-answer forced_type = refl
-code-answer doc_order = refl
-code-answer doc_out_of_range = refl
-code-answer tie_breaker_start = refl
+use Rattle.col_tool.specs.Texts.{read_refusals}
 
 -- each refusal has a status among those of refusals
 status-among : (r : Refusal) → Contains refusals (status_of r)
@@ -45,10 +33,12 @@ known-among e (inl memory) = rw memory (0, omega arith, refl)
 known-among e (inr (inl fault)) = rw fault (1, omega arith, refl)
 known-among e (inr (inr known)) = rw (known.1, code-answer known.0) (status-among known.0)
 
--- so has a script that isn't read
-pub read-among : (e : ColumnarError) → (e ≡ OutOfMemory) ⊎ (e ≡ ReadFault) → Contains refusals (code_of e)
-read-among e (inl memory) = rw memory (0, omega arith, refl)
-read-among e (inr fault) = rw fault (1, omega arith, refl)
+-- so has a text that isn't read
+pub read-among : (status : ℕ) → Contains read_refusals status → Contains refusals status
+read-among status (zero, within, e) = (0, omega arith, e)
+read-among status (suc zero, within, e) = (1, omega arith, e)
+read-among status (suc (suc zero), within, e) = (14, omega arith, e)
+read-among status (suc (suc (suc k)), within, e) = absurd (omega (arith, within))
 
 -- the statuses of refusals are among those of answers
 pub refusals-among : (status : ℕ) → Contains refusals status → Contains answers status

@@ -27,113 +27,34 @@ use Rattle.col_model.proofs.StackSeen.{none-bad}
 use Rattle.col_writer_columns.specs.Answers.{MayRefuse}
 use Rattle.col_outcome.specs.Making.{MakesIfRead}
 use Rattle.col_outcome.specs.Parts.{all_told}
-use Rattle.col_tool.proofs.RefusedLemmas.{code-answer}
+use Rattle.col_headline.proofs.StatusLemmas.{code-answer}
+use Rattle.col_script.proofs.RefusalLemmas.{Allows, AllowsSegments, allows-then, allows-test, allows-or, allows-each, allows-either, allows-unmet, allows-segment}
 
--- the step doesn't refuse data as invalid
-abbrev IsValid : {A : Type 0} → Result A Refusal → Type 0
-IsValid (Ok x) = ⊤
-IsValid (Err e) = e ≡ invalid_data → ⊥
+-- the refusal isn't that of invalid data
+abbrev IsOther : Refusal → Type 0
+IsOther e = e ≡ invalid_data → ⊥
 
--- ---- steps
-
-valid-then : {A B : Type 0} (r : Result A Refusal) (f : A → Result B Refusal) → IsValid r → ((x : A) → IsValid (f x)) → IsValid (r >>= f)
-valid-then (Ok x) f first second = second x
-valid-then (Err e) f first second = first
-
-valid-test : {A : Type 0} (test : Bool) (e : Refusal) (r : Result A Refusal) → (e ≡ invalid_data → ⊥) → IsValid r
-    → IsValid (refuse_if test e >>= λ _. r)
-valid-test true e r other rest = other
-valid-test false e r other rest = rest
-
-valid-or : {A : Type 0} (o : Option A) (e : Refusal) → (e ≡ invalid_data → ⊥) → IsValid (or_refuse o e)
-valid-or (Some x) e other = tt
-valid-or None e other = other
-
-valid-each : {A B : Type 0} (f : A → Result B Refusal) (xs : List A) → ((x : A) → IsValid (f x)) → IsValid (each_ok f xs)
-valid-each f [] own = tt
-valid-each f (x ∷ xs) own =
-    valid-then (f x) (λ y. each_ok f xs >>= λ ys. Ok (y ∷ ys)) (own x)
-    (λ y. valid-then (each_ok f xs) (λ ys. Ok (y ∷ ys)) (valid-each f xs own) (λ ys. tt))
-
-valid-either : {A : Type 0} (test : Bool) (r s : Result A Refusal) → IsValid r → IsValid s → IsValid (if test then r else s)
-valid-either true r s first second = first
-valid-either false r s first second = second
-
--- a test that fails
-valid-unmet : {A : Type 0} (test : Bool) (e : Refusal) (r : Result A Refusal) → test ≡ false → IsValid r
-    → IsValid (refuse_if test e >>= λ _. r)
-valid-unmet true e r unmet rest = absurd (true≢false unmet)
-valid-unmet false e r unmet rest = rest
-
--- ---- segments
-
-valid-call : (w : Recorded) (call : Call) → IsValid (content_after w call)
-unfolding content_after
-valid-call w (recorded d name t cell) =
-    let e = entry_of w (slot_of name t) in
-    let own : Entry = record {
-      records = e.records ++ record { doc = d; recorded_type = t; cell = cell } ∷ [];
-      forced = e.forced;
-      sorts = e.sorts;
-      tie_start = e.tie_start;
-    } in
-    let made : Result Recorded Refusal = Ok (put slot_cmp (slot_of name t) own w) in
-    let few : Result Recorded Refusal = refuse_if (nat_le (2 ^ 32 - 1) (length e.records)) too_large >>= λ _. made in
-    let in_order : Result Recorded Refusal = refuse_if (is_late e.records d) doc_order >>= λ _. few in
-    valid-test (forces_other e.forced t) forced_type in_order (λ h. cc)
-    (valid-test (is_late e.records d) doc_order few (λ h. cc)
-    (valid-test (nat_le (2 ^ 32 - 1) (length e.records)) too_large made (λ h. cc) tt))
-valid-call w (typed name t sorts) =
-    let e = entry_of w (slot_of name t) in
-    let own : Entry = record { records = e.records; forced = Some t; sorts = sorts; tie_start = e.tie_start } in
-    valid-test (denies e t) forced_type (Ok (put slot_cmp (slot_of name t) own w)) (λ h. cc) tt
-valid-call w (tied name start) =
-    let e = entry_of w (slot_of name types.i64) in
-    let own : Entry = record { records = e.records; forced = Some types.i64; sorts = e.sorts; tie_start = Some start } in
-    valid-test (denies e types.i64) forced_type (Ok (put slot_cmp (slot_of name types.i64) own w)) (λ h. cc) tt
-
-valid-calls : (w : Recorded) (calls : List Call) → IsValid (content_after_all w calls)
-valid-calls w [] = tt
-valid-calls w (call ∷ calls) =
-    valid-then (content_after w call) (λ next. content_after_all next calls) (valid-call w call)
-    (λ next. valid-calls next calls)
-
-valid-column : (n : ℕ) (perm : Option (List ℕ)) (p : Slot × Entry) → IsValid (written_column n perm p)
-valid-column n perm (slot, e) =
-    let content = entry_content e n perm in
-    let made : ColumnType → Result Column Refusal = λ t. Ok (record { name = slot.name; column_type = t; content = content }) in
-    let small : ColumnType → Result Column Refusal = λ t. refuse_if (is_too_large t content) too_large >>= λ _. made t in
-    let tied : ColumnType → Result Column Refusal = λ t. refuse_if (is_past_ties n e.tie_start) tie_breaker_start >>= λ _. small t in
-    valid-then (or_refuse (entry_type slot.category e) numerical_conflict) tied
-    (valid-or (entry_type slot.category e) numerical_conflict (λ h. cc))
-    (λ t. valid-test (is_past_ties n e.tie_start) tie_breaker_start (small t) (λ h. cc)
-    (valid-test (is_too_large t content) too_large (made t) (λ h. cc) tt))
-
-valid-written : (w : Recorded) (n : ℕ) (perm : Option (List ℕ)) → IsValid (written w n perm)
-unfolding written
-valid-written w n perm =
-    let named = filter (λ (p : Slot × Entry). not (has_zero p.0.name)) w in
-    let columns : Result (List Column) Refusal = each_ok (written_column n perm) named in
-    let table : List Column → Result Table Refusal = λ columns. Ok (record { row_count = n; columns = columns }) in
-    let ordered : Result Table Refusal = refuse_if (not (is_permutation n perm)) bad_order >>= λ _. columns >>= table in
-    valid-test (list_any (is_past_docs n) w) doc_out_of_range ordered (λ h. cc)
-    (valid-test (not (is_permutation n perm)) bad_order (columns >>= table) (λ h. cc)
-    (valid-then columns table (valid-each (written_column n perm) named (valid-column n perm)) (λ columns. tt)))
-
-valid-segment : (s : Segment) → IsValid (segment_table s)
-valid-segment s =
-    valid-then (content_after_all [] s.calls) (λ w. written w s.count None) (valid-calls [] s.calls)
-    (λ w. valid-written w s.count None)
+other-segments : AllowsSegments IsOther
+other-segments = record {
+  forced_type = λ h. cc;
+  doc_order = λ h. cc;
+  too_large = λ h. cc;
+  numerical_conflict = λ h. cc;
+  tie_breaker_start = λ h. cc;
+  doc_out_of_range = λ h. cc;
+  bad_order = λ h. cc;
+}
 
 -- ---- the merge of tables
 
-valid-type : (wanted : Option ColumnType) (kept : List Column) → IsValid (joined_type wanted kept)
-valid-type (Some t) kept = valid-test (not (list_all (λ c. list_all (is_of_type t) (all_cells c)) kept)) cannot_coerce (Ok t) (λ h. cc) tt
-valid-type None kept = valid-or (shared_type kept) numerical_conflict (λ h. cc)
+valid-type : (wanted : Option ColumnType) (kept : List Column) → Allows IsOther (joined_type wanted kept)
+valid-type (Some t) kept = allows-test IsOther (not (list_all (λ c. list_all (is_of_type t) (all_cells c)) kept)) cannot_coerce (Ok t)
+    (λ h. cc) tt
+valid-type None kept = allows-or IsOther (shared_type kept) numerical_conflict (λ h. cc)
 
 valid-joined :
     (order : Order) (picked : List (ℕ × ℕ)) (tables : List Table) (required : List Required) (slot : Slot)
-    → IsValid (joined_column order picked (map part_of_table tables) required slot)
+    → Allows IsOther (joined_column order picked (map part_of_table tables) required slot)
 unfolding joined_column
 valid-joined order picked tables required slot =
     let parts = map part_of_table tables in
@@ -145,20 +66,21 @@ valid-joined order picked tables required slot =
     let small : ColumnType → Result (Option Column) Refusal = λ t. refuse_if (is_too_large t content) too_large >>= λ _. made t in
     let present : Result (Option Column) Refusal = joined_type wanted kept >>= small in
     let absent = is_none wanted && (length kept == 0) in
-    valid-unmet (has_bad_column slot parts) invalid_data (if absent then Ok None else present) (none-bad slot tables)
-    (valid-either absent (Ok None) present tt
-    (valid-then (joined_type wanted kept) small (valid-type wanted kept)
-    (λ t. valid-test (is_too_large t content) too_large (made t) (λ h. cc) tt)))
+    allows-unmet IsOther (has_bad_column slot parts) invalid_data (if absent then Ok None else present) (none-bad slot tables)
+    (allows-either IsOther absent (Ok None) present tt
+    (allows-then IsOther (joined_type wanted kept) small (valid-type wanted kept)
+    (λ t. allows-test IsOther (is_too_large t content) too_large (made t) (λ h. cc) tt)))
 
-valid-required : (earlier required : List Required) → IsValid (required_refusal earlier required)
+valid-required : (earlier required : List Required) → Allows IsOther (required_refusal earlier required)
 valid-required earlier [] = tt
 valid-required earlier (r ∷ rs) =
     let rest : Result ⊤ Refusal = required_refusal (earlier ++ r ∷ []) rs in
     let alone : Result ⊤ Refusal = refuse_if (list_any (contradicts r) earlier) required_conflict >>= λ _. rest in
-    valid-test (has_zero r.name) bad_name alone (λ h. cc)
-    (valid-test (list_any (contradicts r) earlier) required_conflict rest (λ h. cc) (valid-required (earlier ++ r ∷ []) rs))
+    allows-test IsOther (has_zero r.name) bad_name alone (λ h. cc)
+    (allows-test IsOther (list_any (contradicts r) earlier) required_conflict rest (λ h. cc) (valid-required (earlier ++ r ∷ []) rs))
 
-valid-merged : (tables : List Table) (required : List Required) (order : Order) → IsValid (merged (map part_of_table tables) required order)
+valid-merged : (tables : List Table) (required : List Required) (order : Order)
+    → Allows IsOther (merged (map part_of_table tables) required order)
 unfolding merged
 valid-merged tables required order =
     let parts = map part_of_table tables in
@@ -169,38 +91,39 @@ valid-merged tables required order =
     let named : List (ℕ × ℕ) → Result Table Refusal = λ picked. required_refusal [] required >>= λ _. columns picked >>= table picked in
     let few : List (ℕ × ℕ) → Result Table Refusal = λ picked. refuse_if (nat_le (2 ^ 32) (length picked)) too_large >>= λ _. named picked in
     let found = picks order (row_counts parts) in
-    valid-then (or_refuse found bad_order) few (valid-or found bad_order (λ h. cc))
-    (λ picked. valid-test (nat_le (2 ^ 32) (length picked)) too_large (named picked) (λ h. cc)
-    (valid-then (required_refusal [] required) (λ _. columns picked >>= table picked) (valid-required [] required)
-    (λ _. valid-then (columns picked) (table picked) (valid-each (joined_column order picked parts required)
+    allows-then IsOther (or_refuse found bad_order) few (allows-or IsOther found bad_order (λ h. cc))
+    (λ picked. allows-test IsOther (nat_le (2 ^ 32) (length picked)) too_large (named picked) (λ h. cc)
+    (allows-then IsOther (required_refusal [] required) (λ _. columns picked >>= table picked) (valid-required [] required)
+    (λ _. allows-then IsOther (columns picked) (table picked) (allows-each IsOther (joined_column order picked parts required)
     (all_slots parts required) (valid-joined order picked tables required))
     (λ columns. tt))))
 
 -- ---- a script
 
 valid-sorted : (tables : List Table) (key : SortKey)
-    → IsValid (sorted_order (map part_of_table tables) (slot_of key.name key.column_type) key.reversed)
+    → Allows IsOther (sorted_order (map part_of_table tables) (slot_of key.name key.column_type) key.reversed)
 unfolding sorted_order
 valid-sorted tables key =
     let parts = map part_of_table tables in
     let slot = slot_of key.name key.column_type in
     let made : Result Order Refusal = Ok (shuffle (row_counts parts) (sorted_rows slot key.reversed parts)) in
     let sound : Result Order Refusal = refuse_if (has_bad_column slot parts) invalid_data >>= λ _. made in
-    valid-test (nat_le (2 ^ 32) (length (all_rows (row_counts parts)))) too_large sound (λ h. cc)
-    (valid-unmet (has_bad_column slot parts) invalid_data made (none-bad slot tables) tt)
+    allows-test IsOther (nat_le (2 ^ 32) (length (all_rows (row_counts parts)))) too_large sound (λ h. cc)
+    (allows-unmet IsOther (has_bad_column slot parts) invalid_data made (none-bad slot tables) tt)
 
-valid-order : (tables : List Table) (o : Option RowOrder) → IsValid (order_over o (map part_of_table tables))
+valid-order : (tables : List Table) (o : Option RowOrder) → Allows IsOther (order_over o (map part_of_table tables))
 valid-order tables None = tt
 valid-order tables (Some (named rows)) = tt
 valid-order tables (Some (sorted key)) = valid-sorted tables key
 
-valid-script : (s : Script) → IsValid (script_table [] s)
+valid-script : (s : Script) → Allows IsOther (script_table [] s)
 valid-script s =
     let in_order : List Table → Order → Result Table Refusal = λ tables order. merged (map part_of_table tables) s.required order in
     let rest : List Table → Result Table Refusal =
     λ tables. order_over s.order (map part_of_table tables) >>= in_order tables in
-    valid-then (each_ok segment_table s.segments) rest (valid-each segment_table s.segments valid-segment)
-    (λ tables. valid-then (order_over s.order (map part_of_table tables)) (in_order tables) (valid-order tables s.order)
+    allows-then IsOther (each_ok segment_table s.segments) rest
+    (allows-each IsOther segment_table s.segments (allows-segment IsOther other-segments))
+    (λ tables. allows-then IsOther (order_over s.order (map part_of_table tables)) (in_order tables) (valid-order tables s.order)
     (λ order. valid-merged tables s.required order))
 
 -- another refusal has another status
@@ -218,7 +141,7 @@ other-status doc_out_of_range six = absurd (omega (arith, six))
 other-status tie_breaker_start six = absurd (omega (arith, six))
 
 -- a refusal that is expected of a valid step hasn't the status of invalid data
-valid-refused : {A : Type 0} (expected : Result A Refusal) (r : Refusal) → IsValid expected → expected ≡ Err r → status_of r ≡ 6 → ⊥
+valid-refused : {A : Type 0} (expected : Result A Refusal) (r : Refusal) → Allows IsOther expected → expected ≡ Err r → status_of r ≡ 6 → ⊥
 valid-refused (Ok x) r valid is six = absurd (ok_not_err x r is)
 valid-refused (Err e) r valid is six = valid (same_Err e r is ∙ other-status r six)
 

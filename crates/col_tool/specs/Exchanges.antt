@@ -1,6 +1,7 @@
 -- A table that is written as CSV, and one that is read from it. States docs/RULES.md, The command
 -- line, Tables as CSV and Statuses.
-use Rattle.std.specs.Prelude.{ℕ, ◌==◌, ◌&&◌, nat_lt, Bool, true, false, List, [], ◌∷◌, length, codes, bytes_eq, if◌then◌else◌, Option, Some, None}
+use Rattle.std.specs.Prelude.{ℕ, ◌==◌, ◌&&◌, nat_lt, Bool, true, false, List, [], ◌∷◌, length}
+use Rattle.std.specs.Prelude.{codes, bytes_eq, if◌then◌else◌, Option, Some, None}
 use Rattle.col_csv.specs.Csv.{csv_of, has_multivalued}
 use Rattle.col_csv.specs.CsvTable.{table_of_csv}
 use Rattle.col_model.specs.File.{table_of}

@@ -1,6 +1,7 @@
 -- A file that is written again. States docs/RULES.md, The command line, Upgraded files and
 -- Statuses.
-use Rattle.std.specs.Prelude.{ℕ, ◌==◌, ◌&&◌, Bool, true, false, List, [], ◌∷◌, codes, bytes_eq, Option, Some, None}
+use Rattle.std.specs.Prelude.{ℕ, ◌==◌, ◌&&◌, Bool, true, false, List, [], ◌∷◌, codes, bytes_eq}
+use Rattle.std.specs.Prelude.{Option, Some, None}
 use Rattle.col_model.specs.File.{table_of}
 use Rattle.col_program.specs.Outcome.{Outcome, done, refused, as_file}
 use Rattle.col_program.specs.Report.{report_of}

@@ -1,5 +1,6 @@
 //! Exchanges with CSV: one input as a text, and the text on the source as a file.
-ghost use Rattle.std.specs.Prelude.{◌≡◌, ◌≤◌, ◌⊎◌, ◌+◌, Contains, IfErr, IfSome, OnOk, false, length, map, nat_lt, vec_len};
+ghost use Rattle.std.specs.Prelude.{◌≡◌, ◌≤◌, ◌⊎◌, ◌+◌, Contains, IfErr, IfSome, OnOk, false};
+ghost use Rattle.std.specs.Prelude.{length, map, nat_lt, vec_len};
 ghost use Rattle.std.specs.List.{AllZip};
 ghost use Rattle.col_common.specs.Causes.{Rose};
 ghost use Rattle.col_common.specs.Outside.{Faulted, IsAtEnd, TakesAtMost};
@@ -7,13 +8,15 @@ ghost use Rattle.col_csv.specs.CsvTable.{table_of_csv};
 ghost use Rattle.col_exchange.specs.Exchanges.{IsReadTwice};
 ghost use Rattle.col_outcome.specs.Parts.{all_told, AllKeep, SomeFileRose};
 ghost use Rattle.col_program.specs.Outcome.{max_script_length};
-ghost use Rattle.col_tool.specs.Answer.{answer_status, import_refusals, refusal_status, text_refusals, IsAnswer, Leaves, KeepsOutputs};
+ghost use Rattle.col_tool.specs.Answer.{answer_status, import_refusals, refusal_status};
+ghost use Rattle.col_tool.specs.Answer.{text_refusals, IsAnswer, Leaves, KeepsOutputs};
 ghost use Rattle.col_tool.specs.Exchanges.{imported, outcome_of_export, outcome_of_import};
 ghost use Rattle.col_tool.specs.Statuses.{EndsScript, export_statuses, import_statuses};
 
+use crate::delivery::deliver;
 use crate::refusal::Refusal;
-use crate::run::{MAX_SCRIPT_LEN, deliver, is_too_long};
-use col_common::{FileHandle, Sink, Source, read_to_limit};
+use crate::texts::text_on;
+use col_common::{FileHandle, Sink, Source};
 use col_exchange::{export_and_report, import_and_report};
 use col_outcome::FileAndReport;
 use std::alloc::Global;
@@ -87,11 +90,8 @@ fn made_of_source<S: Source>(alloc: Global, source: &mut S) -> Result<FileAndRep
     ensures ended { OnOk result (IsAtEnd (S.left source.new)) }
     ensures refused { IfErr result (λ e. EndsScript (refusal_status e) (S.left source.new)) }
 {
-    let bytes = read_to_limit(alloc, source, MAX_SCRIPT_LEN)?;
-    if is_too_long(&bytes) {
-        return Err(Refusal::LongScript);
-    }
-    made_of_text(alloc, &bytes)
+    let text = text_on(alloc, source)?;
+    made_of_text(alloc, &text)
 }
 
 // Makes the file of the table of CSV that isn't too long.

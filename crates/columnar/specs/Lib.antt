@@ -82,3 +82,10 @@ pub use Rattle.col_questions.specs.Steps
 pub use Rattle.col_opened.specs.Opened
 pub use Rattle.col_query.specs.Named
 pub use Rattle.col_facet.specs.Facets as FacetCounts
+pub use Rattle.col_disk.specs.Crash
+pub use Rattle.col_disk.specs.Disks
+pub use Rattle.col_segments.specs.Compaction
+pub use Rattle.col_segments.specs.Live
+pub use Rattle.col_segments.specs.Segments
+pub use Rattle.col_set.specs.Held
+pub use Rattle.col_set.specs.Sets

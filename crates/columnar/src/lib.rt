@@ -15,6 +15,7 @@ pub mod merging;
 pub mod outside;
 pub mod queries;
 pub mod recording;
+pub mod sets;
 
 pub use col_common::{
     ByteCount, ColumnarError, DateTime, DocId, InvalidData, Ipv6Addr, Iterable, RowAddr, RowId,

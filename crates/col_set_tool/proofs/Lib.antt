@@ -1,0 +1,8 @@
+mod FinalLemmas
+mod WholeLemmas
+mod EndLemmas
+mod WroteLemmas
+mod StatusLemmas
+mod UnreadLemmas
+mod UnopenedLemmas
+mod RanLemmas

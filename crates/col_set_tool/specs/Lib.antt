@@ -1,0 +1,4 @@
+pub mod SetOutcome
+pub mod Reading
+pub mod Runs
+pub mod SetRuns
