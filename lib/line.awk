@@ -18,6 +18,9 @@ function note_line(line, number,   word, rest, doc, key) {
         match(rest, /^[0-9]+/)
         documents = substr(rest, 1, RLENGTH)
         split("", typed); split("", last); split("", last_line); split("", first)
+    } else if (verb == "set" && word ~ /^(drop|compact|find)$/) {
+        if (segment) ended = number
+        segment = 0
     } else if (word ~ /^(order|sort)$/) {
         order = number
     } else if (word in types && status ~ /^1[45]$/) {
@@ -49,15 +52,27 @@ BEGIN {
     shapes["type"] = "[\"type\",name,t]"
     shapes["sorted"] = "[\"sorted\",name,t]"
     shapes["tie"] = "[\"tie\",name,start]"
+    if (verb == "set") shapes_of_sets()
+    else shapes_of_merges()
+    for (type in types) shapes[type] = "[\"" type "\",d,name,v]"
+    for (word in shapes) sizes[word] = split(shapes[word], unused, ",")
+    sizes["order"] = 2
+    sizes["drop"] = 2
+}
+
+function shapes_of_sets() {
+    shapes["drop"] = "[\"drop\",[id,..]]"
+    shapes["compact"] = "[\"compact\"]"
+    shapes["find"] = "[\"find\",name,t,lo,hi]"
+}
+
+function shapes_of_merges() {
     shapes["require"] = "[\"require\",name,t]"
     shapes["order"] = "[\"order\",[[s,r],..]]"
     shapes["sort"] = "[\"sort\",name,t,reversed]"
     shapes["find"] = "[\"find\",name,t,lo,hi,from,to]"
     shapes["facet"] = "[\"facet\",name,t]"
     shapes["query"] = "[\"query\",q]"
-    for (type in types) shapes[type] = "[\"" type "\",d,name,v]"
-    for (word in shapes) sizes[word] = split(shapes[word], unused, ",")
-    sizes["order"] = 2
 }
 
 END {
@@ -147,6 +162,10 @@ function wrong_parts(word,   why) {
     if (word == "segment") why = whole(2, "the count of documents", "4294967295")
     else if (word == "order")
         why = kinds[2] != "list" ? "the second part is a list of pairs, as [[0,1],[0,0]]" : pairs()
+    else if (word == "drop")
+        why = kinds[2] != "list" || part[2] !~ /^\[([ \t\r]*[0-9]+[ \t\r]*(,[ \t\r]*[0-9]+[ \t\r]*)*)?[ \t\r]*\]$/ \
+            ? "the second part is a list of whole numbers, as [0,2]" : ""
+    else if (word == "compact") why = ""
     else if (word == "find") why = wrong_find()
     else if (word == "query") why = wrong_query()
     else if (word in types) why = wrong_value(word)
@@ -163,12 +182,13 @@ function wrong_parts(word,   why) {
     if (why != "") return why
     if (word ~ /^(order|sort)$/ && order) return "a second order: line " order " has one already"
     if (word ~ /^(type|sorted|tie)$/ || word in types)
-        if (!segment) return "no segment line stands before it: begin with [\"segment\",n], for n documents"
+        if (!segment) return ended ? "line " ended " ended the segment: another one begins with [\"segment\",n]" \
+            : "no segment line stands before it: begin with [\"segment\",n], for n documents"
     return ""
 }
 
 function lacking(word) {
-    if (word == "find" && parts == 5) return "; from and to say in which rows to look, as 0,4294967295 for all"
+    if (word == "find" && parts == 5 && verb != "set") return "; from and to say in which rows to look, as 0,4294967295 for all"
     if (word in types && parts == 3) return "; d is the document's number in its segment, from 0"
     if (word == "sort" && parts == 3) return "; reversed is true for falling values, else false"
     if (word in types && parts > 4) return "; a document with several values has a line for each"
@@ -180,6 +200,8 @@ function meant(word,   small) {
     if (small != word && small in shapes) return ": words are in small letters, \"" small "\""
     if (small ~ /^(segments?|seg|docs?|documents?|rows|begin|table|batch)$/) return ": did you mean \"segment\"?"
     if (small ~ /^(find|search|select|lookup|range|get|filter)$/) return ": did you mean \"find\"?"
+    if (verb == "set") return meant_of_set(small)
+    if (small ~ /^(drop|compact)$/) return ": it is for `columnar set`"
     if (small ~ /^(facets|counts?|histogram|terms|group)$/) return ": did you mean \"facet\"?"
     if (small ~ /^(queries|where|has|and|or|not|all)$/) return ": did you mean \"query\"?"
     if (small ~ /^(sort_?by|order_?by|ordered)$/) return ": did you mean \"sort\"?"
@@ -187,6 +209,14 @@ function meant(word,   small) {
     if (small ~ /^(orders|permutation|rowid)$/) return ": did you mean \"order\"?"
     return type_meant(small) == "" ? ": segment, a type (i64, u64, bool, datetime, ip, str, bytes), type, sorted, " \
         "tie, require, order, sort, find, facet or query" : type_meant(small)
+}
+
+function meant_of_set(small) {
+    if (small ~ /^(delete|remove|dropped)$/) return ": did you mean \"drop\"?"
+    if (small ~ /^(require|order|sort|facet|query)$/)
+        return ": it is for `columnar merge`, which takes what `columnar set` writes"
+    return type_meant(small) == "" ? ": segment, a type (i64, u64, bool, datetime, ip, str, bytes), type, sorted, " \
+        "tie, drop, compact or find" : type_meant(small)
 }
 
 function type_meant(word) {
@@ -238,8 +268,8 @@ function wrong_find(   why) {
         why = part[3] " is no type: i64, u64, bool, datetime, ip, str or bytes" type_meant(unquoted(part[3]))
     if (why == "") why = value(4, unquoted(part[3]))
     if (why == "") why = value(5, unquoted(part[3]))
-    if (why == "") why = whole(6, "the first row", "4294967295")
-    if (why == "") why = whole(7, "the row behind the last one", "4294967295")
+    if (why == "" && verb != "set") why = whole(6, "the first row", "4294967295")
+    if (why == "" && verb != "set") why = whole(7, "the row behind the last one", "4294967295")
     return why
 }
 
