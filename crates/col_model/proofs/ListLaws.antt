@@ -1,7 +1,7 @@
 -- Lists: what all items keep, and where items stand.
 use Rattle.std.proofs.Common.{◌≡◌, ℕ, zero, suc, ◌-◌, ◌<◌, ◌≤◌, nat_lt, Bool, true, false, lt-ltb, List, [], ◌∷◌, ◌++◌, map, filter, filter_map, length, get_or, take, drop, slice_get, Some, find, refl, sym, subst, ◌∙◌, ap, arith, ◌+◌, sum, cond}
 use Rattle.std.specs.Prelude.{unwrap_or}
-use Rattle.std.specs.List.{AllByRecursion, range_with_len}
+use Rattle.std.specs.List.{AllByRecursion, AllZip, range_with_len}
 use Rattle.std.proofs.lemmas.Bool.{true≢false, and_parts}
 use Rattle.std.proofs.lemmas.List.Sums.{sum_by-cons}
 use Rattle.std.proofs.lemmas.List.{map-id}
@@ -160,3 +160,11 @@ module _ {A : Type 0} (p : A → Bool) (d : A) where
       rw (early 0 (omega arith), less) (filter_run xs start upto (omega arith) (omega arith)
       (λ j k. early (suc j) (omega arith)) (λ j k l. passes (suc j) (omega arith) (omega arith))
       (λ j k l. fails (suc j) (omega arith) (omega arith)))
+
+-- two lists that belong together, with one more item each
+pub zip-more : {A B : Type 0} (R : A → B → Type 0) (xs : List A) (ys : List B) (x : A) (y : B) → AllZip R xs ys
+    → R x y → AllZip R (xs ++ x ∷ []) (ys ++ y ∷ [])
+zip-more R [] [] x y all here = (here, tt)
+zip-more R [] (w ∷ ws) x y all here = absurd all
+zip-more R (w ∷ ws) [] x y all here = absurd all
+zip-more R (w ∷ xs) (v ∷ ys) x y all here = (all.0, zip-more R xs ys x y all.1 here)

@@ -1,8 +1,8 @@
 -- Parts of files all of whose columns are whole.
-use Rattle.std.proofs.Common.{◌≡◌, List, [], ◌∷◌, map, Option, Some, None, refl, ap, ap₂, ◌∙◌}
+use Rattle.std.proofs.Common.{◌≡◌, ℕ, List, [], ◌∷◌, map, Option, Some, None, refl, ap, ap₂, ◌∙◌}
 use Rattle.std.proofs.lemmas.Option.{same_Some}
 use Rattle.col_common.specs.Reading.{◌>>=◌}
-use Rattle.col_model.specs.File.{PartColumn, whole_column, for_each, part_of_column, Part, table_of_part, part_of_table}
+use Rattle.col_model.specs.File.{PartColumn, whole_column, for_each, part_of_column, Part, parts_of, table_of, table_of_part, part_of_table}
 use Rattle.col_model.specs.Table.{Content, Column, Table}
 
 -- columns that are whole, as a part has them
@@ -36,3 +36,11 @@ whole-table p t e = by (for_each whole_column p.columns) refl e
 pub columns-whole : (cs : List Column) → for_each whole_column (map part_of_column cs) ≡ Some cs
 columns-whole [] = refl
 columns-whole (c ∷ cs) = ap (λ o. o >>= λ ys. Some (c ∷ ys)) (columns-whole cs)
+
+-- the part of a file that stands for a table
+pub whole-part : (bytes : List ℕ) (t : Table) → table_of bytes ≡ Some t → parts_of bytes ≡ Some (part_of_table t)
+whole-part bytes t = by (parts_of bytes)
+  where
+    by : (o : Option Part) → (o >>= table_of_part) ≡ Some t → o ≡ Some (part_of_table t)
+    by None h = cc
+    by (Some p) h = ap Some (whole-table p t h)

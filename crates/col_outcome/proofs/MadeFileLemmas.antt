@@ -7,16 +7,9 @@ use Rattle.col_common.specs.declared.error.ColumnarError.{ColumnarError}
 use Rattle.col_writer_file.proofs.EachLemmas.{whole-at, each-stopped}
 use Rattle.col_model.specs.Refusal.{Refusal, each_ok}
 use Rattle.col_model.proofs.RefusalLaws.{each-push}
+use Rattle.col_model.proofs.ListLaws.{zip-more}
 use Rattle.col_writer_columns.specs.Answers.{MayRefuse}
 use Rattle.col_outcome.specs.Making.{Makes}
-
--- two lists that belong together, with one more item each
-pub zip-more : {A B : Type 0} (R : A → B → Type 0) (xs : List A) (ys : List B) (x : A) (y : B) → AllZip R xs ys
-    → R x y → AllZip R (xs ++ x ∷ []) (ys ++ y ∷ [])
-zip-more R [] [] x y all here = (here, tt)
-zip-more R [] (w ∷ ws) x y all here = absurd all
-zip-more R (w ∷ ws) [] x y all here = absurd all
-zip-more R (w ∷ xs) (v ∷ ys) x y all here = (all.0, zip-more R xs ys x y all.1 here)
 
 -- what was made of the items up to a place
 pub record HaveMade {S A B : Type 0} (R : A → B → Type 0) (f : S → Result A Refusal) (xs : List S) (i : ℕ) (bs : List B) : Type 0 where

@@ -28,7 +28,7 @@ use Rattle.col_outcome.specs.Parts.{given, handed_in, given_in, files_in, all_fi
 use Rattle.col_outcome.specs.declared.merging.FileAndReport.{FileAndReport}
 use Rattle.col_outcome.proofs.PartLemmas.{all_keep-long, some_rose-later, some_rose-first}
 use Rattle.col_outcome.proofs.StayLemmas.{reader-rose, merged-keep}
-use Rattle.col_outcome.proofs.TableLemmas.{whole-part}
+use Rattle.col_model.proofs.PartLaws.{whole-part}
 
 -- what is read of an input
 abbrev input_part : List ℕ → Result Part Refusal

@@ -13,7 +13,7 @@ use Rattle.col_common.proofs.OnOkLemmas.{same-error}
 use Rattle.col_outcome.specs.Inputs.{IsOpened, OpensInputs, OpensFiles}
 use Rattle.col_outcome.specs.Parts.{given, handed_in, given_in, files_in, all_files, IsUnfailed, AllKeep}
 use Rattle.col_outcome.proofs.InputLemmas.{inputs-refused, fault-rose}
-use Rattle.col_outcome.proofs.MadeFileLemmas.{zip-more}
+use Rattle.col_model.proofs.ListLaws.{zip-more}
 use Rattle.col_outcome.proofs.PartLemmas.{keeps-read, all_keep-none, all_keep-append, some_rose-behind, given-first, given-one, made-one, given-pushed, handed-pushed}
 
 -- inputs up to some one were opened, and those behind it are left

@@ -5,14 +5,6 @@ use Rattle.col_model.specs.File.{Part, parts_of, table_of, table_of_part, part_o
 use Rattle.col_model.specs.Table.{Table}
 use Rattle.col_model.proofs.PartLaws.{whole-table}
 
--- the part of a file that stands for a table
-pub whole-part : (bytes : List ℕ) (t : Table) → table_of bytes ≡ Some t → parts_of bytes ≡ Some (part_of_table t)
-whole-part bytes t = by (parts_of bytes)
-  where
-    by : (o : Option Part) → (o >>= table_of_part) ≡ Some t → o ≡ Some (part_of_table t)
-    by None h = cc
-    by (Some p) h = ap Some (whole-table p t h)
-
 -- the first item of a list, and the others
 abbrev head_or : {C : Type 0} → C → List C → C
 head_or c [] = c

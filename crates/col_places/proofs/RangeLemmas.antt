@@ -12,42 +12,12 @@ use Rattle.col_model.specs.Table as cells
 use Rattle.col_places.specs.Ranges.{are_cells_of, greatest_of, least_of, rows_between}
 use Rattle.col_program.specs.Queries.{End, cell_of, is_kind, num}
 use Rattle.col_query.specs.Sets.{docs_where}
+use Rattle.col_query.proofs.SetLemmas.{no_docs, same_docs}
 use Rattle.col_questions.specs.Steps.{is_end_of}
-
--- ---- rows that pass a test
-
-range-agree : (p q : ℕ → Bool) (k n : ℕ) → ((d : ℕ) → k ≤ d → d < k + n → p d ≡ q d)
-    → filter p (range_with_len k n) ≡ filter q (range_with_len k n)
-range-agree p q k zero same = refl
-range-agree p q k (suc n) same =
-    let first = same k (omega arith) (omega arith) in
-    let rest = range-agree p q (k + 1) n (λ d le lt. same d (omega (arith, le)) (omega (arith, lt))) in
-    λ i. cond (first i) (k ∷ rest i) (rest i)
-
--- by another test, which the same rows pass
-pub rows-agree : (p q : ℕ → Bool) (n : ℕ) → ((d : ℕ) → d < n → p d ≡ q d) → docs_where p n ≡ docs_where q n
-rows-agree p q n same = range-agree p q 0 n (λ d le lt. same d (omega (arith, lt)))
-
-range-none : (p : ℕ → Bool) (k n : ℕ) → ((d : ℕ) → p d ≡ false) → filter p (range_with_len k n) ≡ []
-range-none p k zero none = refl
-range-none p k (suc n) none =
-    ap (λ b. cond b (k ∷ filter p (range_with_len (k + 1) n)) (filter p (range_with_len (k + 1) n))) (none k)
-    ∙ range-none p (k + 1) n none
 
 -- no row passes
 pub rows-none : (p : ℕ → Bool) (n : ℕ) → ((d : ℕ) → p d ≡ false) → docs_where p n ≡ []
-rows-none p n = range-none p 0 n
-
--- a lookup over all rows
-pub all-between : (c : Content) (lo hi : Cell) (n : ℕ) → length c.rows ≡ n
-    → docs_between c lo hi 0 n ≡ docs_where (λ d. list_any (is_between lo hi) (row_of c d)) n
-unfolding docs_between
-all-between c lo hi n long =
-    let any : ℕ → Bool = λ d. list_any (is_between lo hi) (row_of c d) in
-    let test : ℕ → Bool = λ d. nat_le 0 d && nat_lt d n && any d in
-    ap (docs_where test) long
-    ∙ rows-agree test any n (λ d h. ap (λ v. v && nat_lt d n && any d) (le-leb 0 d (omega arith))
-    ∙ ap (λ v. v && any d) (lt-ltb d n h))
+rows-none p n none = no_docs p n (λ d h. none d)
 
 -- ---- the kinds of ends
 
@@ -178,7 +148,7 @@ module _ (t : ColumnType) (lo hi low high : ℤ) (kind : is_kind t (num lo) ≡ 
       → docs_where (λ r. list_any (is_between (cells.number low) (cells.number high)) (row_of content r)) n
       ≡ docs_where (λ r. list_any (is_between (cells.number lo) (cells.number hi)) (row_of content r)) n
   rows-same content n all =
-      rows-agree (λ r. list_any (is_between (cells.number low) (cells.number high)) (row_of content r))
+      same_docs (λ r. list_any (is_between (cells.number low) (cells.number high)) (row_of content r))
       (λ r. list_any (is_between (cells.number lo) (cells.number hi)) (row_of content r)) n
       (λ r below. cells-same (row_of content r) (row-cells t content r all))
 

@@ -1,5 +1,5 @@
 mod AnswerLemmas
-mod FindLemmas
+pub mod FindLemmas
 mod LeafLemmas
 mod LawLemmas
 mod MergeLemmas
@@ -7,6 +7,6 @@ mod NameLemmas
 mod NamedLemmas
 mod PassLemmas
 mod RunLemmas
-mod SetLemmas
+pub mod SetLemmas
 mod StackLemmas
 mod WordLemmas

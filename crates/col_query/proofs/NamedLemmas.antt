@@ -1,6 +1,6 @@
 -- The entries that the steps of a query name.
 use Rattle.std.proofs.Common.{◌≡◌, ◌⊎◌, ℕ, zero, suc, ◌<◌, ◌||◌, Bool, true, false, cond, List, [], ◌∷◌, ◌++◌, length, map, find, set, get_or, slice_get, is_some, Option, Some, None, option_and_then, refl, sym, ap, ◌∙◌, inl, inr, arith}
-use Rattle.std.proofs.lemmas.Bool.{cases_eq, false≢true}
+use Rattle.std.proofs.lemmas.Bool.{cases_eq, false≢true, or_cases}
 use Rattle.std.proofs.lemmas.List.{length-set, get_or-set_same, get_or-set_other}
 use Rattle.std.proofs.lemmas.List.Folds.{list_any-append}
 use Rattle.std.proofs.lemmas.Option.{same_Some}
@@ -94,10 +94,6 @@ or-right : (a b : Bool) → b ≡ true → (a || b) ≡ true
 or-right true b e = refl
 or-right false b e = e
 
-or-either : (a b : Bool) → (a || b) ≡ true → (a ≡ true) ⊎ (b ≡ true)
-or-either true b e = inl refl
-or-either false b e = inr e
-
 or-nothing : (a : Bool) → (a || false) ≡ a
 or-nothing true = refl
 or-nothing false = refl
@@ -114,7 +110,7 @@ more-none ss s es flags m none = record {
   long = m.long;
   named = λ at e here flag. more-names ss s e ∙ or-left (some_names_entry ss e) (names_entry s e) (m.named at e here flag);
   whole = λ distinct at e here some.
-      by at e here distinct (or-either (some_names_entry ss e) (names_entry s e) (sym (more-names ss s e) ∙ some));
+      by at e here distinct (or_cases (some_names_entry ss e) (names_entry s e) (sym (more-names ss s e) ∙ some));
 }
   where
     by : (at : ℕ) (e : Entry) → slice_get es at ≡ Some e → are_keys (map (λ e. e.key) es) ≡ true
@@ -129,7 +125,7 @@ more-one ss s es flags place x m found is = record {
   long = length-set flags place true ∙ m.long;
   named = λ at e here flag. more-names ss s e ∙ told at e here flag (cases_eq at place);
   whole = λ distinct at e here some.
-      by at e here distinct (or-either (some_names_entry ss e) (names_entry s e) (sym (more-names ss s e) ∙ some)) (cases_eq at place);
+      by at e here distinct (or_cases (some_names_entry ss e) (names_entry s e) (sym (more-names ss s e) ∙ some)) (cases_eq at place);
 }
   where
     inside : place < length flags

@@ -33,7 +33,8 @@ pub record AllowsSegments (P : Refusal → Type 0) : Type 0 where
 module _ (P : Refusal → Type 0) where
   -- ---- steps
 
-  pub allows-then : {A B : Type 0} (r : Result A Refusal) (f : A → Result B Refusal) → Allows P r → ((x : A) → Allows P (f x)) → Allows P (r >>= f)
+  pub allows-then : {A B : Type 0} (r : Result A Refusal) (f : A → Result B Refusal) → Allows P r → ((x : A) → Allows P (f x))
+      → Allows P (r >>= f)
   allows-then (Ok x) f first second = second x
   allows-then (Err e) f first second = first
 

@@ -7,8 +7,8 @@ use Rattle.col_model.specs.Refusal.{Refusal}
 use Rattle.col_model.specs.Table.{Table}
 use Rattle.col_writer_columns.specs.Answers.{MayRefuse}
 
--- What was made is a file of the table that is expected; or the refusal is the one that is expected,
--- or want of memory.
+-- What was made is a file of the table that is expected; or the refusal is the one that is
+-- expected, or want of memory.
 pub record MakesFile (result : Result (Vec ℕ Global) ColumnarError)
     (expected : Result Table Refusal) : Type 0 where
   pub ok : IfOk result (λ file. (t : Table) × (expected ≡ Ok t) × StandsFor t file.items)

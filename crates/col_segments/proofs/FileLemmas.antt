@@ -15,7 +15,7 @@ use Rattle.col_model.specs.Keys.{Entry, FileKeys, keys}
 use Rattle.col_model.specs.Refusal.{◌>>=◌, or_refuse, invalid_data}
 use Rattle.col_model.specs.Table.{Column, Content, Table}
 use Rattle.col_model.proofs.ListLaws.{range-more}
-use Rattle.col_model.proofs.PartLaws.{whole-table}
+use Rattle.col_model.proofs.PartLaws.{whole-table, whole-part}
 use Rattle.col_segments.specs.Files.{no_table, table_in, IsTableFile, IsWhole, ReadsTable, OpensBytes}
 use Rattle.col_segments.specs.Segments.{all_alive, are_places, whole_file}
 use Rattle.col_segments.proofs.PlaceLemmas.{places-range}
@@ -116,18 +116,11 @@ keys-rows bytes k t has is = by (for_each whole_column (map (part_column bytes k
     by None h = absurd (cc h)
     by (Some cs) h = ap (λ (t : Table). t.row_count) (same_Some (record { row_count = k.row_count; columns = cs }) t h)
 
-part-whole : (bytes : List ℕ) (t : Table) → table_of bytes ≡ Some t → parts_of bytes ≡ Some (part_of_table t)
-part-whole bytes t = by (parts_of bytes)
-  where
-    by : (o : Option Part) → option_and_then table_of_part o ≡ Some t → o ≡ Some (part_of_table t)
-    by None h = absurd (cc h)
-    by (Some p) h = ap Some (whole-table p t h)
-
 -- a reader of a file that has a table
 pub reader-of : (bytes : List ℕ) (r : SeenReader) → IsTableFile bytes → r.file.told ≡ Some bytes
     → IfSome r.file.told (λ b. keys b ≡ Some r.keys) → ReadsTable (table_in bytes) r
 reader-of bytes r is told read = record {
-  part = ap (option_and_then parts_of) told ∙ part-whole bytes (table_in bytes) is;
+  part = ap (option_and_then parts_of) told ∙ whole-part bytes (table_in bytes) is;
   rows = keys-rows bytes r.keys (table_in bytes) (rw told at read) is;
 }
 

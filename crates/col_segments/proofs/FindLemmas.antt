@@ -23,6 +23,7 @@ use Rattle.col_places.specs.Ranges.{is_row_between}
 use Rattle.col_places.proofs.KindLemmas.{kind-same}
 use Rattle.col_places.proofs.WalkLemmas.{places-map, places-none}
 use Rattle.col_program.specs.Queries.{End, cell_of, is_kind, num}
+use Rattle.col_model.proofs.StackSeen.{found-all}
 use Rattle.col_segments.specs.Files.{ReadsTable}
 use Rattle.col_segments.specs.Found.{FitsTable, HasColumn, MayFit, has_value}
 use Rattle.col_segments.specs.Live.{row_in, with_alive}
@@ -52,14 +53,6 @@ columns-opened slot tables rs columns reads opened =
     zip-through ReadsTable (IsOpenedAs slot) (HasColumn slot) tables rs columns (column-opened slot) reads opened
 
 -- ---- one column, of a sound table
-
-found-all : {A : Type 0} (P : A → Type 0) (test : A → Bool) (xs : List A) (x : A) → AllByRecursion P xs → find test xs ≡ Some x → P x
-found-all P test [] x all e = absurd (cc e)
-found-all P test (y ∷ ys) x all e = by (test y) e (found-all P test ys x all.1)
-  where
-    by : (b : Bool) → cond b (Some y) (find test ys) ≡ Some x → (find test ys ≡ Some x → P x) → P x
-    by true e later = subst P (same_Some y x e) all.0
-    by false e later = later e
 
 -- no cell is one of a range
 no-cell : (t : ColumnType) (lo hi : End) → is_row_between t lo hi [] ≡ false

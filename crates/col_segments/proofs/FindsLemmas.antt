@@ -94,7 +94,3 @@ pub found-whole : (hs : List HeldTable) (at : ℕ) (name : List ℕ) (t : Column
     → new ≡ old ++ places_between name t lo hi (live (take at hs)) → new ≡ old ++ places_between name t lo hi (live hs)
 found-whole hs at name t lo hi old new whole is =
     is ∙ ap (λ hs. old ++ places_between name t lo hi (live hs)) (take_all at hs whole)
-
--- no segment yet
-pub upto-start : (hs : List HeldTable) → IsUpto hs 0 0 0
-upto-start hs = record { counted = refl; next_is = refl }

@@ -1,7 +1,7 @@
 -- The column that is found under a slot of a merged table is the joined one.
 use Rattle.std.proofs.Common.{◌≡◌, ◌⊎◌, inl, inr, ⊎_elim, ℕ, ◌||◌, Bool, true, false, cond, List, [], ◌∷◌, filter_map, find, Option, Some, None, refl, sym, ap, ◌∙◌, subst}
 use Rattle.std.specs.Prelude.{Result, Ok}
-use Rattle.std.proofs.lemmas.Bool.{true≢false}
+use Rattle.std.proofs.lemmas.Bool.{true≢false, or_cases}
 use Rattle.col_model.specs.Category.{Slot, slot_cmp, same_slot}
 use Rattle.col_model.specs.File.{Part}
 use Rattle.col_model.specs.Merge.{joined_column}
@@ -16,10 +16,6 @@ use Rattle.col_merge.proofs.JoinedLemmas.{joined-slot}
 -- the column of a slot
 abbrev pub column_at : Slot → List Column → Option Column
 column_at slot cs = find (λ c. same_slot (column_slot c) slot) cs
-
-or_cases : (a b : Bool) → (a || b) ≡ true → (a ≡ true) ⊎ (b ≡ true)
-or_cases true b h = inl refl
-or_cases false b h = inr h
 
 module _ (order : Order) (picked : List (ℕ × ℕ)) (parts : List Part) (slot : Slot) where
   abbrev joined : Slot → Result (Option Column) Refusal

@@ -5,18 +5,12 @@ use Rattle.std.proofs.Math.ListN.{set}
 use Rattle.std.proofs.lemmas.List.{map-append, length-map}
 use Rattle.std.proofs.lemmas.Slice.Zip.{AllZip-long}
 use Rattle.col_model.specs.Table.{Table}
+use Rattle.col_model.proofs.ListLaws.{zip-more}
 use Rattle.col_segments.specs.Live.{with_alive}
 use Rattle.col_segments.specs.Segments.{HeldTable}
 use Rattle.col_segments.proofs.KeptLemmas.{count-more, some-alive, none-alive, with_alive-more, with_alive-same}
 
 -- ---- lists side by side
-
-pub zip-more : {A B : Type 0} (R : A → B → Type 0) (xs : List A) (ys : List B) (x : A) (y : B) → AllZip R xs ys → R x y
-    → AllZip R (xs ++ x ∷ []) (ys ++ y ∷ [])
-zip-more R [] [] x y all here = (here, tt)
-zip-more R [] (w ∷ ws) x y all here = absurd all
-zip-more R (w ∷ ws) [] x y all here = absurd all
-zip-more R (w ∷ xs) (v ∷ ys) x y all here = (all.0, zip-more R xs ys x y all.1 here)
 
 -- without what stands behind
 zip-front : {A B : Type 0} (R : A → B → Type 0) (xs : List A) (x : A) (ys : List B) → AllZip R (xs ++ x ∷ []) ys

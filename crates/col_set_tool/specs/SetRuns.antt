@@ -70,8 +70,8 @@ pub record RunsSet (disk disk' : SeenDisk) (left left' : Told) (faults faults' :
       → Stays disk disk' × (disk'.faults ≡ disk.faults)
   pub no_step : Contains (4 ∷ 6 ∷ []) status → IfSome disk.told (λ bytes. LeavesOnly
       disk.images disk'.images (λ c. disk.images.may_leave c ⊎ IsHeldAlike bytes c))
-  -- what the sinks are left with by a fault, by want of memory, and by any other refusal; the output
-  -- is written once the disk holds the one table
+  -- what the sinks are left with by a fault, by want of memory, and by any other refusal; the
+  -- output is written once the disk holds the one table
   pub cut_short : status ≡ 5 → (Rose disk.faults disk'.faults × AppendsNothing output output'
       × AppendsNothing report report') ⊎ IfBothTold disk.told left (λ bytes text.
       IsDone (set_outcome bytes text) (CutShort output output' report report')
