@@ -1,5 +1,5 @@
 -- What row orders mean. States docs/RULES.md, Merged tables.
-use Rattle.std.specs.Prelude.{◌≡◌, ℕ, ◌+◌, ◌^◌, ◌<◌, ◌==◌, ◌&&◌, nat_le, Bool, true, List, length, map, slice_get, slice_index, Option, Some, None, Result, Ok, Err, if◌then◌else◌}
+use Rattle.std.specs.Prelude.{◌≡◌, ℕ, ◌+◌, ◌^◌, ◌<◌, ◌==◌, ◌&&◌, ◌||◌, not, nat_le, nat_lt, Bool, true, List, length, map, Option, Some, None, Result, Ok, Err, if◌then◌else◌}
 use Rattle.std.specs.List.{list_all, list_any, range_with_len}
 use Rattle.col_common.specs.declared.row.RowAddr.{RowAddr}
 use Rattle.col_common.specs.declared.error.ColumnarError.{ColumnarError}
@@ -37,17 +37,15 @@ pub record IsStack (counts offsets : List ℕ) : Type 0 where
   pub offsets_are : offsets ≡ offsets_of counts
   pub fits : start_of counts (length counts) < 2 ^ 32
 
--- the flags of a segment's rows are those of the rows that are named
-abbrev pub AreAlive : Shuffle → List (List Bool) → Type 0
-AreAlive s flags = (segment : ℕ) → segment < length s.counts → slice_get flags segment
-    ≡ Some (named_rows s.addresses segment (slice_index s.counts segment))
+-- rows that are named in a segment are below a count
+abbrev pub AreWithin : ℕ → ℕ → List (ℕ × ℕ) → Type 0
+AreWithin segment n addresses =
+    list_all (λ a. not (a.0 == segment) || nat_lt a.1 n) addresses ≡ true
 
--- each row that is named is there, and its flag is set
-pub record IsShuffle (s : Shuffle) (flags : List (List Bool)) : Type 0 where
+-- each row that is named is there
+pub record IsShuffle (s : Shuffle) : Type 0 where
   pub named : list_all (has_row s.counts) s.addresses ≡ true
   pub few : length s.addresses < 2 ^ 32
-  pub segments : length flags ≡ length s.counts
-  pub alive : AreAlive s flags
 
 -- the row counts that an order knows
 abbrev pub counts_of : Order → List ℕ

@@ -1,10 +1,10 @@
 //! Rows that are named one by one.
-ghost use Rattle.std.specs.Prelude.{◌≡◌, ◌⊎◌, ◌<◌, map, length, slice_get, slice_index, replicate};
-ghost use Rattle.std.specs.Prelude.{true, false, Some, Err, IfOk, IfErr, IfSome};
+ghost use Rattle.std.specs.Prelude.{◌≡◌, ◌⊎◌, ◌<◌, map, length, slice_get, slice_index};
+ghost use Rattle.std.specs.Prelude.{true, Some, Err, IfOk, IfErr, IfSome};
 ghost use Rattle.col_common.specs.declared.error.ColumnarError.TheVariants as refusals;
 ghost use Rattle.std.specs.List.{list_all};
 ghost use Rattle.col_model.specs.Order.{has_row};
-ghost use Rattle.col_order.specs.Orders.{Shuffle, AreAlive, address_of, named_rows};
+ghost use Rattle.col_order.specs.Orders.{address_of, named_rows, AreWithin};
 ghost use Rattle.col_order.specs.Orders.{shuffle_refusal, error_of};
 
 use col_common::{BitSet, ColumnarError, RowAddr, RowId};
@@ -17,7 +17,6 @@ use std::marker::Model;
 pub struct ShuffleMergeOrder {
     segment_num_rows: Vec<RowId>,
     new_row_id_to_old_row_id: Vec<RowAddr>,
-    alive_bitsets: Vec<BitSet>,
 }
 
 impl Model for ShuffleMergeOrder {
@@ -32,12 +31,10 @@ impl Model for ShuffleMergeOrder {
           addresses = map address_of o.new_row_id_to_old_row_id.items;
         } };
 
-    ghost invariant = { λ o. IsShuffle
-        (record {
-          counts = o.segment_num_rows.items;
-          addresses = map address_of o.new_row_id_to_old_row_id.items;
-        })
-        o.alive_bitsets.items };
+    ghost invariant = { λ o. IsShuffle (record {
+      counts = o.segment_num_rows.items;
+      addresses = map address_of o.new_row_id_to_old_row_id.items;
+    }) };
 }
 
 impl ShuffleMergeOrder {
@@ -61,12 +58,9 @@ impl ShuffleMergeOrder {
             ⊎ (shuffle_refusal segment_num_rows.now addresses ≡ Some e)) }
     {
         check(segment_num_rows, &new_row_id_to_old_row_id)?;
-        let counts = segment_num_rows.to_vec(alloc)?;
-        let alive_bitsets = alive_bitsets(alloc, segment_num_rows, &new_row_id_to_old_row_id)?;
         Ok(ShuffleMergeOrder {
-            segment_num_rows: counts,
+            segment_num_rows: segment_num_rows.to_vec(alloc)?,
             new_row_id_to_old_row_id,
-            alive_bitsets,
         })
     }
 
@@ -126,14 +120,15 @@ impl ShuffleMergeOrder {
         &self.new_row_id_to_old_row_id
     }
 
-    /// Which rows of a segment are named.
-    pub fn alive(&self, segment: usize) -> &BitSet
+    /// Which rows of a segment are named. The set is made of all rows that are, and has a bit for
+    /// each row of the segment.
+    pub fn alive(&self, alloc: Global, segment: usize) -> Result<BitSet, AllocError>
         requires { segment < length self.now.counts }
-        ensures named { let num_rows = slice_index self.now.counts segment in
-            result.now ≡ named_rows self.now.addresses segment num_rows }
-        ensures rows { length result.now ≡ slice_index self.now.counts segment }
+        ensures { IfOk result (λ set. set ≡ named_rows self.now.addresses segment
+            (slice_index self.now.counts segment)) }
     {
-        &self.alive_bitsets[segment]
+        let num_rows = self.segment_num_rows[segment];
+        alive_bitset(alloc, &self.new_row_id_to_old_row_id, segment, num_rows)
     }
 
     /// Each row that is named is one of its segment.
@@ -175,33 +170,21 @@ fn is_there(segment_num_rows: &[RowId], addr: RowAddr) -> bool
     }
 }
 
-// For each segment which of its rows are named.
-fn alive_bitsets(
+// Which rows of a segment with so many are named.
+fn alive_bitset(
     alloc: Global,
-    segment_num_rows: &[RowId],
     addrs: &[RowAddr],
-) -> Result<Vec<BitSet>, AllocError>
-    requires { list_all (has_row segment_num_rows.now) (map address_of addrs.now) ≡ true }
-    ensures segments { IfOk result (λ sets. length sets.items ≡ length segment_num_rows.now) }
-    ensures alive { let addresses = map address_of addrs.now in
-        let s : Shuffle = record { counts = segment_num_rows.now; addresses = addresses } in
-        IfOk result (λ sets. AreAlive s sets.items) }
+    segment: usize,
+    num_rows: RowId,
+) -> Result<BitSet, AllocError>
+    requires { AreWithin segment num_rows (map address_of addrs.now) }
+    ensures { IfOk result (λ set. set ≡ named_rows (map address_of addrs.now) segment num_rows) }
 {
-    let mut sets = empty_bitsets(alloc, segment_num_rows)?;
+    let mut set = BitSet::with_max_value(alloc, num_rows)?;
     for addr in addrs {
-        sets[addr.segment_ord as usize].insert(addr.row_id);
+        if addr.segment_ord as usize == segment {
+            set.insert(addr.row_id);
+        }
     }
-    Ok(sets)
-}
-
-// For each segment the empty set of its rows.
-fn empty_bitsets(alloc: Global, segment_num_rows: &[RowId]) -> Result<Vec<BitSet>, AllocError>
-    ensures { IfOk result
-        (λ sets. sets.items ≡ map (λ n. replicate n false) segment_num_rows.now) }
-{
-    let mut sets = Vec::with_capacity(alloc, segment_num_rows.len())?;
-    for num_rows in segment_num_rows {
-        sets.push(BitSet::with_max_value(alloc, *num_rows)?)?;
-    }
-    Ok(sets)
+    Ok(set)
 }

@@ -42,7 +42,13 @@ fn a_shuffle_has_the_rows_that_it_names(rt: HostRuntime) -> Result<(), Fail> {
     assert_eq!(rt; order.num_segments(), 2);
     let last = order.row_addr(3);
     assert_eq!(rt; (last.segment_ord, last.row_id), (0, 0));
-    assert!(rt; order.alive(0).contains(0) && !order.alive(0).contains(1));
-    assert_eq!(rt; order.alive(1).len(), 3);
+    Ok(())
+}
+
+#[test]
+fn rows_that_a_shuffle_names_are_alive(rt: HostRuntime) -> Result<(), Fail> {
+    let order = ShuffleMergeOrder::for_test(rt.alloc(), &COUNTS, addresses(rt.alloc(), &ROWS)?)?;
+    let alive = order.alive(rt.alloc(), 0)?;
+    assert_eq!(rt; alive.len(), 1);
     Ok(())
 }
