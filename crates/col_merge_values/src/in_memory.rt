@@ -21,8 +21,7 @@ use std::alloc::{AllocError, Global};
 
 /// A list that can be put into memory as a whole.
 pub trait InMemory<T>: Iterable<T> {
-    /// Its items. The list has room for those of columns whose rows are all picked once, and grows
-    /// where there are more.
+    /// Its items. The list has room for those of a stack, and for about those of a shuffle.
     fn in_memory(&self, alloc: Global) -> Result<Vec<T>, AllocError>
         ensures { IfOk result (λ v. v.items ≡ Self.items self.now) };
 }

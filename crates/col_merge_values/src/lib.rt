@@ -9,6 +9,7 @@ mod lists;
 mod merged_column_values;
 mod picked;
 mod remapped_term_ordinals;
+mod room;
 mod runs;
 mod segments;
 

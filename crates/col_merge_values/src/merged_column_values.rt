@@ -6,7 +6,8 @@ ghost use Rattle.col_order.specs.RowOrders.{order_of};
 use crate::in_memory::InMemory;
 use crate::lists::append_list;
 use crate::picked::{PickedColumn, is_full, picked_column};
-use crate::runs::{next_value, num_vals_in_all, picked_values};
+use crate::room::room_for_values;
+use crate::runs::{next_value, picked_values};
 use crate::segments::Segments;
 use col_common::{Iterable, RowId, Walk};
 use col_index::ColumnIndex;
@@ -114,8 +115,8 @@ where
         match self.order {
             MergeRowOrder::Stack(_) => Ok(None),
             MergeRowOrder::Shuffled(order) => {
-                let num_vals = num_vals_in_all(&self.columns, self.order);
-                Ok(Some(picked_column(alloc, &self.columns, order, num_vals)?))
+                let room = room_for_values(&self.columns, self.order);
+                Ok(Some(picked_column(alloc, &self.columns, order, room)?))
             }
         }
     }

@@ -19,12 +19,12 @@ pub(crate) struct PickedColumn<T> {
     pub(crate) values: Vec<T>,
 }
 
-/// What a shuffle picks, with room for all its rows and for so many values.
+/// What a shuffle picks, with room for all its rows, and for so many values from the start.
 pub(crate) fn picked_column<T: Copy, S: Segments<T>>(
     alloc: Global,
     segments: &S,
     order: &ShuffleMergeOrder,
-    num_vals: usize,
+    room: usize,
 ) -> Result<PickedColumn<T>, AllocError>
     requires columns { AreColumns order.now.counts (S.columns segments.now) }
     requires few { sum (picked_counts (S.columns segments.now).shapes order.now.addresses)
@@ -35,7 +35,7 @@ pub(crate) fn picked_column<T: Copy, S: Segments<T>>(
     let num_rows = order.num_rows() as usize;
     let mut rows = Vec::with_capacity(alloc, num_rows)?;
     let mut starts = Vec::with_capacity(alloc, num_rows + 1)?;
-    let mut values = Vec::with_capacity(alloc, num_vals)?;
+    let mut values = Vec::with_capacity(alloc, room)?;
     push_rows(segments, order, &mut rows, &mut starts, &mut values)?;
     Ok(PickedColumn {
         rows,

@@ -11,6 +11,7 @@ ghost use Rattle.col_merge_values.specs.Merges.{AreColumns, segment_values, pick
 ghost use Rattle.col_merge_values.specs.Merges.{StandsInRun, values_to_give, Finds};
 ghost use Rattle.col_merge_values.specs.Merges.{values_of, runs_by, merged_rows};
 
+use crate::room::room_for_values;
 use crate::segments::Segments;
 use col_common::{RowAddr, RowId, Walk};
 use col_order::{MergeRowOrder, ShuffleMergeOrder, StackMergeOrder};
@@ -123,7 +124,7 @@ pub(crate) fn value_row_ids<T: Copy, S: Segments<T>>(
     segments.value_row_ids(segment, addr.row_id)
 }
 
-/// The values that an order picks, in memory. The list has room for all values of the segments.
+/// The values that an order picks, in memory.
 pub(crate) fn picked_values<T: Copy, S: Segments<T>>(
     alloc: Global,
     segments: &S,
@@ -133,21 +134,9 @@ pub(crate) fn picked_values<T: Copy, S: Segments<T>>(
     ensures { IfOk result (λ v. v.items
         ≡ values_of (merge_of (S.columns segments.now) (order_of order.now))) }
 {
-    let room = num_vals_in_all(segments, order);
-    let mut values = Vec::with_capacity(alloc, room)?;
+    let mut values = Vec::with_capacity(alloc, room_for_values(segments, order))?;
     append_picked(segments, order, &mut values)?;
     Ok(values)
-}
-
-/// How many values all segments have, as far as memory reaches.
-pub(crate) fn num_vals_in_all<T: Copy, S: Segments<T>>(segments: &S, order: &MergeRowOrder) -> usize
-    requires { AreColumns (counts_of (order_of order.now)) (S.columns segments.now) }
-{
-    let mut num_vals = 0usize;
-    for segment in 0..order.num_segments() {
-        num_vals = num_vals.saturating_add(segments.num_vals(segment) as usize);
-    }
-    num_vals
 }
 
 // Appends the values that an order picks.

@@ -31,6 +31,7 @@ use Rattle.col_column.specs.Opened.{counted_rows}
 use Rattle.col_column.specs.Written.{number_column_bytes, column_codecs, StandForRows, Stores64, SerializesRows}
 use Rattle.col_writer_rows.specs.Counted.{counts_of_rows, CountsRows, SerializesCounted}
 use Rattle.col_indexer.specs.Written.{index_by}
+use Rattle.col_writer_rows.proofs.RepeatedLemmas.{many-counted}
 use Rattle.col_writer_rows.proofs.RowLemmas.{sum-counts}
 use Rattle.col_writer_rows.proofs.ShapeLemmas.{counts-all, counts-rising, few-ones}
 use Rattle.col_writer_rows.proofs.StartLemmas.{length-counts}
@@ -150,6 +151,18 @@ counts-indexed c n cs rows starts some tight count fits small e f =
     let same : index_by c (length cs) (rows_with_value cs) (starts_of cs) ≡ index_by c n rows starts =
     λ i. index_by c (sym count i) (sym e i) (sym f i) in
     subst (CountsRows cs) same (counted c cs some tight fits small)
+
+-- documents that never fall, of which one is there twice
+pub repeated-indexed : (n : ℕ) (docs rows starts : List ℕ) → n < 2 ^ 32 → length docs < 2 ^ 32 → is_rising docs ≡ false
+    → is_never_falling docs ≡ true → are_below n docs ≡ true → rows ≡ rows_with_value (counts_of_rows n docs)
+    → starts ≡ starts_of (counts_of_rows n docs)
+    → CountsRows (counts_of_rows n docs) (index_by Multivalued n rows starts)
+repeated-indexed n docs rows starts fits few apart fall below r s =
+    let many = many-counted n docs fall below apart in
+    let long = length-counts n docs in
+    counts-indexed Multivalued n (counts_of_rows n docs) rows starts (λ e. cc)
+    (tight-multivalued (counts_of_rows n docs) many.0 many.1) (sym long) (omega (arith, long, fits))
+    (omega (arith, sum-counts n docs fall below, few)) r s
 
 -- documents that rise
 pub rising-indexed : (n : ℕ) (docs : List ℕ) → n < 2 ^ 32 → is_rising docs ≡ true → is_never_falling docs ≡ true

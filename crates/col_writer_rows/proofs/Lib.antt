@@ -4,6 +4,10 @@ pub mod RowLemmas
 pub mod ShapeLemmas
 mod StartLemmas
 mod NoteLemmas
+mod DocCountLemmas
+mod DocRowLemmas
+mod RepeatedLemmas
+mod StepLemmas
 mod IndexLemmas
 mod PlaceLemmas
 mod OrderLemmas

@@ -1,5 +1,5 @@
 -- Indexes and values by how many values each row has.
-use Rattle.std.specs.Prelude.{◌≡◌, ℕ, zero, suc, ◌==◌, false, List, map, length, sum, count_by, Some, Result, OnOk, ◌≤◌, ◌+◌, take}
+use Rattle.std.specs.Prelude.{◌≡◌, ℕ, zero, suc, ◌-◌, ◌==◌, false, List, [], ◌∷◌, map, length, sum, count_by, Some, Result, OnOk, ◌≤◌, ◌+◌, take}
 use Rattle.std.specs.List.{range_with_len}
 use Rattle.col_common.specs.Outside.{SeenSink}
 use Rattle.col_common.specs.Serializing.{Serializes}
@@ -23,6 +23,11 @@ counts_of_rows n docs = map (λ d. count_by (λ x. x == d) docs) (range_with_len
 abbrev pub num_some : ℕ → ℕ
 num_some zero = 0
 num_some (suc _) = 1
+
+-- how far each number is behind the one before it, and the first one behind another
+unfoldable pub steps_from : ℕ → List ℕ → List ℕ
+steps_from last [] = []
+steps_from last (x ∷ xs) = (x - last) ∷ steps_from x xs
 
 -- the first so many rows are those with values, and the first so many starts and one more theirs
 pub record HasNoted (cs rows starts : List ℕ) (len : ℕ) : Type 0 where

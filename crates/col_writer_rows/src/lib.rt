@@ -4,6 +4,7 @@
 
 mod addresses;
 mod doc_list;
+mod doc_rows;
 mod limits;
 mod numbers;
 mod row_counts;

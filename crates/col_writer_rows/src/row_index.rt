@@ -1,11 +1,12 @@
 //! Indexes of rows, on their way into a column.
-ghost use Rattle.std.specs.Prelude.{◌≡◌, ◌<◌, ◌^◌, true, sum, length, IfOk};
-ghost use Rattle.col_common.specs.Ascending.{are_below};
+ghost use Rattle.std.specs.Prelude.{◌≡◌, ◌<◌, ◌^◌, true, false, sum, length, IfOk};
+ghost use Rattle.col_common.specs.Ascending.{are_below, is_rising};
 ghost use Rattle.col_indexer.specs.Spelling as spelled;
 ghost use Rattle.col_indexer.specs.Written.{index_of};
 ghost use Rattle.col_writer_rows.specs.Counted.{counts_of_rows, CountsRows};
 
 use crate::DocList;
+use crate::doc_rows::rows_of_docs;
 use crate::row_counts::{row_starts, tightest_cardinality};
 use col_common::RowId;
 use col_index::Cardinality;
@@ -44,8 +45,7 @@ impl RowIndex {
     {
         docs.never_fall();
         if !docs.is_rising() {
-            let counts = docs.counts(alloc, num_rows)?;
-            return RowIndex::of_counts(alloc, &counts);
+            return RowIndex::of_repeated(alloc, docs, num_rows);
         }
         if docs.len() == u64::from(num_rows) {
             return Ok(RowIndex::full(alloc, num_rows));
@@ -96,6 +96,23 @@ impl RowIndex {
             num_rows,
             rows,
             starts: Vec::new(alloc),
+        })
+    }
+
+    // The index of documents of which one is there twice.
+    fn of_repeated(alloc: Global, docs: &DocList, num_rows: RowId) -> Result<RowIndex, AllocError>
+        requires below { are_below num_rows docs.now ≡ true }
+        requires few { length docs.now < 2 ^ 32 }
+        requires repeated { is_rising docs.now ≡ false }
+        ensures { IfOk result (λ i. CountsRows (counts_of_rows num_rows docs.now) i) }
+    {
+        docs.never_fall();
+        let (rows, starts) = rows_of_docs(alloc, docs, num_rows)?;
+        Ok(RowIndex {
+            cardinality: Cardinality::Multivalued,
+            num_rows,
+            rows,
+            starts,
         })
     }
 

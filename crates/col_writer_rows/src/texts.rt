@@ -12,6 +12,7 @@ ghost use Rattle.col_writer_rows.specs.RowOrders.{AreRowDocs};
 ghost use Rattle.col_writer_rows.specs.Rows.{ord_rows, StandBeside};
 ghost use Rattle.col_writer_rows.specs.Terms.{AreTermIds, SerializesBehindTerms, text_content, ord_by};
 
+use crate::doc_rows::sort_docs_if;
 use crate::numbers::{serialize_in_order, serialize_sorted};
 use crate::row_values::place_values;
 use crate::{DocList, RowOrder};
@@ -164,9 +165,6 @@ fn serialize_own_ords<K: Sink>(
         (map length rows) (joined_lists rows) }
 {
     docs.never_fall();
-    if !sorts {
-        return serialize_in_order(alloc, docs, &ords, num_rows, sink);
-    }
-    let counts = docs.counts(alloc, num_rows)?;
-    serialize_sorted(alloc, sorts, &counts, &mut ords, sink)
+    sort_docs_if(alloc, sorts, docs, num_rows, &mut ords)?;
+    serialize_in_order(alloc, docs, &ords, num_rows, sink)
 }
