@@ -1,5 +1,7 @@
 mod TextLemmas
 mod RowLemmas
+mod EndLemmas
+mod FilledLemmas
 mod LineLemmas
 mod DocLemmas
 mod FoundLemmas

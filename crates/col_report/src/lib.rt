@@ -14,6 +14,7 @@ mod lookups;
 mod names;
 mod questions;
 mod report;
+mod row_ends;
 mod rows;
 mod term_cells;
 mod text;
