@@ -1,4 +1,6 @@
 pub mod CountLemmas
 pub mod ListLemmas
 mod DistinctLemmas
+mod RunLemmas
+pub mod SegmentLemmas
 mod RequiredLemmas
