@@ -15,3 +15,5 @@ mod KeyOrderLemmas
 mod RowKeyLemmas
 mod SortLemmas
 mod SortedMerges
+mod AlikeLemmas
+mod GapLemmas

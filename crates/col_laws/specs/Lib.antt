@@ -9,3 +9,4 @@ pub mod FileLaws
 pub mod ScriptFiles
 pub mod FacetLaws
 pub mod SortLaws
+pub mod StackLaws

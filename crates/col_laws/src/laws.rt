@@ -18,6 +18,7 @@ ghost use Rattle.col_laws.specs.SortLaws.{
   SortedOrdersNameEachRow,
   TiesStandAsTheyWere,
 };
+ghost use Rattle.col_laws.specs.StackLaws.{NeighboursWithoutTheColumnAreOne};
 
 // ---- Consecutive runs of a writer's documents, written as files and merged in any bracketing.
 
@@ -41,6 +42,12 @@ pub fn files_merge_in_any_bracketing()
 /// Where merging at once refuses nothing, no merge on the way does.
 pub fn merging_at_once_is_enough()
     ensures { MergingAtOnceIsEnough }
+{}
+
+/// Where neighbours of a stack lack a column, one file of as many rows in their place gives the
+/// same column.
+pub fn neighbours_without_the_column_are_one()
+    ensures { NeighboursWithoutTheColumnAreOne }
 {}
 
 /// A merge that isn't refused, in any order, has merged files of which each stands for a table.
