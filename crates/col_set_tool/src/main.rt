@@ -12,7 +12,7 @@ use col_common::{FileSink, StdSink, StdSource};
 use col_disk::DiskOnFile;
 pub use run::run_set;
 use std::process::ExitCode;
-use std::{env, io};
+use std::{env, fs, io};
 
 fn main(rt: HostRuntime) -> ExitCode {
     ExitCode::from(status_of_run(rt))
@@ -21,6 +21,13 @@ fn main(rt: HostRuntime) -> ExitCode {
 // Calls `run_set` with the disk's file and the output that the words name, and with the standard
 // streams.
 fn status_of_run(rt: HostRuntime) -> u8 {
+    // A standard stream that is closed is a folder from here on, which can be neither read nor
+    // written: else a file that is opened later would stand in its place.
+    let _streams = [
+        fs::File::open(&rt, "/"),
+        fs::File::open(&rt, "/"),
+        fs::File::open(&rt, "/"),
+    ];
     let alloc = rt.alloc();
     let words = match words_of(&rt) {
         Ok(words) => words,
