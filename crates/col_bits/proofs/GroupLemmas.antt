@@ -6,7 +6,6 @@ use Rattle.std.proofs.Math.Nat.{mul-le-mul_right}
 use Rattle.std.proofs.lemmas.Nat.{mod_below, pow_pos}
 use Rattle.std.proofs.lemmas.List.{take_more_set, map-append}
 use Rattle.std.proofs.lemmas.List.FromFn.{map-range_with_len_more}
-use Rattle.std.proofs.lemmas.List.Elements.{filter_agree}
 use native.Mathlib.Nat.{pow-le-pow_right, pow-zero}
 use Rattle.std.specs.Int.{is_in_range}
 use Rattle.std.specs.Int.Count.{count_trailing_zeros}
@@ -16,13 +15,14 @@ use Rattle.std.specs.Simd.Lanes.{mask_l}
 use Rattle.col_bits.specs.Packed.{number_of, is_width, item, items, ids_between}
 use Rattle.col_bits.specs.Places.{set_places}
 use Rattle.col_bits.proofs.WordLemmas.{item_in_word}
-use Rattle.col_bits.proofs.ItemLemmas.{items_more, ids_joined, range_parts}
+use Rattle.col_bits.proofs.ItemLemmas.{items_more, range_parts}
 
+-- a width up to 56 is one of a packed list
 narrow : (w : ℕ) → w ≤ 56 → IsTrue (is_width w)
 narrow w h = grind (arith, nat_tests)
 
 -- the mask of a width, as the code has it
-mask_is : (w : ℕ) → w ≤ 56 → 1 * 2 ^ w % 18446744073709551616 - 1 ≡ 2 ^ w - 1
+pub mask_is : (w : ℕ) → w ≤ 56 → 1 * 2 ^ w % 18446744073709551616 - 1 ≡ 2 ^ w - 1
 mask_is w h =
     let below : w < 64 = omega arith in
     let small : 2 ^ w < 2 ^ 64 = pow-lt below in
@@ -53,7 +53,7 @@ decoded_more bytes w group g k j x out within next value so_far =
     ∙ ap (items bytes w (8 * group)) next)
 
 -- one comparison for both ends
-one_test : (low span v : ℕ) → low + span < 2 ^ 32 → v < 2 ^ 32
+pub one_test : (low span v : ℕ) → low + span < 2 ^ 32 → v < 2 ^ 32
     → nat_le ((v + (2 ^ 32 - low)) % 2 ^ 32) span ≡ is_in_range low (low + span) v
 one_test low span v h k = grind (arith, nat_tests)
 
@@ -66,6 +66,7 @@ one_test_each low span (v ∷ vs) h all =
     let later = one_test_each low span vs h (λ i. all (suc i)) in
     λ i. first i ∷ later i
 
+-- taking one off clears the lowest bit where it is set
 odd : (n : ℕ) → n % 2 ≡ 1 → bit_and n (n - 1) ≡ n / 2 * 2
 odd n h =
     let half : (n - 1) / 2 ≡ n / 2 = omega arith in
@@ -74,6 +75,7 @@ odd n h =
     ∙ (ap (λ m. bit_and (n / 2) (n / 2) * 2 + min (n % 2) m) low
     ∙ ap (λ m. m * 2 + min (n % 2) 0) (and_self (n / 2)) ∙ omega arith))
 
+-- and else what it clears in the half
 even : (n : ℕ) → n % 2 ≡ 0 → 0 < n → bit_and n (n - 1) ≡ bit_and (n / 2) (n / 2 - 1) * 2
 even n h some =
     let half : (n - 1) / 2 ≡ n / 2 - 1 = omega arith in
@@ -100,14 +102,16 @@ with_first k a m n e =
     let half : n / 2 ≡ m = omega arith in
     rw low (ap (λ p. a ∷ set_places k (a + 1) p) half)
 
-zeros_even : (k n m : ℕ) → n ≡ m * 2 → count_trailing_zeros (suc k) n ≡ suc (count_trailing_zeros k m)
+-- a number whose lowest bit is not set has one zero more below its lowest 1 than its half
+pub zeros_even : (k n m : ℕ) → n ≡ m * 2 → count_trailing_zeros (suc k) n ≡ suc (count_trailing_zeros k m)
 unfolding count_trailing_zeros
 zeros_even k n m e =
     let low : n % 2 ≡ 0 = omega arith in
     let half : n / 2 ≡ m = omega arith in
     rw (low, half) refl
 
-zeros_odd : (k n : ℕ) → n % 2 ≡ 1 → count_trailing_zeros (suc k) n ≡ 0
+-- a number whose lowest bit is set has none
+pub zeros_odd : (k n : ℕ) → n % 2 ≡ 1 → count_trailing_zeros (suc k) n ≡ 0
 unfolding count_trailing_zeros
 zeros_odd k n e = rw e refl
 
@@ -141,6 +145,7 @@ set_places-first (suc k) a n some below =
     let room : n < 2 ^ k * 2 = rw (pow-suc 2 k) at below in
     first_by k a n (eqb (n % 2) 1) refl some (λ none. set_places-first k (a + 1) (n / 2) (omega arith) (omega (arith, room)))
 
+-- the first test passes, or doesn't
 mask_by : (f : ℕ → ℕ) (p : ℕ → Bool) (k a : ℕ) (b : Bool)
     → set_places k (a + 1) (mask_l (map p (map f (range_with_len (a + 1) k))))
     ≡ filter (λ id. p (f id)) (range_with_len (a + 1) k)
@@ -189,28 +194,6 @@ pub item_fits : (bytes : List ℕ) (w i : ℕ) → w ≤ 32 → item bytes w i <
 item_fits bytes w i h =
     lt_of_lt_of_le (mod_below (number_of 256 bytes / 2 ^ (i * w)) (2 ^ w) (pow_pos w))
     (pow-le-pow_right {n = 2} (lit< tt) {i = w} {j = 32} h)
-
--- an upper end past 32 bits is as good as the greatest number of 32 bits
-capped_test : (low high top v : ℕ) → v < 2 ^ 32 → top ≡ min high 4294967295 → is_in_range low top v ≡ is_in_range low high v
-capped_test low high top v small e = grind (arith, nat_tests)
-
-ids_capped : (bytes : List ℕ) (w low high top a n : ℕ) → w ≤ 32 → top ≡ min high 4294967295
-    → ids_between bytes w low top a n ≡ ids_between bytes w low high a n
-unfolding ids_between
-ids_capped bytes w low high top a n narrow' e =
-    filter_agree (λ id. is_in_range low top (item bytes w id)) (λ id. is_in_range low high (item bytes w id))
-    (λ id. capped_test low high top (item bytes w id) (item_fits bytes w id narrow') e) (range_with_len a n)
-
--- blocks, and the ids behind them
-pub blocks_and_rest : (bytes : List ℕ) (v w low high top a n m b k : ℕ) (front mid out : List ℕ) → v ≡ w → w ≤ 32
-    → top ≡ min high 4294967295 → a + n ≡ b → n + m ≡ k → mid ≡ front ++ ids_between bytes v low top a n
-    → out ≡ mid ++ ids_between bytes w low high b m → out ≡ front ++ ids_between bytes w low high a k
-blocks_and_rest bytes v w low high top a n m b k front mid out seen narrow' e at whole first later =
-    later
-    ∙ (ap (λ xs. xs ++ ids_between bytes w low high b m) (first ∙ ap (λ u. front ++ ids_between bytes u low top a n)
-    seen ∙ ap (λ xs. front ++ xs) (ids_capped bytes w low high top a n narrow' e))
-    ∙ (append_assoc front (ids_between bytes w low high a n) (ids_between bytes w low high b m)
-    ∙ ap (λ xs. front ++ xs) (sym (ids_joined bytes w low high a n m b k at whole))))
 
 -- one number more of a group is written
 pub read_more : (bytes : List ℕ) (w group g k i j x : ℕ) (front out : List ℕ) → i < length out → 8 * g + k + 1 ≡ j

@@ -8,3 +8,11 @@ pub mod ExtremeLemmas
 pub mod ItemLemmas
 pub mod SpareLemmas
 pub mod GroupLemmas
+mod EndLemmas
+mod PlaceLemmas
+mod RowLemmas
+mod FewPlaceLemmas
+mod LaneLemmas
+mod RaisedLemmas
+mod BroughtLemmas
+mod InPlaceLemmas

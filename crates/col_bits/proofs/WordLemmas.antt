@@ -19,7 +19,7 @@ step [] (suc k) = refl
 step (b ∷ bs) (suc k) = step bs k
 
 -- the number from byte k on is the high part of the whole
-after : (bs : List ℕ) (k : ℕ) → AreBytes bs → number_of 256 bs / 2 ^ (8 * k) ≡ number_of 256 (drop k bs)
+pub after : (bs : List ℕ) (k : ℕ) → AreBytes bs → number_of 256 bs / 2 ^ (8 * k) ≡ number_of 256 (drop k bs)
 after bs zero h = omega arith
 after bs (suc k) h =
     let small : get_or bs k 0 < 256 = h k in
@@ -28,7 +28,7 @@ after bs (suc k) h =
     ∙ (sym (shr-shr (number_of 256 bs) (8 * k) 8) ∙ (ap (λ n. n / 2 ^ 8) (after bs k h) ∙ next))
 
 -- one byte more, where its place is the next number
-step_to : (bs : List ℕ) (k j : ℕ) → j ≡ k + 1 → number_of 256 (drop k bs) ≡ get_or bs k 0 + 256 * number_of 256 (drop j bs)
+pub step_to : (bs : List ℕ) (k j : ℕ) → j ≡ k + 1 → number_of 256 (drop k bs) ≡ get_or bs k 0 + 256 * number_of 256 (drop j bs)
 step_to bs k j e = let same : suc k ≡ j = omega arith in step bs k ∙ ap (λ n. get_or bs k 0 + 256 * number_of 256 (drop n bs)) same
 
 -- eight bytes read as one number
@@ -51,19 +51,19 @@ word_is bs at h =
 pub word_past : (bs : List ℕ) (at : ℕ) → AreBytes bs → length bs ≤ at → 0 ≡ number_of 256 bs / 2 ^ (8 * at) % 2 ^ 64
 word_past bs at h past = rw (after bs at h, drop_all at bs past) refl
 
--- a field of a word
-field_in_word : (n from r w : ℕ) → r + w ≤ 64 → n / 2 ^ from % 2 ^ 64 / 2 ^ r % 2 ^ w ≡ n / 2 ^ (from + r) % 2 ^ w
-field_in_word n from r w room =
+-- a field of a word of m bits
+pub field_in_word : (n m from r w : ℕ) → r + w ≤ m → n / 2 ^ from % 2 ^ m / 2 ^ r % 2 ^ w ≡ n / 2 ^ (from + r) % 2 ^ w
+field_in_word n m from r w room =
     let x : ℕ = n / 2 ^ from in
-    let k : ℕ = 64 - r in
+    let k : ℕ = m - r in
     let j : ℕ = k - w in
-    let all : 64 ≡ k + r = omega arith in
+    let all : m ≡ k + r = omega arith in
     let part : k ≡ j + w = omega arith in
-    ap (λ m. x % 2 ^ m / 2 ^ r % 2 ^ w) all
-    ∙ (ap (λ m. m % 2 ^ w) (field_of x k r)
-    ∙ (ap (λ m. x / 2 ^ r % 2 ^ m % 2 ^ w) part
+    ap (λ b. x % 2 ^ b / 2 ^ r % 2 ^ w) all
+    ∙ (ap (λ b. b % 2 ^ w) (field_of x k r)
+    ∙ (ap (λ b. x / 2 ^ r % 2 ^ b % 2 ^ w) part
     ∙ (mod-mod-pow (x / 2 ^ r) j w
-    ∙ ap (λ m. m % 2 ^ w) (shr-shr n from r))))
+    ∙ ap (λ b. b % 2 ^ w) (shr-shr n from r))))
 
 -- one load of eight bytes has all of an item
 room_in_word : (i w : ℕ) → IsTrue (is_width w) → i * w % 8 + w ≤ 64
@@ -77,5 +77,5 @@ item_in_word bs i w mask word wide masked loaded =
     ap (bit_and (word / 2 ^ (i * w % 8))) masked
     ∙ (and_mask (word / 2 ^ (i * w % 8)) w
     ∙ (ap (λ n. n / 2 ^ (i * w % 8) % 2 ^ w) loaded
-    ∙ (field_in_word (number_of 256 bs) (8 * (i * w / 8)) (i * w % 8) w (room_in_word i w wide)
+    ∙ (field_in_word (number_of 256 bs) 64 (8 * (i * w / 8)) (i * w % 8) w (room_in_word i w wide)
     ∙ ap (λ n. number_of 256 bs / 2 ^ n % 2 ^ w) from)))

@@ -1,11 +1,14 @@
 //! Packed lists of a width that the compiler knows: read by groups of eight, compared by blocks of
 //! 64.
-ghost use Rattle.std.specs.Prelude.{◌≡◌, ◌+◌, ◌-◌, ◌*◌, ◌/◌, ◌%◌, ◌^◌, ◌<◌, ◌≤◌, length, ◌++◌, map, take, nat_le};
+ghost use Rattle.std.specs.Prelude.{◌≡◌, ◌+◌, ◌-◌, ◌*◌, ◌/◌, ◌%◌, ◌^◌, ◌<◌, ◌≤◌};
+ghost use Rattle.std.specs.Prelude.{length, ◌++◌, map, take, nat_le, IsTrue};
 ghost use Rattle.std.specs.Int.{is_in_range};
 ghost use Rattle.std.specs.Simd.Lanes.{mask_l};
 ghost use Rattle.col_bits.specs.Packed.{item, items, ids_between};
-ghost use Rattle.col_bits.specs.Places.{set_places};
+ghost use Rattle.col_bits.specs.Places.{is_raised_width};
 
+use crate::in_place::hits_in_place;
+use crate::places::write_set_places;
 use crate::words::word;
 use std::simd::prelude::*;
 
@@ -20,6 +23,22 @@ const LANES: usize = 64;
 
 // The same, as a count of ids.
 pub(crate) const BLOCK_LEN: u32 = 64;
+
+// The bytes of a load of four numbers.
+const LOAD_LEN: usize = 16;
+
+// The widths whose numbers are decoded faster than they are compared where they stand.
+const ONE_BYTE: usize = 8;
+
+const TWO_BYTES: usize = 16;
+
+// The greatest widths at which a number has at most 32 bits together with those below it in its
+// first byte: of all widths, of even ones, and of multiples of four.
+const MAX_RAISED_WIDTH: usize = 25;
+
+const MAX_EVEN_WIDTH: usize = 26;
+
+const MAX_FOURFOLD_WIDTH: usize = 28;
 
 // Number `k` of a group.
 #[inline(always)]
@@ -82,23 +101,58 @@ fn hits_of(block: &[u32; LANES], low: u32, span: u32) -> u64
     at_most(above(lanes_of(block), low), span)
 }
 
-// Writes the places of the bits that are set, counted from `base`, from place `at` on, and says
-// where they end.
+// The greatest number of a width.
 #[inline(always)]
-fn write_set_places(bits: u64, base: u32, output: &mut [u32], at: usize) -> usize
-    requires fits { base + 64 ≤ 2 ^ 32 }
-    requires room { at + length (set_places 64 base bits) ≤ length output.old }
-    ensures within { result ≡ at + length (set_places 64 base bits) }
-    ensures front { take result output.new ≡ take at output.old ++ set_places 64 base bits }
+fn greatest<const W: usize>() -> u32
+    requires width { W ≤ 32 }
+    ensures { result ≡ 2 ^ W - 1 }
 {
-    let mut left = bits;
-    let mut end = at;
-    while left != 0 {
-        output[end] = base + left.trailing_zeros();
-        end += 1;
-        left &= left - 1;
+    ((1u64 << W) - 1) as u32
+}
+
+// Whether each number has at most 32 bits together with those below it in its first byte.
+#[inline(always)]
+fn is_raised_width<const W: usize>() -> bool
+    ensures { result ≡ is_raised_width W }
+{
+    W <= MAX_RAISED_WIDTH || W == MAX_EVEN_WIDTH || W == MAX_FOURFOLD_WIDTH
+}
+
+// Whether the numbers of a block are compared where they stand: of such a width, and with a load of
+// bytes behind.
+#[inline(always)]
+fn is_in_place<const W: usize>(group: usize, data: &[u8]) -> bool
+    requires width { W ≤ 32 }
+    requires group { group < 2 ^ 32 }
+    ensures { IsTrue result → IsTrue (is_raised_width W)
+        × ((group + 8) * W + 16 ≤ length «data».now) }
+{
+    let is_whole = W == ONE_BYTE || W == TWO_BYTES;
+    is_raised_width::<W>() && !is_whole && (group + GROUPS) * W + LOAD_LEN <= data.len()
+}
+
+// Which of 64 numbers, from a group's first on, lie from `low` to `low + span`: a bit for each, the
+// first the lowest. Where they are decoded, it is into `block`.
+#[inline(always)]
+fn block_hits<const W: usize>(
+    data: &[u8],
+    group: usize,
+    low: u32,
+    span: u32,
+    block: &mut [u32; LANES],
+) -> u64
+    requires width { W ≤ 32 }
+    requires group { group < 2 ^ 32 }
+    requires range { low + span < 2 ^ W }
+    requires room { (group + 8) * W + 8 ≤ length «data».now }
+    ensures { result ≡ mask_l (map (is_in_range low (low + span))
+        (items «data».now W (8 * group) 64)) }
+{
+    if is_in_place::<W>(group, data) {
+        return hits_in_place::<W>(data, group, low, span);
     }
-    end
+    decode::<W>(group, data, block);
+    hits_of(block, low, span)
 }
 
 // Which ids are asked for: those of `count` from `start` on with a number from `low` to
@@ -135,12 +189,17 @@ fn write_ids_of<const W: usize>(
         start,
         count,
     } = asked;
+    if low > greatest::<W>() {
+        return at;
+    }
+    let span = span.min(greatest::<W>() - low);
     let mut block = [0; LANES];
     let mut kept = at;
     for word in 0..count / BLOCK_LEN {
         let base = start + word * BLOCK_LEN;
-        decode::<W>(base as usize / GROUP_LEN, data, &mut block);
-        kept = write_set_places(hits_of(&block, low, span), base, output, kept);
+        let group = base as usize / GROUP_LEN;
+        let hits = block_hits::<W>(data, group, low, span, &mut block);
+        kept = write_set_places(hits, base, output, kept);
     }
     kept
 }

@@ -9,5 +9,5 @@ invariant-loop-word g l =
     record {
       below : l.kept ≤ l.at + l.word * 64;
       front : take l.kept l.output
-          ≡ take l.at l.fn.output ++ ids_between l.«data» g.row.W a.low (a.low + a.span) a.start (l.word * 64);
+          ≡ take l.at l.fn.output ++ ids_between l.«data» g.row.W a.low (a.low + l.span) a.start (l.word * 64);
     }

@@ -1,5 +1,5 @@
 use Rattle.std.proofs.Common.{ℕ, ◌+◌, ◌-◌, ◌*◌, ◌/◌, take, arith, refl}
-use Rattle.col_bits.proofs.GroupLemmas.{blocks_and_rest}
+use Rattle.col_bits.proofs.EndLemmas.{blocks_and_rest}
 use Rattle.col_bits.proofs.bit_unpacker.BitUnpacker.write_ids_in_blocks.Goals as goal
 
 pub returns-clause-front : goal.returns-clause-front
