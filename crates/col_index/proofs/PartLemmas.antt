@@ -60,7 +60,7 @@ pub part_le : (m row n : ℕ) → 0 < m → row ≤ n → row / m ≤ n / m
 part_le m row n some h = le-div (row / m) n m some (omega (arith, div-mul-le_self row m))
 
 -- behind the part of a row stands another count
-pub part-followed : (rows before : List ℕ) (n shift row : ℕ) → AreBuckets rows n shift before → row < n
+pub part-followed : (rows before : List ℕ) (n shift row : ℕ) → AreBuckets rows n shift before → row ≤ n
     → row / 2 ^ shift + 1 < length before
 part-followed rows before n shift row b h = omega (arith, b.room, part_le (2 ^ shift) row n (pow_pos shift) (omega arith))
 

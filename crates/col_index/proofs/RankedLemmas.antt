@@ -1,6 +1,6 @@
 -- Ranks of rows by what an index keeps beside them.
-use Rattle.std.proofs.Common.{◌≡◌, ℕ, zero, suc, ◌*◌, ◌^◌, ◌<◌, ◌≤◌, nat_lt, true, List, [], ◌∷◌, length, slice_index, None, refl, sym, ap, arith}
-use Rattle.std.proofs.lemmas.Bool.{ltb-true}
+use Rattle.std.proofs.Common.{◌≡◌, ℕ, zero, suc, ◌+◌, ◌-◌, ◌*◌, ◌^◌, ◌<◌, ◌≤◌, min, nat_lt, true, List, [], ◌∷◌, length, slice_index, None, refl, sym, ap, ◌∙◌, inl, inr, arith}
+use Rattle.std.proofs.lemmas.Bool.{cases_lt, ltb-true}
 use Rattle.std.proofs.lemmas.Option.{slice_get-get_or}
 use Rattle.col_common.specs.Flags.{flag_at}
 use Rattle.col_common.specs.Reading.{only_if}
@@ -23,6 +23,18 @@ rank_past s row a h = narrowed-rank s.rows row (length s.rows) (record {
   below = λ i k. let below = row_below s i _ a (slice_get-get_or s.rows i 0 k) in omega (arith, below);
   above = λ i k l. absurd (omega arith);
 })
+
+-- as the last row counts, a row past the count does
+pub rank_clamped : (s : RowSet) (row : ℕ) → AreRows s
+    → rank s.rows (min row (s.num_rows - 1) + 1) ≡ rank s.rows (row + 1)
+rank_clamped s row a = elim (cases_lt row s.num_rows) [
+  | inl inside ↦
+      let same : min row (s.num_rows - 1) ≡ row = omega arith in
+      ap (λ r. rank s.rows (r + 1)) same
+  | inr past ↦
+      sym (rank_past s (min row (s.num_rows - 1) + 1) a (omega arith))
+      ∙ rank_past s (row + 1) a (omega arith)
+]
 
 -- and has no value
 pub missed_past : (s : RowSet) (row : ℕ) → AreRows s → s.num_rows ≤ row → None ≡ only_if (holds s.rows row) (rank s.rows row)

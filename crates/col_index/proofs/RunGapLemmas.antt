@@ -120,32 +120,33 @@ module _ (s : RowSet) (before gaps : List ℕ) (r : AreSummedRuns s before) (g :
   gap_held : holds rows row ≡ nat_lt (row - gap) upto
   gap_held = bound.held_is
 
--- ---- what is read of the tables for a row
+-- ---- what is read of the tables, by lists that are the same, for a row
 
 module _ (s : RowSet) (before gaps : List ℕ) (t : AreRunTables s before gaps) (row count : ℕ) (h : count ≡ rank s.rows (row + 1)) where
   few_starts : count ≤ length s.rows
   few_starts = omega (arith, h, rank-le-length s.rows (row + 1))
 
-  gap_read : (gap : ℕ) → gap ≡ get_or gaps count gap → gap ≡ get_or gaps count 0
-  gap_read gap e = get_or_read gaps count gap (omega (arith, few_starts, t.apart.long)) e 0
-
-  sum_read : (sum : ℕ) → sum ≡ get_or before count sum → sum ≡ get_or before count 0
-  sum_read sum e = get_or_read before count sum (omega (arith, few_starts, summed_long s before t.summed)) e 0
+  -- there is a sum
+  pub read_within : (sums : List ℕ) → sums ≡ before → count < length sums
+  read_within sums f = omega (arith, few_starts, summed_long s before t.summed, ap length f)
 
   -- a gap is no more than the row
-  pub read_below : (gap : ℕ) → gap ≡ get_or gaps count gap → gap ≤ row
-  read_below gap e = omega (arith, gap_read gap e, gap_below s before gaps t.summed t.apart row count h few_starts)
+  pub read_below : (gs : List ℕ) → gs ≡ gaps → get_or gs count 0 ≤ row
+  read_below gs e =
+      subst (λ xs. get_or xs count 0 ≤ row) (sym e) (gap_below s before gaps t.summed t.apart row count h few_starts)
 
   -- a gap and a sum give the row's rank
-  pub read_count : (gap sum : ℕ) → gap ≡ get_or gaps count gap → sum ≡ get_or before count sum
-      → rank (run_rows s.rows (differences before)) row ≡ min (row - gap) sum
-  read_count gap sum e f =
-      gap_count s before gaps t.summed t.apart row count h few_starts ∙ omega (arith, gap_read gap e, sum_read sum f)
+  pub read_count : (gs sums : List ℕ) → gs ≡ gaps → sums ≡ before
+      → rank (run_rows s.rows (differences before)) row ≡ min (row - get_or gs count 0) (get_or sums count 0)
+  read_count gs sums e f =
+      gap_count s before gaps t.summed t.apart row count h few_starts
+      ∙ ap (λ xs. min (row - get_or xs count 0) (get_or before count 0)) (sym e)
+      ∙ ap (λ xs. min (row - get_or gs count 0) (get_or xs count 0)) (sym f)
 
   -- and whether it has one
-  pub read_held : (gap sum : ℕ) → gap ≡ get_or gaps count gap → sum ≡ get_or before count sum
-      → holds (run_rows s.rows (differences before)) row ≡ nat_lt (row - gap) sum
-  read_held gap sum e f =
+  pub read_held : (gs sums : List ℕ) → gs ≡ gaps → sums ≡ before
+      → holds (run_rows s.rows (differences before)) row ≡ nat_lt (row - get_or gs count 0) (get_or sums count 0)
+  read_held gs sums e f =
       gap_held s before gaps t.summed t.apart row count h few_starts
-      ∙ ap (λ g. nat_lt (row - g) (get_or before count 0)) (sym (gap_read gap e))
-      ∙ ap (λ u. nat_lt (row - gap) u) (sym (sum_read sum f))
+      ∙ ap (λ xs. nat_lt (row - get_or xs count 0) (get_or before count 0)) (sym e)
+      ∙ ap (λ xs. nat_lt (row - get_or gs count 0) (get_or xs count 0)) (sym f)

@@ -54,7 +54,7 @@ impl HeldRows {
     }
 
     /// The rank of a row that has a value.
-    #[inline(never)]
+    #[inline(always)]
     pub fn rank_if_exists(&self, row_id: RowId) -> Option<RowId>
         ensures { result ≡ only_if (holds (set_held self.now).rows row_id)
             (rank (set_held self.now).rows row_id) }
@@ -63,6 +63,23 @@ impl HeldRows {
             HeldRows::Listed(rows) => rows.rank_if_exists(row_id),
             HeldRows::InRuns(runs) => runs.rank_if_exists(row_id),
         }
+    }
+
+    /// How many rows before a row have a value, out of line.
+    #[inline(never)]
+    pub fn far_rank(&self, row_id: RowId) -> RowId
+        ensures { result ≡ rank (set_held self.now).rows row_id }
+    {
+        self.rank(row_id)
+    }
+
+    /// The rank of a row that has a value, out of line.
+    #[inline(never)]
+    pub fn far_rank_if_exists(&self, row_id: RowId) -> Option<RowId>
+        ensures { result ≡ only_if (holds (set_held self.now).rows row_id)
+            (rank (set_held self.now).rows row_id) }
+    {
+        self.rank_if_exists(row_id)
     }
 
     /// The positions of a row's values.

@@ -132,7 +132,7 @@ impl ListedRows {
     }
 
     /// The rank of a row that has a value.
-    #[inline(always)]
+    #[inline(never)]
     pub(crate) fn rank_if_exists(&self, row_id: RowId) -> Option<RowId>
         ensures { result ≡ only_if (holds self.now.rows row_id) (rank self.now.rows row_id) }
     {

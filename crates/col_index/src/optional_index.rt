@@ -235,23 +235,30 @@ impl Set<RowId> for OptionalIndex {
         self.held.contains(row_id)
     }
 
+    // Whether there are bits is asked first, of all rows at once in a loop.
     #[inline(always)]
     fn rank(&self, row_id: RowId) -> RowId {
+        if self.bits.words.is_empty() {
+            return self.held.rank(row_id);
+        }
         if self.bits.reaches(row_id) {
             return self.bits.rank(row_id);
         }
-        self.held.rank(row_id)
+        self.held.far_rank(row_id)
     }
 
     #[inline(always)]
     fn rank_if_exists(&self, row_id: RowId) -> Option<RowId> {
+        if self.bits.words.is_empty() {
+            return self.held.rank_if_exists(row_id);
+        }
         if self.bits.reaches(row_id) {
             if self.bits.holds(row_id) {
                 return Some(self.bits.rank(row_id));
             }
             return None;
         }
-        self.held.rank_if_exists(row_id)
+        self.held.far_rank_if_exists(row_id)
     }
 
     #[inline(always)]

@@ -294,15 +294,17 @@ impl RowRuns {
 
     // The rank of a row if it is in the last of the runs that start at or before it, and how many
     // rows are in these runs.
-    #[inline(never)]
+    #[inline(always)]
     fn rank_bound(&self, row_id: RowId) -> RankBound
         ensures count { rank self.now.rows row_id ≡ min result.rank result.upto }
         ensures held { holds self.now.rows row_id ≡ nat_lt result.rank result.upto }
     {
+        let gaps = self.gaps.as_slice();
+        let before = self.before.as_slice();
         let count = self.starts.count_upto(row_id) as usize;
         RankBound {
-            rank: row_id - self.gaps[count],
-            upto: self.before[count],
+            rank: row_id - gaps[count],
+            upto: before[count],
         }
     }
 

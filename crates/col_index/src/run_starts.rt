@@ -129,16 +129,27 @@ impl RunStarts {
         self.nexts[number as usize]
     }
 
-    /// How many runs start at a row or before it.
+    /// How many runs start at a row or before it. A row behind all others counts as the last one, so
+    /// that no row asks for a branch.
     #[inline(always)]
     pub(crate) fn count_upto(&self, row_id: RowId) -> u32
         ensures { result ≡ rank self.now.rows (row_id + 1) }
     {
         // That rows are below a count of 32 bits is known of the count.
+        let num_docs = self.num_docs();
+        self.rows_rise();
+        self.count_among(row_id.min(num_docs.saturating_sub(1)))
+    }
+
+    // The same for a row that isn't behind all others.
+    #[inline(always)]
+    fn count_among(&self, row_id: RowId) -> u32
+        requires row { row_id ≤ self.now.num_rows }
+        requires small { row_id < 2 ^ 32 - 1 }
+        ensures { result ≡ rank self.now.rows (row_id + 1) }
+    {
+        // That rows are below a count of 32 bits is known of the count.
         let _count = self.num_docs();
-        if row_id >= self.num_rows {
-            return self.rows.num_vals();
-        }
         let low = self.part_of(row_id).start as usize;
         let at = low + usize::from(self.nexts[low] <= row_id);
         if self.nexts[at] <= row_id {
@@ -151,7 +162,7 @@ impl RunStarts {
     #[cold]
     #[inline(never)]
     fn count_in_part(&self, row_id: RowId) -> u32
-        requires { row_id < self.now.num_rows }
+        requires { row_id ≤ self.now.num_rows }
         ensures { result ≡ rank self.now.rows (row_id + 1) }
     {
         let part = self.part_of(row_id);
@@ -161,7 +172,7 @@ impl RunStarts {
     // The starts in the part of a row.
     #[inline(always)]
     fn part_of(&self, row_id: RowId) -> Range<u32>
-        requires { row_id < self.now.num_rows }
+        requires { row_id ≤ self.now.num_rows }
         ensures { IsNarrowed self.now.rows (row_id + 1) result.start result.end }
     {
         let part = (row_id >> self.shift) as usize;

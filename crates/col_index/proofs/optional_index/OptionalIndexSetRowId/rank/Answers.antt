@@ -5,8 +5,8 @@ use Rattle.col_index.specs.Held.{set_held}
 use Rattle.col_index.proofs.RankedLemmas.{bits_fit, bits_rank}
 use Rattle.col_index.proofs.optional_index.OptionalIndexSetRowId.rank.Goals as goal
 
-pub rank-requires-clause-fits : goal.rank-requires-clause-fits
-rank-requires-clause-fits c =
+pub rank-requires-then-reaches-clause-fits : goal.rank-requires-then-reaches-clause-fits
+rank-requires-then-reaches-clause-fits c =
     let i = c.self.inside in
     bits_fit (set_held i.held) i.num_rows i.bits.words.items i.bits.before.items c.self.invariant c.args.row_id
     (sym c.reaches.ensures ∙ c.if-reaches.true)
@@ -14,7 +14,7 @@ rank-requires-clause-fits c =
 pub returns-then-reaches : goal.returns-then-reaches
 returns-then-reaches c =
     let i = c.self.inside in
-    c.rank.ensures
+    c.rank-then-reaches.ensures
     ∙ bits_rank (set_held i.held) i.num_rows i.bits.words.items i.bits.before.items c.self.invariant c.args.row_id
     (sym c.reaches.ensures ∙ c.if-reaches.true)
     ∙ ap (λ (s : RowSet). rank s.rows c.args.row_id) c.self.view_is

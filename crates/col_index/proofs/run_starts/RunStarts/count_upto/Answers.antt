@@ -1,52 +1,11 @@
-use Rattle.std.proofs.Common.{◌+◌, ◌-◌, ◌^◌, ◌<◌, sym, ap, subst, ◌∙◌, arith}
-use Rattle.col_model.specs.Index.{RowSet}
+use Rattle.std.proofs.Common.{◌≡◌, ◌+◌, ◌-◌, min, ap, ◌∙◌, arith}
 use Rattle.col_model.specs.Positions.{rank}
-use Rattle.col_numbers.specs.Readers.{list_of}
-use Rattle.col_index.specs.Search.{IsNarrowed}
-use Rattle.col_index.proofs.RankedLemmas.{rank_past}
-use Rattle.col_index.proofs.SetLemmas.{few_rows}
-use Rattle.col_index.proofs.StartCountLemmas.{read_within, read_done}
+use Rattle.col_index.proofs.RankedLemmas.{rank_clamped}
 use Rattle.col_index.proofs.run_starts.RunStarts.count_upto.Goals as goal
-
-pub returns-then-row_id-self : goal.returns-then-row_id-self
-returns-then-row_id-self c =
-    let s = c.self.inside in
-    c.num_vals.ensures
-    ∙ rank_past (record { num_rows = s.num_rows; rows = list_of s.rows }) (c.args.row_id + 1) c.self.invariant.rows
-    (omega (arith, c.if-row_id-self.true))
-    ∙ ap (λ (r : RowSet). rank r.rows (c.args.row_id + 1)) c.self.view_is
-
-pub overflow_cast-result : goal.overflow_cast-result
-overflow_cast-result c =
-    let s = c.self.inside in
-    let count = ap (λ (r : RowSet). r.num_rows) c.self.view_is in
-    let own : RowSet = record { num_rows = s.num_rows; rows = list_of s.rows } in
-    let part = c.part_of-low in
-    let narrowed = subst (λ (r : RowSet). IsNarrowed r.rows (c.args.row_id + 1) part.result.start part.result.end)
-    (sym c.self.view_is) part.ensures in
-    let small : c.args.row_id < 2 ^ 32 - 1 =
-    omega (arith, c.if-row_id-self.false, c.num_docs-count.ensures, c.num_docs-count.type_inv, count) in
-    let within =
-    read_within own s.nexts.items s.shift s.before.items c.self.invariant c.args.row_id part.result.start part.result.end
-    c.index.result.now c.from.result small narrowed c.index.ensures c.from.ensures in
-    omega (
-      arith,
-      within,
-      few_rows own.num_rows own.rows c.self.invariant.rows,
-      c.num_docs-count.ensures,
-      c.num_docs-count.type_inv,
-      count,
-    )
 
 pub returns : goal.returns
 returns c =
-    let s = c.self.inside in
-    let part = c.part_of-low in
-    let narrowed = subst (λ (r : RowSet). IsNarrowed r.rows (c.args.row_id + 1) part.result.start part.result.end)
-    (sym c.self.view_is) part.ensures in
-    let count = ap (λ (r : RowSet). r.num_rows) c.self.view_is in
-    read_done (record { num_rows = s.num_rows; rows = list_of s.rows }) s.nexts.items s.shift s.before.items c.self.invariant
-    c.args.row_id part.result.start part.result.end c.index.result.now c.from.result
-    (omega (arith, c.if-row_id-self.false, c.num_docs-count.ensures, c.num_docs-count.type_inv, count)) narrowed
-    c.index.ensures c.from.ensures c.index-2.result.now c.index-2.ensures c.if-index-row_id.false
-    ∙ ap (λ (r : RowSet). rank r.rows (c.args.row_id + 1)) c.self.view_is
+    let s = c.args.self.now in
+    let clamped : c.min.result ≡ min c.args.row_id (s.num_rows - 1) =
+    omega (arith, c.min.ensures, c.saturating_sub.ensures, c.num_docs-num_docs.ensures) in
+    c.count_among.ensures ∙ ap (λ row. rank s.rows (row + 1)) clamped ∙ rank_clamped s c.args.row_id c.rows_rise.ensures

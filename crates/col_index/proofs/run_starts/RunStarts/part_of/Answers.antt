@@ -1,4 +1,4 @@
-use Rattle.std.proofs.Common.{◌/◌, ◌+◌, ◌^◌, ◌<◌, ap, subst, ◌∙◌, arith}
+use Rattle.std.proofs.Common.{◌/◌, ◌+◌, ◌^◌, ◌≤◌, ap, subst, ◌∙◌, arith}
 use Rattle.std.proofs.lemmas.Nat.{pow_pos}
 use Rattle.std.proofs.lemmas.List.{get_or_read}
 use Rattle.col_model.specs.Index.{RowSet}
@@ -12,14 +12,14 @@ use Rattle.col_index.proofs.run_starts.RunStarts.part_of.Goals as goal
 pub index-requires : goal.index-requires
 index-requires c =
     let s = c.self.inside in
-    let below : c.args.row_id < s.num_rows = omega (arith, c.requires, ap (λ (r : RowSet). r.num_rows) c.self.view_is) in
+    let below : c.args.row_id ≤ s.num_rows = omega (arith, c.requires, ap (λ (r : RowSet). r.num_rows) c.self.view_is) in
     let followed = part-followed (list_of s.rows) s.before.items s.num_rows s.shift c.args.row_id c.self.invariant.parts below in
     omega (arith, followed)
 
 pub index-requires-2 : goal.index-requires-2
 index-requires-2 c =
     let s = c.self.inside in
-    let below : c.args.row_id < s.num_rows = omega (arith, c.requires, ap (λ (r : RowSet). r.num_rows) c.self.view_is) in
+    let below : c.args.row_id ≤ s.num_rows = omega (arith, c.requires, ap (λ (r : RowSet). r.num_rows) c.self.view_is) in
     let followed = part-followed (list_of s.rows) s.before.items s.num_rows s.shift c.args.row_id c.self.invariant.parts below in
     omega (arith, followed)
 
@@ -30,7 +30,7 @@ returns c =
     let before = s.before.items in
     let part = c.args.row_id / 2 ^ s.shift in
     let parts = c.self.invariant.parts in
-    let below : c.args.row_id < s.num_rows = omega (arith, c.requires, ap (λ (r : RowSet). r.num_rows) c.self.view_is) in
+    let below : c.args.row_id ≤ s.num_rows = omega (arith, c.requires, ap (λ (r : RowSet). r.num_rows) c.self.view_is) in
     let followed = part-followed own.rows before s.num_rows s.shift c.args.row_id parts below in
     let start = get_or_read before part c.index.result.now (omega (arith, followed)) c.index.ensures 0
     ∙ parts.counts.each part (omega (arith, followed)) in
