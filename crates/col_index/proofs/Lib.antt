@@ -47,6 +47,7 @@ mod RunSumLemmas
 mod RunSelectLemmas
 mod RunHeldLemmas
 mod RunPlaceLemmas
+mod RunPushLemmas
 mod RunTakenLemmas
 mod RunOpeningLemmas
 mod RankedRunLemmas

@@ -40,6 +40,21 @@ pub pushes-stopped_later : {docs_old docs_found docs_new rows_old rows_found row
 pushes-stopped_later {r = r} docs_more rows_more Q h d e b =
     pushes-stopped Q r h (begins_later _ _ _ docs_more d b.0) (begins_later _ _ _ rows_more e b.1)
 
+-- what a later call appends
+pub pushes-later : {docs_old docs_found docs_new rows_old rows_found rows_new docs rows docs_all rows_all : List ℕ}
+    (docs_more rows_more : List ℕ) (r : Result (Unit {0}) AllocError)
+    → PushesBoth docs_found docs_new rows_found rows_new r docs rows
+    → docs_found ≡ docs_old ++ docs_more → rows_found ≡ rows_old ++ rows_more
+    → (docs_new ≡ docs_found ++ docs → docs_new ≡ docs_old ++ docs_all)
+    → (rows_new ≡ rows_found ++ rows → rows_new ≡ rows_old ++ rows_all)
+    → PushesBoth docs_old docs_new rows_old rows_new r docs_all rows_all
+pushes-later docs_more rows_more (Ok v) p d e f g = record { docs = f p.docs; rows = g p.rows; err = tt }
+pushes-later docs_more rows_more (Err e) p d q f g = record {
+  docs = tt;
+  rows = tt;
+  err = (begins_later _ _ _ docs_more d p.err.0, begins_later _ _ _ rows_more q p.err.1);
+}
+
 -- ---- a run, one position after another
 
 module _ (front found new : List ℕ) (doc start position : ℕ) (h : start ≤ position) where

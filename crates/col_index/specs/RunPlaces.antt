@@ -1,5 +1,5 @@
 -- Runs of rows, and places among them.
-use Rattle.std.specs.Prelude.{◌≡◌, ℕ, ◌+◌, ◌-◌, ◌^◌, ◌≤◌, ◌<◌, List, slice_get, Some}
+use Rattle.std.specs.Prelude.{◌≡◌, ℕ, ◌+◌, ◌-◌, ◌^◌, ◌≤◌, ◌<◌, List, length, slice_get, slice_index, Some}
 use Rattle.col_model.specs.Positions.{rank}
 use Rattle.col_index.specs.Runs.{IsInPart}
 use Rattle.col_index.specs.declared.run_places.Run.{Run}
@@ -41,3 +41,16 @@ pub record IsRunOf (rows : List ℕ) (r : Run) : Type 0 where
   pub fits : r.before + r.len < 2 ^ 32
   pub reach : r.start + r.len < 2 ^ 32
   pub follow : Follow rows r.start r.before (r.before + r.len)
+
+-- the row is one of a run
+pub record IsRowOf (row : ℕ) (r : Run) : Type 0 where
+  pub from : r.start ≤ row
+  pub upto : row < r.start + r.len
+
+-- each of the rows is
+abbrev pub AreRowsOf : List ℕ → Run → Type 0
+AreRowsOf rows r = (k : ℕ) → k < length rows → IsRowOf (slice_index rows k) r
+
+-- the rank of a row of a run
+abbrev pub rank_in : Run → ℕ → ℕ
+rank_in r row = r.before + (row - r.start)

@@ -30,6 +30,7 @@ mod row_runs;
 mod rows_near;
 mod run_bits;
 mod run_places;
+mod run_ranks;
 mod run_starts;
 mod run_walks;
 mod search;

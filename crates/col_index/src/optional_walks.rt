@@ -5,8 +5,9 @@ ghost use Rattle.col_index.specs.Sets.{held, held_ranks};
 
 use crate::appending::push_pair;
 use crate::optional_index::OptionalIndex;
-use crate::rank_near::{InRuns, RankNear, Ranked, Walked};
+use crate::rank_near::{RankNear, Ranked, Walked};
 use crate::rows_near::RowsNear;
+use crate::run_ranks::push_ranks_in_runs;
 use col_common::{DocId, RowId};
 use std::alloc::AllocError;
 
@@ -47,7 +48,7 @@ impl OptionalIndex {
         match self.rows_near() {
             RowsNear::Walked(rows) => push_ranks_by(&Walked { rows }, docs, docs_out, rows_out),
             RowsNear::Ranked(index) => push_ranks_by(&Ranked { index }, docs, docs_out, rows_out),
-            RowsNear::InRuns(runs) => push_ranks_by(&InRuns { runs }, docs, docs_out, rows_out),
+            RowsNear::InRuns(runs) => push_ranks_in_runs(runs, docs, docs_out, rows_out),
         }
     }
 }

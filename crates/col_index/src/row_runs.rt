@@ -280,9 +280,9 @@ impl RowRuns {
         place.run.rank_if_exists(row_id)
     }
 
-    // Makes a place that of a row.
+    /// Makes a place that of a row.
     #[inline(always)]
-    fn seek(&self, place: &mut RunPlace, row_id: RowId)
+    pub(crate) fn seek(&self, place: &mut RunPlace, row_id: RowId)
         requires { IsRunPlace self.now.rows place.old }
         ensures place { IsRunPlace self.now.rows place.new }
         ensures near { IsNear place.new row_id }

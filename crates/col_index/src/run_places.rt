@@ -38,6 +38,15 @@ impl Run {
         }
     }
 
+    /// Whether a row is one of the run.
+    #[inline(always)]
+    pub fn has_row(self, row_id: RowId) -> bool
+        requires { self.start + self.len ≤ 2 ^ 32 }
+        ensures { result ≡ (nat_le self.start row_id && nat_lt row_id (self.start + self.len)) }
+    {
+        row_id.wrapping_sub(self.start) < self.len
+    }
+
     /// Whether the run has the row with a rank.
     #[inline(always)]
     pub fn has_rank(self, rank: RowId) -> bool
