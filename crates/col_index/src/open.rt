@@ -82,7 +82,8 @@ fn open_listed(alloc: Global, bytes: Bytes) -> Result<OptionalIndex, ColumnarErr
     let Some((num_rows, rows)) = split_count(bytes) else {
         return Err(ColumnarError::InvalidData);
     };
-    OptionalIndex::from_rows(alloc, num_rows, load_u64_values(alloc, rows)?)
+    let num_bytes = rows.len();
+    OptionalIndex::from_rows(alloc, num_rows, load_u64_values(alloc, rows)?, num_bytes)
 }
 
 // Reads a row count and rows in runs.

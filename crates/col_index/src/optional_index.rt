@@ -76,18 +76,20 @@ impl OptionalIndex {
             index ≡ record { num_rows = num_rows; rows = row_ids.now }) }
         ensures err { IfErr result (λ e. e ≡ refusals.OutOfMemory) }
     {
-        OptionalIndex::from_rows(alloc, num_rows, load_numbers(alloc, row_ids)?)
+        let num_bytes = row_ids.len();
+        OptionalIndex::from_rows(alloc, num_rows, load_numbers(alloc, row_ids)?, num_bytes)
     }
 
-    /// The index with a list of its rows, if this rises and stays below the count.
+    /// The index with a list of its rows of so many bytes, if this rises and stays below the count.
     pub(crate) fn from_rows(
         alloc: Global,
         num_rows: RowId,
         rows: U64Values,
+        num_bytes: usize,
     ) -> Result<OptionalIndex, ColumnarError>
         ensures { Decodes (λ index. index) result (set_by num_rows (list_of rows)) }
     {
-        let ranks = Ranks::from_rows(alloc, num_rows, &rows)?;
+        let ranks = Ranks::from_rows(alloc, num_rows, &rows, num_bytes)?;
         Ok(OptionalIndex {
             held: HeldRows::Listed(ListedRows::of(num_rows, rows, ranks.buckets)),
             bits: ranks.words,

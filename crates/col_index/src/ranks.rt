@@ -9,6 +9,7 @@ ghost use Rattle.col_index.specs.Sets.{set_by};
 
 use crate::rank_buckets::RankBuckets;
 use crate::rank_words::RankWords;
+use crate::rising::are_rising_rows;
 use col_common::{ColumnarError, RowId};
 use col_numbers::U64Values;
 use col_values::ColumnValues;
@@ -17,8 +18,15 @@ use std::alloc::Global;
 /// How many rows there are for each row with a value where these still get bits.
 const MAX_ROWS_APART: u64 = 64;
 
+/// How many rows there are where their list may be as short as it likes.
+const MAX_FREE_ROWS: u32 = 1 << 20;
+
+/// How many rows with a value a byte of their list may stand for, where there are more.
+const MAX_ROWS_A_BYTE: u64 = 8;
+
 /// What an index keeps beside a list of its rows: bits and two parts, or, where few rows have a
-/// value, no bits and small parts.
+/// value, no bits and small parts. A list on a line has few bytes for any number of rows: where
+/// these are many, it gets two parts alone, so that memory stays in proportion to the bytes.
 #[derive(Drop)]
 pub(crate) struct Ranks {
     pub words: RankWords,
@@ -26,11 +34,12 @@ pub(crate) struct Ranks {
 }
 
 impl Ranks {
-    /// The ranks of rows, if these rise and stay below the count.
+    /// The ranks of rows in a list of so many bytes, if they rise and stay below the count.
     pub(crate) fn from_rows(
         alloc: Global,
         num_rows: RowId,
         rows: &U64Values,
+        num_bytes: usize,
     ) -> Result<Ranks, ColumnarError>
         ensures rows { Decodes (λ ranks. record { num_rows = num_rows; rows = list_of rows.now })
             result (set_by num_rows (list_of rows.now)) }
@@ -39,6 +48,9 @@ impl Ranks {
         ensures parts { IfOk result (λ ranks. AreRankedRows
             (record { num_rows = num_rows; rows = list_of rows.now }) ranks.buckets) }
     {
+        if !has_bytes(num_rows, rows.num_vals(), num_bytes) {
+            return Ranks::of_halves(alloc, num_rows, rows);
+        }
         if u64::from(num_rows) <= MAX_ROWS_APART * u64::from(rows.num_vals()) {
             let words = RankWords::from_rows(alloc, num_rows, rows)?;
             let buckets = RankBuckets::of_halves(alloc, num_rows, rows)?;
@@ -48,4 +60,27 @@ impl Ranks {
         let buckets = RankBuckets::from_rows(alloc, num_rows, rows)?;
         Ok(Ranks { words, buckets })
     }
+    // The same with two parts alone.
+    fn of_halves(alloc: Global, num_rows: RowId, rows: &U64Values) -> Result<Ranks, ColumnarError>
+        ensures rows { Decodes (λ ranks. record { num_rows = num_rows; rows = list_of rows.now })
+            result (set_by num_rows (list_of rows.now)) }
+        ensures bits { IfOk result (λ ranks. AreRanks (list_of rows.now)
+            ranks.words.words.items ranks.words.before.items) }
+        ensures parts { IfOk result (λ ranks. AreRankedRows
+            (record { num_rows = num_rows; rows = list_of rows.now }) ranks.buckets) }
+    {
+        // That there are as many rows as 32 bits can tell is known of their count.
+        let _count = rows.num_vals();
+        if !are_rising_rows(num_rows, rows) {
+            return Err(ColumnarError::InvalidData);
+        }
+        let words = RankWords::empty(alloc);
+        let buckets = RankBuckets::of_halves(alloc, num_rows, rows)?;
+        Ok(Ranks { words, buckets })
+    }
+}
+
+// Whether a list has bytes for so many rows with a value, or there are few rows.
+fn has_bytes(num_rows: RowId, num_vals: u32, num_bytes: usize) -> bool {
+    num_rows <= MAX_FREE_ROWS || u64::from(num_vals) / MAX_ROWS_A_BYTE <= num_bytes as u64
 }

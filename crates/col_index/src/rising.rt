@@ -1,6 +1,7 @@
 //! Rows that are to rise below a count.
 ghost use Rattle.std.specs.Prelude.{◌≡◌, ◌<◌, ◌&&◌, nat_le, nat_lt, length, slice_index};
 ghost use Rattle.col_common.specs.Reading.{only_if};
+ghost use Rattle.col_index.specs.Sets.{is_row_list};
 ghost use Rattle.col_numbers.specs.Readers.{list_of};
 
 use col_common::RowId;
@@ -22,4 +23,18 @@ pub fn rising_row(num_rows: RowId, next: RowId, rows: &U64Values, at: u32) -> Op
         return None;
     }
     Some(row as RowId)
+}
+
+/// Whether the rows of a list rise and stay below the count.
+pub fn are_rising_rows(num_rows: RowId, rows: &U64Values) -> bool
+    ensures { result ≡ is_row_list num_rows (list_of rows.now) }
+{
+    let mut next = 0;
+    for at in 0..rows.num_vals() {
+        let Some(row) = rising_row(num_rows, next, rows, at) else {
+            return false;
+        };
+        next = row + 1;
+    }
+    true
 }
