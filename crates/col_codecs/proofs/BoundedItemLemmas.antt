@@ -17,7 +17,8 @@ use Rattle.col_codecs.specs.BoundedItems.{ids_by}
 
 -- ---- ids
 
-filter_all : (p : ℕ → Bool) (a n : ℕ) → ((k : ℕ) → a ≤ k → k < a + n → p k ≡ true) → filter p (range_with_len a n) ≡ range_with_len a n
+-- where each number of a range is kept, all are
+pub filter_all : (p : ℕ → Bool) (a n : ℕ) → ((k : ℕ) → a ≤ k → k < a + n → p k ≡ true) → filter p (range_with_len a n) ≡ range_with_len a n
 filter_all p a zero always = refl
 filter_all p a (suc n) always =
     rw (always a (omega arith) (omega arith))

@@ -19,8 +19,11 @@ pub mod LineLemmas
 pub mod ListLemmas
 pub mod LinearLemmas
 pub mod LinearReaderLemmas
+pub mod OnLineLemmas
+pub mod LineStatsLemmas
 pub mod PackingLemmas
 pub mod PossibleLemmas
+pub mod ResidueLemmas
 pub mod StatsLemmas
 pub mod StepsLemmas
 pub mod TurningLemmas

@@ -3,6 +3,8 @@ pub mod Bitpacked
 pub mod LinearParams
 pub mod Line
 pub mod Linear
+pub mod OnLine
+pub mod Residues
 pub mod Blockwise
 pub mod Blocks
 pub mod BlockBounds

@@ -1,5 +1,5 @@
 //! Lists under Linear, read in place.
-ghost use Rattle.std.specs.Prelude.{◌≡◌, ◌≤◌, ◌-◌, ◌*◌, ◌&&◌, length, drop, option_map, IfSome, IfOk, IsTrue};
+ghost use Rattle.std.specs.Prelude.{◌≡◌, ◌≤◌, ◌-◌, ◌*◌, ◌&&◌, [], length, drop, option_map, IfSome, IfOk, IsTrue};
 ghost use Rattle.col_common.specs.Decoding.{Decodes};
 ghost use Rattle.col_common.specs.Reading.{only_if};
 ghost use Rattle.col_bits.specs.Packed.{is_width, is_packed};
@@ -8,7 +8,8 @@ ghost use Rattle.col_model.specs.U64List.{params_at};
 ghost use Rattle.col_model.specs.Items.{linear_item, linear_items};
 ghost use Rattle.col_codecs.specs.ColumnStats.{stats_seen};
 ghost use Rattle.col_codecs.specs.BlockBounds.{Enclose};
-ghost use Rattle.col_codecs.specs.Header.{list_by};
+ghost use Rattle.col_codecs.specs.Header.{checked, list_by};
+ghost use Rattle.col_codecs.specs.OnLine.{values_on};
 ghost use Rattle.col_codecs.specs.Line.{with_width};
 ghost use Rattle.col_codecs.specs.LinearParams.{params_seen};
 
@@ -16,7 +17,9 @@ use crate::block_bounds::Bounds;
 use crate::bounded_items::{BoundedItems, find_ids, read_bounds};
 use crate::column_stats::ColumnStats;
 use crate::line::Line;
+use crate::line_stats::stats_on;
 use crate::linear_params::LinearParams;
+use crate::on_line::find_on_line;
 use bytes::Bytes;
 use col_bits::{BitUnpacker, is_packed};
 use col_common::{ColumnarError, Iterable, RowId, Walk, cut_rest};
@@ -31,7 +34,7 @@ pub struct LinearReader {
     line: Line,
     bit_unpacker: BitUnpacker,
     stats: ColumnStats,
-    // The bounds of the items of each block.
+    // The bounds of the items of each block; none where the items are the line's values.
     bounds: Vec<Bounds>,
 }
 
@@ -131,6 +134,9 @@ impl ColumnValues<u64> for LinearReader {
 
     fn get_row_ids_between(&self, low: u64, high: u64, rows: Rows, hits: &mut Vec<RowId>) -> Found {
         let ids = rows.start..rows.end.min(self.stats.num_rows);
+        if self.bit_unpacker.bit_width() == 0 {
+            return find_on_line(self.line, low, high, ids, hits);
+        }
         let items = LinearItems {
             line: self.line,
             bit_unpacker: self.bit_unpacker,
@@ -204,7 +210,7 @@ fn read_params(bytes: &[u8]) -> Option<(LinearParams, usize)>
 }
 
 // The bounds of the blocks of the items, where the bytes are packed offsets, and the statistics are
-// those of the items.
+// those of the items. With the width 0 the items are the line's values, and none are kept.
 fn read_list(
     alloc: Global,
     stats: &ColumnStats,
@@ -223,6 +229,9 @@ fn read_list(
     if !is_packed(bytes, num_bits) {
         return Err(ColumnarError::InvalidData);
     }
+    if params.offset_width == 0 {
+        return read_flat(alloc, stats, params.line);
+    }
     let items = LinearItems {
         line: params.line,
         bit_unpacker: BitUnpacker::new(params.offset_width),
@@ -233,6 +242,18 @@ fn read_list(
         return Err(ColumnarError::InvalidData);
     }
     Ok(bounds)
+}
+
+// No bounds, where the statistics are those of the line's values.
+fn read_flat(alloc: Global, stats: &ColumnStats, line: Line) -> Result<Vec<Bounds>, ColumnarError>
+    ensures list { let list = values_on line 0 stats.now.num_rows in
+        Decodes (λ _. list) result (checked (stats_seen stats.now) list) }
+    ensures none { IfOk result (λ bs. bs.items ≡ []) }
+{
+    if !stats_on(line, stats.num_rows).is_same(stats) {
+        return Err(ColumnarError::InvalidData);
+    }
+    Ok(Vec::new(alloc))
 }
 
 // The line's value at an index plus the offset there, modulo 2^64.

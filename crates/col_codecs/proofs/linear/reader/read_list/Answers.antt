@@ -1,5 +1,12 @@
-use Rattle.std.proofs.Common.{◌∙◌, true, false, refl, sym, subst}
-use Rattle.col_model.specs.Items.{linear_item}
+use Rattle.std.proofs.Common.{◌≡◌, ◌*◌, ◌&&◌, ◌∙◌, true, false, refl, sym, subst}
+use Rattle.col_bits.specs.Packed.{is_packed}
+use Rattle.col_common.specs.Decoding.{Decodes}
+use Rattle.col_common.specs.Reading.{only_if}
+use Rattle.col_model.specs.Stats.{stats_of, same_stats}
+use Rattle.col_codecs.specs.Header.{checked}
+use Rattle.col_codecs.specs.OnLine.{values_on}
+use Rattle.col_codecs.proofs.LineStatsLemmas.{flat-items}
+use Rattle.col_model.specs.Items.{linear_item, linear_items}
 use Rattle.col_codecs.specs.BlockBounds.{Enclose}
 use Rattle.col_codecs.specs.ColumnStats.{stats_seen}
 use Rattle.col_codecs.specs.Line.{with_width}
@@ -32,3 +39,14 @@ pub returns-clause-bounds : goal.returns-clause-bounds
 returns-clause-bounds c =
     subst (λ w. Enclose c.in_ok-found.bounds.items (linear_item (with_width c.args.params.line w) c.args.bytes.now)
     c.args.stats.now.num_rows) c.new.ensures c.in_ok-found.ensures.bounds
+
+pub returns-then-params-eq0-clause-list : goal.returns-then-params-eq0-clause-list
+returns-then-params-eq0-clause-list c =
+    let s = stats_seen c.args.stats.now in
+    let p = c.args.params in
+    let bytes = c.args.bytes.now in
+    let list = linear_items (params_seen p) bytes s.count in
+    let flat : values_on p.line 0 s.count ≡ list = sym (flat-items p.line p.offset_width bytes s.count c.if-params-eq0.true) in
+    let packed : true ≡ is_packed bytes (s.count * p.offset_width) = sym c.if-not-is_packed.false ∙ c.is_packed.ensures in
+    subst (λ b. Decodes (λ _. list) c.read_flat.result (only_if (b && same_stats (stats_of list) s) list)) packed
+    (subst (λ xs. Decodes (λ _. xs) c.read_flat.result (checked s xs)) flat c.read_flat.ensures.list)

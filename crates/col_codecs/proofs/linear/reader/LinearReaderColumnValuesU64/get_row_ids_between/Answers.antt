@@ -1,4 +1,5 @@
-use Rattle.std.proofs.Common.{◌-◌, ◌∙◌, ap, subst}
+use Rattle.std.proofs.Common.{◌≡◌, ◌-◌, ◌∙◌, ap, subst, sym}
+use Rattle.col_codecs.proofs.LineStatsLemmas.{flat-item}
 use Rattle.col_common.specs.Replacing.{Replaces}
 use Rattle.col_model.specs.Items.{linear_item}
 use Rattle.col_codecs.specs.BoundedItems.{ids_by}
@@ -17,3 +18,16 @@ returns c =
     ∙ found_values (linear_item l r.data) a.self.now r.stats.num_rows a.low a.high from a.rows.«end» c.min.result
     c.self.view_is c.min.ensures)
     c.find_ids.ensures
+
+pub returns-then-bit_width-eq0 : goal.returns-then-bit_width-eq0
+returns-then-bit_width-eq0 c =
+    let a = c.args in
+    let r = c.self.inside in
+    let l = with_width r.line r.bit_unpacker in
+    let from = a.rows.start in
+    let flat : r.bit_unpacker ≡ 0 = sym c.bit_width.ensures ∙ c.if-bit_width-eq0.true in
+    subst (Replaces c.find_on_line.result c.find_on_line.new.hits.items)
+    (sym (λ j. ids_by (λ i. flat-item r.line r.bit_unpacker r.data i flat j) a.low a.high from (c.min.result - from))
+    ∙ found_values (linear_item l r.data) a.self.now r.stats.num_rows a.low a.high from a.rows.«end» c.min.result
+    c.self.view_is c.min.ensures)
+    c.find_on_line.ensures
