@@ -1,10 +1,9 @@
 -- The estimate of Linear, and the parts of its bytes.
-use Rattle.std.proofs.Common.{◌≡◌, ℕ, ◌+◌, ◌*◌, ◌^◌, ◌<◌, ◌≤◌, ◌==◌, nat_le, inl, inr, List, ◌++◌, length, Some, None, true, refl, sym, ap, ◌∙◌, subst, arith, length-append}
-use Rattle.std.proofs.lemmas.Bool.{lt-ltb, le-ltb, or_cases, leb-true, eqb-true}
+use Rattle.std.proofs.Common.{◌≡◌, ℕ, ◌+◌, ◌*◌, ◌^◌, ◌<◌, ◌≤◌, List, ◌++◌, length, Some, None, refl, sym, ap, ◌∙◌, subst, arith, length-append}
+use Rattle.std.proofs.lemmas.Bool.{lt-ltb, le-ltb}
 use Rattle.std.proofs.Math.Nat.{mul-le-mul_left}
 use Rattle.col_common.specs.Ascending.{AreBelow}
 use Rattle.col_common.specs.VInt.{vint_bytes}
-use Rattle.col_bits.specs.Packed.{is_width}
 use Rattle.col_model.specs.Stats.{Stats, stats_of, steps_of, stats_bytes}
 use Rattle.col_model.specs.U64List.{LinearParams as LineAndWidth}
 use Rattle.col_model.specs.Codecs.{block_size, line_len, packed_len, params_bytes, offsets_from, packed_offsets, linear_line, linear_estimate, linear_body}

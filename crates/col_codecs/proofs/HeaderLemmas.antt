@@ -1,7 +1,6 @@
 -- Statistics in front of a list.
-use Rattle.std.proofs.Common.{◌≡◌, ℕ, ◌+◌, ◌-◌, ◌≤◌, Bool, true, false, List, ◌∷◌, length, drop, Some, None, refl, ◌∙◌, ap, arith, length-append}
-use Rattle.std.proofs.lemmas.Option.{same_Some}
-use Rattle.col_common.specs.Reading.{IsBytes, only_if}
+use Rattle.std.proofs.Common.{◌≡◌, ℕ, ◌+◌, ◌-◌, ◌≤◌, List, ◌∷◌, length, drop, Some, None, refl, ◌∙◌, ap, arith, length-append}
+use Rattle.col_common.specs.Reading.{IsBytes}
 use Rattle.col_model.specs.Stats.{Stats, stats_at, stats_bytes}
 use Rattle.col_model.specs.U64List.{values64}
 use Rattle.col_model.proofs.OneFormLaws.{stats_bytes-stats_at}

@@ -1,5 +1,5 @@
 -- Lines: their values, their bytes, and their training in one pass.
-use Rattle.std.proofs.Common.{◌≡◌, ◌≢◌, ℕ, ◌+◌, ◌-◌, ◌%◌, ◌^◌, ◌<◌, ◌≤◌, inl, inr, min, List, [], ◌∷◌, ◌++◌, map, fold, length, drop, get_or, slice_get, Some, refl, sym, ap, ◌∙◌, arith, append_assoc, w32, w64, ℤ, to_z, of_z}
+use Rattle.std.proofs.Common.{◌≡◌, ◌≢◌, ℕ, ◌+◌, ◌-◌, ◌%◌, ◌^◌, ◌<◌, inl, inr, min, List, [], ◌∷◌, ◌++◌, map, fold, length, drop, get_or, slice_get, Some, refl, sym, ap, ◌∙◌, arith, append_assoc, w32, w64, ℤ, to_z, of_z}
 use Rattle.std.specs.List.{enumerate_from}
 use Rattle.std.proofs.lemmas.Int.{of_z-to_z}
 use Rattle.std.proofs.lemmas.Option.{get_or_from_slice_get}
@@ -10,7 +10,6 @@ use Rattle.col_model.specs.Line.{signed_32, line, line_at}
 use Rattle.col_model.specs.Stats.{least_of}
 use Rattle.col_model.specs.Training.{less_wrapped, heights, trained_slope, trained_line, line_of}
 use Rattle.col_model.proofs.StatsLaws.{map-map}
-use Rattle.col_model.proofs.BlockLaws.{length-group_bytes}
 use Rattle.col_model.proofs.TrainingLaws.{less_wrapped-below}
 use Rattle.col_values.proofs.HitLemmas.{front_value}
 use Rattle.col_codecs.specs.Line.{distance, distances}

@@ -1,11 +1,10 @@
 -- Statistics of values on a line.
-use Rattle.std.proofs.Common.{◌≡◌, ◌⊎◌, ℕ, zero, suc, ◌+◌, ◌-◌, ◌*◌, ◌/◌, ◌%◌, ◌^◌, ◌<◌, ◌≤◌, inl, inr, List, [], ◌∷◌, ◌++◌, length, map, max, refl, sym, ap, ◌∙◌, subst, arith, true, length-append}
+use Rattle.std.proofs.Common.{◌≡◌, ◌⊎◌, ℕ, ◌+◌, ◌-◌, ◌*◌, ◌/◌, ◌%◌, ◌^◌, ◌<◌, ◌≤◌, inl, inr, List, [], ◌∷◌, ◌++◌, length, map, max, refl, sym, ap, ◌∙◌, subst, arith, length-append}
 use Rattle.std.specs.List.{AllByRecursion, range_with_len}
 use Rattle.std.specs.Int.{◌∣◌}
 use Rattle.std.proofs.Math.Nat.{div-add-mod, mul-le-mul_left, dvd-mul_right, mod-one}
-use Rattle.std.proofs.lemmas.Nat.Gcd.{mod-eq-zero_of_dvd, le_of_dvd}
+use Rattle.std.proofs.lemmas.Nat.Gcd.{mod-eq-zero_of_dvd}
 use Rattle.std.proofs.lemmas.Bool.{cases_lt}
-use Rattle.std.proofs.lemmas.List.FromFn.{length-map-range_with_len}
 use Rattle.col_model.specs.Stats.{least_of, greatest_of, stats_of}
 use Rattle.col_bits.specs.Packed.{item}
 use Rattle.col_model.specs.Line.{line}
@@ -20,11 +19,9 @@ use Rattle.col_codecs.specs.declared.line.Line.{Line}
 use Rattle.col_codecs.specs.BlockBounds.{AreBounds}
 use Rattle.col_codecs.specs.ColumnStats.{Collected, collected_of}
 use Rattle.col_codecs.specs.OnLine.{on_line, values_on, shift_of, lifted}
-use Rattle.col_codecs.specs.Residues.{residue}
-use Rattle.col_codecs.proofs.BoundsLemmas.{stats_of-least, stats_of-greatest}
 use Rattle.col_codecs.proofs.ResidueLemmas.{alike}
 use Rattle.col_codecs.proofs.StatsLemmas.{collected-count}
-use Rattle.col_codecs.proofs.OnLineLemmas.{IsLift, jump, lift-of, on_line-lifted, shift-small, within-bounds, all-range, one-range}
+use Rattle.col_codecs.proofs.OnLineLemmas.{jump, lift-of, on_line-lifted, shift-small, all-range, one-range}
 
 -- ---- what a divisor leaves
 
@@ -47,8 +44,10 @@ divides-left d r x y p q =
     elim (cases_lt (x / d) (y / d)) [
       | inl less ↦ (let rise : d * (x / d) ≤ d * (y / d) = mul-le-mul_left d (omega arith) in
           let none : d * 0 ≡ x - y = omega (arith, a, b, p, q, rise) in subst (λ k. d ∣ k) none (dvd-mul_right d 0))
-      | inr more ↦ (let whole : d * (x / d - y / d + y / d) ≡ d * (x / d) = let e : x / d - y / d + y / d ≡ x / d = omega arith in ap (λ k. d * k) e in
-          let part : d * (x / d - y / d) ≡ x - y = omega (arith, a, b, p, q, whole) in subst (λ k. d ∣ k) part (dvd-mul_right d (x / d - y / d)))
+      | inr more ↦ (let e : x / d - y / d + y / d ≡ x / d = omega arith in
+          let whole : d * (x / d - y / d + y / d) ≡ d * (x / d) = ap (λ k. d * k) e in
+          let part : d * (x / d - y / d) ≡ x - y = omega (arith, a, b, p, q, whole) in
+          subst (λ k. d ∣ k) part (dvd-mul_right d (x / d - y / d)))
     ]
 
 -- what divides all differences leaves the same of each number
@@ -164,7 +163,8 @@ module _ (l : Line) (n : ℕ) (sf : l.slope < 2 ^ 64) (cf : l.intercept < 2 ^ 64
       let less : s % 2 ^ 32 * x ≤ s % 2 ^ 32 * (n - 1) = mul-le-mul_left (s % 2 ^ 32) (omega arith) in
       let place : 0 + x ≡ x = omega arith in
       ap (on_line l) (sym place) ∙ on_line-lifted l 0 x moved refl small
-      ∙ ap (lifted l.intercept) (half (s * x) (s / 2 ^ 32 * x) (s % 2 ^ 32 * x) d moved same (omega (arith, parts)) (omega (arith, less, flat)))
+      ∙ ap (lifted l.intercept) (half (s * x) (s / 2 ^ 32 * x) (s % 2 ^ 32 * x) d moved same (omega (arith, parts))
+      (omega (arith, less, flat)))
     where
       half : (p q r d moved : ℕ) → moved ≡ d * 2 ^ 32 → p ≡ 2 ^ 32 * q + r → r < 2 ^ 32 → (p + moved) % 2 ^ 64 / 2 ^ 32 ≡ (d + q) % 2 ^ 32
       half p q r d moved m e h = omega arith

@@ -8,7 +8,6 @@ use Rattle.col_model.specs.Training.{line_of, less_wrapped}
 use Rattle.col_model.specs.U64List.{LinearParams as LineAndWidth}
 use Rattle.col_model.specs.Codecs.{block_size, half_space, deviation, deviations, linear_line}
 use Rattle.col_bits.specs.Packed.{width}
-use Rattle.col_model.proofs.StatsLaws.{least_of-all, fold-max}
 use Rattle.col_model.proofs.U64ListLaws.{least_le-greatest}
 use Rattle.col_codecs.proofs.TurningLemmas.{by_position-append}
 use Rattle.col_codecs.specs.Line.{line_seen}

@@ -1,5 +1,5 @@
 -- Values on a line: they rise with the moved halves of products, which are residues.
-use Rattle.std.proofs.Common.{◌≡◌, ◌⊎◌, ℕ, zero, suc, ◌+◌, ◌-◌, ◌*◌, ◌/◌, ◌%◌, ◌^◌, ◌<◌, ◌≤◌, inl, inr, List, [], ◌∷◌, ◌++◌, length, map, take, set, fold, min, max, refl, sym, ap, ◌∙◌, subst, arith, true, false, append-nil}
+use Rattle.std.proofs.Common.{◌≡◌, ◌⊎◌, ℕ, zero, suc, ◌+◌, ◌-◌, ◌*◌, ◌/◌, ◌%◌, ◌^◌, ◌<◌, ◌≤◌, inl, inr, List, [], ◌∷◌, ◌++◌, length, map, take, set, refl, sym, ap, ◌∙◌, subst, arith, true, false, append-nil}
 use Rattle.std.specs.List.{AllByRecursion, range_with_len}
 use Rattle.std.specs.Int.{is_in_range}
 use Rattle.col_values.proofs.HitLemmas.{rows_none}
@@ -35,7 +35,9 @@ all-range P f a (suc n) h = (
 pub one-range : (P : ℕ → Type 0) (f : ℕ → ℕ) (a n : ℕ) → AllByRecursion P (map f (range_with_len a n)) → (i : ℕ) → i < n → P (f (a + i))
 one-range P f a zero all i h = absurd (omega arith)
 one-range P f a (suc n) all zero h = let e : a ≡ a + 0 = omega arith in subst (λ k. P (f k)) e all.0
-one-range P f a (suc n) all (suc i) h = let e : a + 1 + i ≡ a + suc i = omega arith in subst (λ k. P (f k)) e (one-range P f (a + 1) n all.1 i (omega arith))
+one-range P f a (suc n) all (suc i) h =
+    let e : a + 1 + i ≡ a + suc i = omega arith in
+    subst (λ k. P (f k)) e (one-range P f (a + 1) n all.1 i (omega arith))
 
 -- one value more
 pub range-pushed : (f : ℕ → ℕ) (a n : ℕ) → map f (range_with_len a n) ++ f (a + n) ∷ [] ≡ map f (range_with_len a (n + 1))
@@ -55,15 +57,17 @@ pub least-range : (f : ℕ → ℕ) (a n v : ℕ) → IsLeast (λ i. f (a + i)) 
 least-range f a zero v least = absurd (omega (arith, least.within))
 least-range f a (suc n) v least =
     let all = all-range (λ y. v ≤ y) f a (suc n) least.below in
-    let low : v ≤ least_of (map f (range_with_len a (suc n))) = fold-min-one (λ y. v ≤ y) (f a) (map f (range_with_len (a + 1) n)) all.0 all.1 in
-    let high = one-range (λ y. least_of (map f (range_with_len a (suc n))) ≤ y) f a (suc n) (least_of-all (map f (range_with_len a (suc n)))) least.place least.within in
+    let xs = map f (range_with_len a (suc n)) in
+    let low : v ≤ least_of xs = fold-min-one (λ y. v ≤ y) (f a) (map f (range_with_len (a + 1) n)) all.0 all.1 in
+    let high = one-range (λ y. least_of xs ≤ y) f a (suc n) (least_of-all xs) least.place least.within in
     omega (arith, low, high, least.there)
 
 pub greatest-range : (f : ℕ → ℕ) (a n v : ℕ) → IsGreatest (λ i. f (a + i)) n v → v ≡ greatest_of (map f (range_with_len a n))
 greatest-range f a n v top =
     let all = all-range (λ y. y ≤ v) f a n top.above in
     let high : greatest_of (map f (range_with_len a n)) ≤ v = fold-max-one (λ y. y ≤ v) 0 (map f (range_with_len a n)) (omega arith) all in
-    let low = one-range (λ y. y ≤ greatest_of (map f (range_with_len a n))) f a n (fold-max 0 (map f (range_with_len a n))).1 top.place top.within in
+    let xs = map f (range_with_len a n) in
+    let low = one-range (λ y. y ≤ greatest_of xs) f a n (fold-max 0 xs).1 top.place top.within in
     omega (arith, low, high, top.there)
 
 -- ---- halves of products
@@ -80,12 +84,17 @@ pub shift-parts : (c : ℕ) → c < 2 ^ 64
     → ((2 ^ 31 ≤ c) × (c ≤ 2 ^ 64 - 2 ^ 31) × (shift_of c ≡ 2 ^ 31))
     ⊎ (((c < 2 ^ 31) × (shift_of c ≡ c)) ⊎ ((2 ^ 64 - 2 ^ 31 < c) × (shift_of c ≡ c - (2 ^ 64 - 2 ^ 32))))
 shift-parts c h = elim (cases_lt c (2 ^ 31)) [
-  | inl low ↦ inr (inl (low, (let e : c % 2 ^ 32 ≡ c = omega arith in let f : nat_le (2 ^ 31) c ≡ false = grind (arith, nat_tests) in rw f e)))
+  | inl low ↦ inr (inl (
+    low,
+    (let e : c % 2 ^ 32 ≡ c = omega arith in
+        let f : nat_le (2 ^ 31) c ≡ false = grind (arith, nat_tests) in rw f e),
+  ))
   | inr some ↦ elim (cases_lt (2 ^ 64 - 2 ^ 31) c) [
     | inl high ↦ inr (inr (
       high,
       (let e : c % 2 ^ 32 ≡ c - (2 ^ 64 - 2 ^ 32) = omega arith in
-          let f : nat_le c (2 ^ 64 - 2 ^ 31) ≡ false = grind (arith, nat_tests) in let g : nat_le (2 ^ 31) c ≡ true = grind (arith, nat_tests) in rw (g, f) e),
+          let f : nat_le c (2 ^ 64 - 2 ^ 31) ≡ false = grind (arith, nat_tests) in
+          let g : nat_le (2 ^ 31) c ≡ true = grind (arith, nat_tests) in rw (g, f) e),
     ))
     | inr mid ↦ inl (
       some,
@@ -216,21 +225,24 @@ bounds-by l start n moved down low high least greatest some sf cf m d lows highs
     let p = residue (2 ^ 64) l.slope moved in
     let at : (i : ℕ) → on_line l (start + i) ≡ lifted c (p i / 2 ^ 32) = λ i. on_line-lifted l start i moved m (shift-small c cf) in
     let fits : (i : ℕ) → p i < 2 ^ 64 = λ i. omega arith in
-    let top : (i : ℕ) → p i + residue (2 ^ 64) down (2 ^ 64 - 1 - moved) i ≡ 2 ^ 64 - 1 = λ i. mirrored l.slope down moved i sf (omega arith) d in
+    let top : (i : ℕ) → p i + residue (2 ^ 64) down (2 ^ 64 - 1 - moved) i ≡ 2 ^ 64 - 1 =
+    λ i. mirrored l.slope down moved i sf (omega arith) d in
     record {
       some = omega (arith, length-map-range_with_len (on_line l) start n);
       least = least-range (on_line l) start n least (record {
         place = lows.place;
         within = lows.within;
         there = at lows.place ∙ ap (λ y. lifted c (y / 2 ^ 32)) lows.there ∙ sym le;
-        below = λ i h. (let rise = lifted-rises c (low / 2 ^ 32) (p i / 2 ^ 32) cf (omega (arith, lows.below i h)) (omega (arith, fits i)) in
+        below = λ i h. (let rise = lifted-rises c (low / 2 ^ 32) (p i / 2 ^ 32) cf (omega (arith, lows.below i h))
+            (omega (arith, fits i)) in
             omega (arith, rise, at i, le));
       });
       greatest = greatest-range (on_line l) start n greatest (record {
         place = highs.place;
         within = highs.within;
         there = at highs.place
-            ∙ ap (λ y. lifted c (y / 2 ^ 32)) (let e : p highs.place ≡ 2 ^ 64 - 1 - high = omega (arith, top highs.place, highs.there) in e) ∙ sym ge;
+            ∙ ap (λ y. lifted c (y / 2 ^ 32)) (let e : p highs.place ≡ 2 ^ 64 - 1 - high = omega (arith, top highs.place, highs.there) in
+            e) ∙ sym ge;
         above = λ i h. (let rise = lifted-rises c (p i / 2 ^ 32) ((2 ^ 64 - 1 - high) / 2 ^ 32) cf
             (omega (arith, highs.below i h, top i)) (omega arith) in omega (arith, rise, at i, ge));
       });

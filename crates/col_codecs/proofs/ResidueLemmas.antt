@@ -1,5 +1,5 @@
 -- The least residue of numbers that rise by equal steps.
-use Rattle.std.proofs.Common.{◌≡◌, ℕ, zero, suc, ◌+◌, ◌-◌, ◌*◌, ◌/◌, ◌%◌, ◌<◌, ◌≤◌, min, inl, inr, refl, sym, ap, ◌∙◌, subst, arith}
+use Rattle.std.proofs.Common.{◌≡◌, ℕ, zero, suc, ◌+◌, ◌-◌, ◌*◌, ◌/◌, ◌%◌, ◌<◌, ◌≤◌, min, inl, inr, sym, ap, ◌∙◌, arith}
 use Rattle.std.proofs.Math.Nat.{div-add-mod, mod-eq_of_lt, mul-le-mul_left, add-mul-mod_self_left, div-mul-le_self, mul-div-le}
 use Rattle.std.proofs.lemmas.Nat.{mod_below, le-div}
 use Rattle.std.proofs.lemmas.Bool.{cases_lt, cases_eq}

@@ -1,6 +1,7 @@
 //! Lists of numbers under any codec, by examples.
 
 mod choice;
+mod claims;
 mod codecs;
 mod coercions;
 mod line;

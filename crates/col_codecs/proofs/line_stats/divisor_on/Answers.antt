@@ -1,5 +1,4 @@
-use Rattle.std.proofs.Common.{◌<◌, ◌%◌, ◌≡◌, sym, ◌∙◌, arith, length}
-use Rattle.std.proofs.lemmas.List.FromFn.{length-map-range_with_len}
+use Rattle.std.proofs.Common.{◌<◌, ◌%◌, sym, ◌∙◌, arith}
 use Rattle.col_model.specs.Stats.{least_of, greatest_of}
 use Rattle.col_model.proofs.DivisorLaws.{divisor-is-greatest}
 use Rattle.col_codecs.specs.OnLine.{on_line, values_on}

@@ -1,4 +1,4 @@
-use Rattle.std.proofs.Common.{◌≡◌, ◌⊎◌, ◌+◌, ◌-◌, ◌*◌, ◌/◌, ◌%◌, ◌^◌, ◌<◌, ◌≤◌, inl, inr, arith, ap, sym, ◌∙◌, subst, ℕ}
+use Rattle.std.proofs.Common.{◌≡◌, ◌⊎◌, ◌+◌, ◌-◌, ◌*◌, ◌/◌, ◌%◌, ◌^◌, ◌<◌, ◌≤◌, inl, inr, arith, ap, sym, ◌∙◌}
 use Rattle.std.proofs.Math.Nat.{mod-one}
 use Rattle.std.proofs.lemmas.Bool.Decides.{nat_tests}
 use Rattle.col_model.specs.Line.{line}
@@ -40,7 +40,8 @@ returns-then-shift-step-lt-HALVES c =
     let step = a.slope / 2 ^ 32 in
     let divides : step % a.divisor ≡ 0 = grind (arith, nat_tests) in
     let flat : a.slope % 2 ^ 32 * (a.count - 1) < 2 ^ 32 = omega (arith, ap (λ k. a.slope % 2 ^ 32 * k) c.from-last.ensures) in
-    let straight : shift_of l.intercept + step * (a.count - 1) < 2 ^ 32 = omega (arith, c.shift_of-shift.ensures, ap (λ k. step * k) c.from-last.ensures) in
+    let straight : shift_of l.intercept + step * (a.count - 1) < 2 ^ 32 =
+    omega (arith, c.shift_of-shift.ensures, ap (λ k. step * k) c.from-last.ensures) in
     let whole : (b.greatest < b.least + 2 ^ 32) ⊎ (jump % a.divisor ≡ 0) =
     elim c.else-bounds-ge-HALVES.branch [
       | else-bounds-ge-HALVES-via-then-bounds-ge-HALVES+else-divisor-ne0 w ↦ inr (omega (arith, w.if-divisor-ne0.false))
@@ -61,7 +62,8 @@ returns-then-down-last c =
     let down = 2 ^ 32 - step in
     let divides : down % a.divisor ≡ 0 = grind (arith, nat_tests) in
     let flat : a.slope % 2 ^ 32 * (a.count - 1) < 2 ^ 32 = omega (arith, ap (λ k. a.slope % 2 ^ 32 * k) c.from-last.ensures) in
-    let straight : down * (a.count - 1) ≤ shift_of l.intercept = omega (arith, c.if-down-last.true, c.shift_of-shift.ensures, ap (λ k. down * k) c.from-last.ensures) in
+    let straight : down * (a.count - 1) ≤ shift_of l.intercept =
+    omega (arith, c.if-down-last.true, c.shift_of-shift.ensures, ap (λ k. down * k) c.from-last.ensures) in
     let whole : (b.greatest < b.least + 2 ^ 32) ⊎ (jump % a.divisor ≡ 0) =
     elim c.else-bounds-ge-HALVES.branch [
       | else-bounds-ge-HALVES-via-then-bounds-ge-HALVES+else-divisor-ne0 w ↦ inr (omega (arith, w.if-divisor-ne0.false))

@@ -1,7 +1,5 @@
-use Rattle.std.proofs.Common.{◌≡◌, ◌<◌, ◌≤◌, ◌+◌, ◌++◌, ◌∷◌, [], length, arith, ap, subst, ◌∙◌, sym}
+use Rattle.std.proofs.Common.{◌≡◌, ◌<◌, ◌≤◌, ◌++◌, ◌∷◌, [], length, arith, ap, ◌∙◌}
 use Rattle.std.proofs.lemmas.List.FromFn.{length-map-range_with_len}
-use Rattle.col_model.specs.Stats.{least_of, greatest_of, stats_of}
-use Rattle.col_codecs.specs.ColumnStats.{collected_of}
 use Rattle.col_codecs.specs.OnLine.{on_line, values_on}
 use Rattle.col_codecs.proofs.BoundsLemmas.{stats_of-least, stats_of-greatest}
 use Rattle.col_codecs.proofs.LineStatsLemmas.{count-more, sample, sample-top, divisor-positive}
@@ -31,7 +29,8 @@ collect-requires-3 c =
     let first = c.collect.ensures xs c.collected-collector.ensures in
     omega (
       arith,
-      (count-more c.collect-2.new.self ys c.args.bounds.greatest 1025 (count-more c.collect.new.self xs c.args.bounds.least 1024 long first).1
+      (count-more c.collect-2.new.self ys c.args.bounds.greatest 1025
+          (count-more c.collect.new.self xs c.args.bounds.least 1024 long first).1
           (c.collect-2.ensures ys first)).0,
     )
 
@@ -70,7 +69,8 @@ returns-clause-top c =
     let ys = xs ++ b.least ∷ [] in
     let zs = ys ++ b.greatest ∷ [] in
     let ws = zs ++ c.eval.result ∷ [] in
-    let four = c.collect-4.ensures ws (c.collect-3.ensures zs (c.collect-2.ensures ys (c.collect.ensures xs c.collected-collector.ensures))) in
+    let four = c.collect-4.ensures ws (c.collect-3.ensures zs (c.collect-2.ensures ys
+    (c.collect.ensures xs c.collected-collector.ensures))) in
     let list = ws ++ c.eval-2.result ∷ [] in
     let same : list ≡ sample l 1024 b c.min.result c.min-2.result = ap (λ v. (zs ++ v ∷ []) ++ c.eval-2.result ∷ []) c.eval.ensures
     ∙ ap (λ v. (zs ++ on_line l c.min.result ∷ []) ++ v ∷ []) c.eval-2.ensures in

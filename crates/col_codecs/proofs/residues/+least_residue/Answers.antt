@@ -1,4 +1,4 @@
-use Rattle.std.proofs.Common.{◌≡◌, ◌<◌, ◌+◌, ◌*◌, ◌/◌, ◌%◌, ◌-◌, refl, sym, ap, ◌∙◌, arith, subst}
+use Rattle.std.proofs.Common.{◌<◌, ◌+◌, ◌*◌, ◌/◌, ◌%◌, ◌-◌, refl, sym, ap, arith, subst}
 use Rattle.col_codecs.specs.Residues.{residue, IsLeast}
 use Rattle.col_codecs.proofs.ResidueLemmas.{least-unturned, least-turned, turned-rises}
 use Rattle.col_codecs.proofs.residues.+least_residue.Goals as goal
