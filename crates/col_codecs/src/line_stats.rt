@@ -5,7 +5,7 @@ ghost use Rattle.col_model.specs.Line.{line};
 ghost use Rattle.col_model.specs.Stats.{stats_of};
 ghost use Rattle.col_codecs.specs.BlockBounds.{AreBounds};
 ghost use Rattle.col_codecs.specs.ColumnStats.{stats_seen, collected_of};
-ghost use Rattle.col_codecs.specs.OnLine.{on_line, values_on};
+ghost use Rattle.col_codecs.specs.OnLine.{values_on};
 
 use crate::block_bounds::Bounds;
 use crate::column_stats::ColumnStats;

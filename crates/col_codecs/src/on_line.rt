@@ -1,6 +1,6 @@
 //! Values on a line: their bounds, and which of them lie in a range, with no walk where it is known
 //! that all or none do.
-ghost use Rattle.std.specs.Prelude.{◌≡◌, ◌<◌, ◌≤◌, ◌+◌, ◌-◌, ◌*◌, ◌%◌, ◌^◌, ◌++◌, map, OnOk};
+ghost use Rattle.std.specs.Prelude.{◌≡◌, ◌<◌, ◌≤◌, ◌+◌, ◌-◌, ◌^◌, ◌++◌, map, OnOk};
 ghost use Rattle.std.specs.List.{range_with_len};
 ghost use Rattle.col_common.specs.Replacing.{Replaces};
 ghost use Rattle.col_model.specs.Line.{line};
@@ -8,7 +8,7 @@ ghost use Rattle.col_codecs.specs.BlockBounds.{AreBounds};
 ghost use Rattle.col_codecs.specs.BoundedItems.{ids_by};
 ghost use Rattle.col_codecs.specs.OnLine.{on_line, values_on, shift_of, lifted};
 
-use crate::block_bounds::{BOUNDED_LEN, BOUNDED_SIZE, Bounds, is_inside, is_outside, push_all};
+use crate::block_bounds::{BOUNDED_LEN, BOUNDED_SIZE, Bounds, push_all};
 use crate::bounded_items::BoundedItems;
 use crate::line::Line;
 use crate::residues::least_residue;
