@@ -48,8 +48,8 @@ pub(crate) fn collected_rows(
     ensures { IfOk result (λ v. v.items
         ≡ rows_with_value (stacked_counts (index_segments column_indexes.now order.now))) }
 {
-    let capacity = max_rows(column_indexes, order.num_rows());
-    let mut rows = Vec::with_capacity(alloc, capacity as usize)?;
+    let capacity = max_rows(column_indexes, order) as usize;
+    let mut rows = Vec::with_capacity(alloc, capacity)?;
     let mut before = 0u64;
     for segment in 0..order.num_segments() {
         let num_rows = order.segment_num_rows(segment);
@@ -151,7 +151,7 @@ pub(crate) fn collected_starts(
     ensures { IfOk result (λ v. v.items
         ≡ starts_of (stacked_counts (index_segments column_indexes.now order.now))) }
 {
-    let capacity = max_rows(column_indexes, order.num_rows()).saturating_add(1);
+    let capacity = max_rows(column_indexes, order).saturating_add(1);
     let mut starts = Vec::with_capacity(alloc, capacity as usize)?;
     starts.push(0)?;
     let mut before = 0u64;
@@ -164,17 +164,20 @@ pub(crate) fn collected_starts(
     Ok(starts)
 }
 
-// Rows with a value of indexes are at most so many, where there are so many rows in all.
-fn max_rows(column_indexes: &[ColumnIndex], num_rows: RowId) -> RowId {
+// Rows with a value of indexes are at most so many: rows of a segment that is full, and those that
+// are listed of another one.
+fn max_rows(column_indexes: &[ColumnIndex], order: &StackMergeOrder) -> RowId
+    requires { AreSegments (index_segments column_indexes.now order.now) }
+{
     let mut sum: RowId = 0;
-    for index in column_indexes {
-        let more = match index {
+    for segment in 0..order.num_segments() {
+        let more = match &column_indexes[segment] {
             ColumnIndex::Empty { .. } => 0,
-            ColumnIndex::Full => num_rows,
+            ColumnIndex::Full => order.segment_num_rows(segment),
             ColumnIndex::Optional(index) => index.num_non_nulls(),
             ColumnIndex::Multivalued(index) => max_starts(index),
         };
         sum = sum.saturating_add(more);
     }
-    sum.min(num_rows)
+    sum.min(order.num_rows())
 }
