@@ -1,6 +1,9 @@
 //! The least residue of numbers that rise by equal steps, found in as many turns as it has digits.
-ghost use Rattle.std.specs.Prelude.{◌≡◌, ◌<◌, ◌≤◌, ◌^◌, ℕ};
+ghost use Rattle.std.specs.Prelude.{◌≡◌, ◌<◌, ◌≤◌, ◌/◌, ◌%◌, ◌^◌, ℕ};
 ghost use Rattle.col_codecs.specs.Residues.{residue, IsLeast};
+
+// The greatest modulus, by which a division is a shift.
+const GREATEST_MODULUS: u128 = 1 << 64;
 
 /// The least of `(factor * x + offset) % modulus` for x below the count. Residues rise until they
 /// pass the modulus; the first ones of all later rises are residues of the factor, that rise too.
@@ -12,7 +15,7 @@ pub fn least_residue(count: u32, modulus: u128, factor: u128, offset: u128) -> u
     ensures { IsLeast (residue modulus factor offset) count result }
 {
     let (factor, offset) = in_short_steps(count, modulus, factor, offset);
-    let turns = (factor * u128::from(count - 1) + offset) / modulus;
+    let turns = quotient(factor * u128::from(count - 1) + offset, modulus);
     if turns == 0 {
         return offset;
     }
@@ -36,5 +39,27 @@ fn in_short_steps(count: u32, modulus: u128, factor: u128, offset: u128) -> (u12
         return (factor, offset);
     }
     let last = factor * u128::from(count - 1) + offset;
-    (modulus - factor, last % modulus)
+    (modulus - factor, remainder(last, modulus))
+}
+
+// How often a modulus goes into a number.
+fn quotient(number: u128, modulus: u128) -> u128
+    requires { 0 < modulus }
+    ensures { result ≡ number / modulus }
+{
+    if modulus == GREATEST_MODULUS {
+        return number >> 64;
+    }
+    number / modulus
+}
+
+// What is left of a number.
+fn remainder(number: u128, modulus: u128) -> u128
+    requires { 0 < modulus }
+    ensures { result ≡ number % modulus }
+{
+    if modulus == GREATEST_MODULUS {
+        return number % GREATEST_MODULUS;
+    }
+    number % modulus
 }
