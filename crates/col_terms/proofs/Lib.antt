@@ -7,6 +7,7 @@ pub mod StreamLemmas
 pub mod WalkLemmas
 pub mod OrderedLemmas
 pub mod PlaceLemmas
+pub mod ApartLemmas
 pub mod ChainLemmas
 pub mod ArenaLemmas
 pub mod HashLemmas

@@ -1,12 +1,12 @@
 -- Terms that are read in place, put in order with their ids.
-use Rattle.std.proofs.Common.{◌≡◌, ℕ, ◌+◌, ◌<◌, ◌≢◌, Bool, true, false, List, [], ◌∷◌, length, map, get_or, set, bytes_eq, refl, sym, ap, ◌∙◌, subst, inl, inr, arith}
+use Rattle.std.proofs.Common.{◌≡◌, ℕ, ◌+◌, ◌<◌, ◌≢◌, true, false, List, [], ◌∷◌, length, map, get_or, set, bytes_eq, refl, sym, ap, ◌∙◌, subst, inl, inr, arith}
 use Rattle.std.specs.declared.cmp.Ordering.{Ordering}
 use Rattle.std.specs.declared.cmp.Ordering.TheVariants.{Less, Equal, Greater}
 use Rattle.std.specs.Ordering.{nat_cmp, is_lt, ordering_then, ordering_reverse}
 use Rattle.std.specs.Cmp.Lexicographic.{slice_cmp}
 use Rattle.std.specs.List.{All, IsDistinct}
 use Rattle.std.specs.List.Sorted.{IsPermutation, IsSorted}
-use Rattle.std.proofs.lemmas.Bool.{true≢false, cases_eq, false_from_ne_true}
+use Rattle.std.proofs.lemmas.Bool.{true≢false, cases_eq}
 use Rattle.std.proofs.lemmas.Cmp.{nat_list_cmp_total}
 use Rattle.std.proofs.lemmas.List.{get_or-map, length-map, get_or-set_same, get_or-set_other, same_lists, get_or_default}
 use Rattle.std.proofs.lemmas.List.FromFn.{length-enumerate_from}
@@ -23,7 +23,6 @@ use Rattle.std.proofs.Math.Seq.{take-length}
 use Rattle.col_terms.proofs.HeadLemmas.{heads_agree}
 use Rattle.col_terms.proofs.OrderedLemmas.{AreInOrder, in_order-ordered, permutation-ordered, same_in_order}
 use Rattle.col_terms.proofs.PlaceLemmas.{same_bytes, known_at, place_at, place_below, term_at_place, numbered-get}
-use Rattle.col_model.proofs.OrderingLaws.{bytes_eq-true}
 
 -- a term of no bytes, for places past the end
 abbrev pub nothing : TermRef

@@ -1,6 +1,11 @@
--- The hashes of terms, and ids in chains by their hashes.
-use Rattle.std.specs.Prelude.{◌≡◌, ◌≢◌, ℕ, zero, suc, ◌+◌, ◌-◌, ◌*◌, ◌/◌, ◌%◌, ◌^◌, ◌<◌, ◌≤◌, bit_and, bit_xor, bytes_eq, List, length, drop, slice_index, slice_index_or, []}
+-- The hashes of terms, ids in chains by their hashes, and ids that stand apart.
+use Rattle.std.specs.Prelude.{◌≡◌, ◌≢◌, ℕ, zero, suc, ◌+◌, ◌-◌, ◌*◌, ◌/◌, ◌%◌, ◌^◌, ◌<◌, ◌≤◌, bit_and, bit_xor, bytes_eq, List, length, drop, slice_index, slice_index_or, [], Option, Some, ◌⊎◌}
+use Rattle.std.specs.BTreeMap.{BTreeMap, get_by}
+use Rattle.std.specs.Cmp.Lexicographic.{slice_cmp}
 use Rattle.std.specs.List.{IsDistinct}
+use Rattle.std.specs.Ordering.{nat_cmp}
+use Rattle.std.specs.declared.alloc.Global.{Global}
+use Rattle.std.specs.declared.vec.Vec.{Vec}
 use Rattle.col_terms.specs.declared.table.TheConstants.{HEAD_NUM_BYTES}
 use Rattle.col_terms.specs.declared.term_hash.TheConstants.{MULTIPLIER}
 use Rattle.col_terms.specs.TermTable.{head_of}
@@ -70,10 +75,32 @@ pub record AddsHash (old : Hashes) (hash : ℕ) (new : Hashes) : Type 0 where
   pub others : (id : ℕ) → id < old.count
       → slice_index new.hashes id ≡ slice_index old.hashes id
 
--- terms that differ, with their hashes
-pub record AreHashed (ts : List (List ℕ)) (h : Hashes) : Type 0 where
+-- ---- terms with their ids
+
+-- ids under terms, in the order of the terms
+abbrev pub IdsApart : Type 0
+IdsApart = BTreeMap (Vec ℕ Global) ℕ
+
+-- the id under a term
+abbrev pub id_apart : IdsApart → List ℕ → Option ℕ
+id_apart m t = get_by (λ k. slice_cmp nat_cmp t k.items) m
+
+-- the hash under which an id stands is that of its term, or its id stands apart
+abbrev pub IsPlaced : IdsApart → List ℕ → ℕ → ℕ → Type 0
+IsPlaced m t id place = (place ≡ hash_of t) ⊎ (id_apart m t ≡ Some id)
+
+-- under other terms than this one stand the same ids
+abbrev pub KeepsOtherIds : List ℕ → IdsApart → IdsApart → Type 0
+KeepsOtherIds t old new = (other : List ℕ) → other ≢ t → id_apart new other ≡ id_apart old other
+
+-- no id that stands apart under a term is that of the term
+abbrev pub IsNotApart : List (List ℕ) → IdsApart → List ℕ → Type 0
+IsNotApart ts m t = (id : ℕ) → id < length ts → id_apart m t ≡ Some id → slice_index_or ts id [] ≢ t
+
+-- terms that differ: each is in the chain of its hash, or its id stands apart
+pub record AreHashed (ts : List (List ℕ)) (h : Hashes) (m : IdsApart) : Type 0 where
   pub differ : IsDistinct bytes_eq ts
   pub few : length ts ≤ 2 ^ 32 - 1
   pub count : h.count ≡ length ts
-  pub hashes : (id : ℕ) → id < length ts
-      → slice_index h.hashes id ≡ hash_of (slice_index_or ts id [])
+  pub found : (id : ℕ) → id < length ts
+      → IsPlaced m (slice_index_or ts id []) id (slice_index h.hashes id)

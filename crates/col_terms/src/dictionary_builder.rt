@@ -1,12 +1,12 @@
 //! The builder of a dictionary.
-ghost use Rattle.std.specs.Prelude.{◌≡◌, ◌↔◌, bytes_eq, ◌-◌, ◌^◌, ◌<◌, ◌≤◌, min, Some, Err, true, false, ◌++◌, ◌∷◌, [], length, flat_map, sum_by, slice_get, IfOk, IfErr, OnOk, OnErr, IsTrue};
+ghost use Rattle.std.specs.Prelude.{◌≡◌, ◌↔◌, bytes_eq, ◌-◌, ◌^◌, ◌<◌, ◌≤◌, min, Some, Err, true, false, ◌++◌, ◌∷◌, [], length, flat_map, sum_by, slice_get, IfSome, IfNone, IfOk, IfErr, OnOk, OnErr, IsTrue};
 ghost use Rattle.std.specs.Int.{w32, to_le_bytes};
 ghost use Rattle.std.specs.List.{concat, list_all, IsDistinct};
 ghost use Rattle.col_model.specs.Limits.{dictionary_length};
 ghost use Rattle.col_model.specs.Sound.{are_bytes};
 ghost use Rattle.col_terms.specs.TermTable.{ends_from, dictionary_bytes};
 ghost use Rattle.col_terms.specs.Building.{known_id, ordinals, texts, AreNumbered};
-ghost use Rattle.col_terms.specs.Hashing.{hash_of, AreHashed};
+ghost use Rattle.col_terms.specs.Hashing.{hash_of, id_apart, AreHashed, IsNotApart, IsPlaced, KeepsOtherIds};
 
 use crate::hash_chains::HashChains;
 use crate::table::padded_head;
@@ -14,6 +14,7 @@ use crate::term_arena::TermArena;
 use crate::term_hash::hash_of;
 use col_common::{ColumnarError, Sink, serialize_bytes};
 use std::alloc::{AllocError, Global};
+use std::collections::BTreeMap;
 use std::marker::Model;
 
 // How many terms there may be.
@@ -56,11 +57,27 @@ impl TermIdMapping {
 }
 
 /// Terms, each of which gets an id as it comes.
-#[derive(Drop)]
 pub struct DictionaryBuilder {
     alloc: Global,
     terms: TermArena,
     chains: HashChains,
+    // The ids of terms that came when the chain of their hash was long, by the order of the terms.
+    apart: BTreeMap<Vec<u8>, u32>,
+}
+
+// A derived one is written out wherever a builder is let go.
+impl Drop for DictionaryBuilder {
+    fn drop(self) {
+        let DictionaryBuilder {
+            alloc: _,
+            terms,
+            chains,
+            apart,
+        } = self;
+        drop(terms);
+        drop(chains);
+        drop(apart);
+    }
 }
 
 impl Model for DictionaryBuilder {
@@ -71,7 +88,7 @@ impl Model for DictionaryBuilder {
 
     ghost view = { λ b. b.terms };
 
-    ghost invariant = { λ b. AreHashed b.terms b.chains };
+    ghost invariant = { λ b. AreHashed b.terms b.chains b.apart };
 }
 
 impl DictionaryBuilder {
@@ -87,6 +104,7 @@ impl DictionaryBuilder {
             alloc,
             terms: TermArena::new(alloc),
             chains: HashChains::new(alloc),
+            apart: BTreeMap::new(alloc),
         }
     }
 
@@ -141,7 +159,7 @@ impl DictionaryBuilder {
         requires { hash ≡ hash_of term.now }
         ensures { result ≡ known_id self.now term.now }
     {
-        find(&self.terms, &self.chains, term, hash)
+        find(&self.terms, &self.chains, &self.apart, term, hash)
     }
 
     // The next id, for a new term.
@@ -154,8 +172,9 @@ impl DictionaryBuilder {
     {
         let id = self.terms.len() as u32;
         self.chains.reserve()?;
+        let place = place_new(self.alloc, &self.chains, &mut self.apart, term, hash, id)?;
         self.terms.push(term)?;
-        self.chains.push(hash);
+        self.chains.push(place);
         Ok(UnorderedId(id))
     }
 
@@ -234,9 +253,15 @@ impl DictionaryBuilder {
     }
 }
 
-// The id of a term that is there, along the chain of its hash.
-fn find(terms: &TermArena, chains: &HashChains, term: &[u8], hash: u32) -> Option<u32>
-    requires hashed { AreHashed terms.now chains.now }
+// The id of a term that is there, along the chain of its hash, or apart.
+fn find(
+    terms: &TermArena,
+    chains: &HashChains,
+    apart: &BTreeMap<Vec<u8>, u32>,
+    term: &[u8],
+    hash: u32,
+) -> Option<u32>
+    requires hashed { AreHashed terms.now chains.now apart.now }
     requires hash { hash ≡ hash_of term.now }
     ensures { result ≡ known_id terms.now term.now }
 {
@@ -248,7 +273,58 @@ fn find(terms: &TermArena, chains: &HashChains, term: &[u8], hash: u32) -> Optio
         }
         at = chains.older(id);
     }
-    None
+    find_apart(terms, apart, term)
+}
+
+// The id of a term whose id stands apart.
+fn find_apart(terms: &TermArena, apart: &BTreeMap<Vec<u8>, u32>, term: &[u8]) -> Option<u32>
+    ensures found { IfSome result (λ id. slice_get terms.now id ≡ Some term.now) }
+    ensures absent { IfNone result (IsNotApart terms.now apart.now term.now) }
+{
+    let id = *apart.get(term)?;
+    // Where memory was wanting for the term itself, its id went to another one.
+    if id as usize >= terms.len() || terms.get(id) != term {
+        return None;
+    }
+    Some(id)
+}
+
+// Under which hash the next id is to stand, for a new term: its own one, or where that has a long
+// chain, the id, and then the id stands apart too.
+#[inline]
+fn place_new(
+    alloc: Global,
+    chains: &HashChains,
+    apart: &mut BTreeMap<Vec<u8>, u32>,
+    term: &[u8],
+    hash: u32,
+    id: u32,
+) -> Result<u32, AllocError>
+    requires { hash ≡ hash_of term.now }
+    ensures placed { IfOk result (IsPlaced apart.new term.now id) }
+    ensures others { KeepsOtherIds term.now apart.old apart.new }
+{
+    if !chains.is_long(hash) {
+        return Ok(hash);
+    }
+    set_apart(alloc, apart, term, id)?;
+    Ok(id)
+}
+
+// Keeps the id of a new term apart.
+#[cold]
+fn set_apart(
+    alloc: Global,
+    apart: &mut BTreeMap<Vec<u8>, u32>,
+    term: &[u8],
+    id: u32,
+) -> Result<(), AllocError>
+    ensures set { OnOk result (id_apart apart.new term.now ≡ Some id) }
+    ensures others { KeepsOtherIds term.now apart.old apart.new }
+{
+    let key = Vec::from_slice(alloc, term)?;
+    apart.insert(key, id)?;
+    Ok(())
 }
 
 // The terms with their ids, behind their first bytes.
