@@ -6,7 +6,6 @@ use Rattle.std.specs.Cmp.Lexicographic.{slice_cmp}
 use Rattle.std.specs.FinMap.{find}
 use Rattle.std.specs.FinMap.Entries.{is_sorted}
 use Rattle.std.specs.List.{IsDistinct, AllByRecursion}
-use Rattle.std.specs.String.{string_eq}
 use Rattle.std.specs.Ordering.{is_eq, nat_cmp}
 use Rattle.std.proofs.lemmas.Bool.Decides.{nat_tests}
 use Rattle.col_model.specs.Category.{Category, category_place, Slot, slot_cmp, same_slot}
@@ -16,18 +15,6 @@ use Rattle.col_writer.specs.Columns.{each_entry}
 use Rattle.col_writer.specs.Contents.{Named, WriterColumns, under, slotted, writer_content}
 use Rattle.col_writer.specs.Listed.{IsListed}
 use Rattle.col_writer.proofs.ContentLemmas.{apart, same_name, find-put_all, sorted-content}
-
--- names that differ as texts differ as bytes
-pub names-apart : {X : Type 0} (es : List (String Global × X)) → IsDistinct string_eq (map (λ p. p.0) es)
-    → IsDistinct bytes_eq (map (λ p. string_bytes p.0) es)
-unfolding IsDistinct
-names-apart [] h = tt
-names-apart {X = X} (e ∷ es) h = (others es h.0, names-apart es h.1)
-  where
-    others : (es : List (String Global × X)) → AllByRecursion (λ k. string_eq e.0 k ≡ false) (map (λ p. p.0) es)
-        → AllByRecursion (λ n. bytes_eq (string_bytes e.0) n ≡ false) (map (λ p. string_bytes p.0) es)
-    others [] h = tt
-    others (f ∷ fs) h = (h.0, others fs h.1)
 
 -- ---- all columns
 

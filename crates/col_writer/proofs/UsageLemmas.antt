@@ -179,6 +179,16 @@ pub record AreCounted (bytes left all : ℕ) : Type 0 where
 pub all-counted : (bytes left all : ℕ) → AreCounted bytes left all → left ≡ 0 → bytes ≡ up_to_64_bits all
 all-counted bytes left all h none = omega arith
 
+-- a column more is counted
+pub counted-next : {X : Type 0} (bytes : X → ℕ) (e : String Global × X) (left rest : List (String Global × X))
+    (before len own between after all : ℕ) → left ≡ e ∷ rest → AreCounted before (named_bytes bytes left) all
+    → len ≡ length (string_bytes e.0) → own ≡ up_to_64_bits (bytes e.1) → between ≡ up_to_64_bits (before + len)
+    → after ≡ up_to_64_bits (between + own) → AreCounted after (named_bytes bytes rest) all
+counted-next {X} bytes e left rest before len own between after all is h name column first then =
+    let sum : named_bytes bytes left ≡ length (string_bytes e.0) + bytes e.1 + named_bytes bytes rest = ap (named_bytes bytes) is
+    ∙ sum_by-cons (λ (p : String Global × X). length (string_bytes p.0) + bytes p.1) e rest in
+    record { fits = omega arith; same = omega (arith, h.same) }
+
 counted-sum : (x y a b r : ℕ) → a ≡ up_to_64_bits x → b ≡ up_to_64_bits y → r ≡ up_to_64_bits (a + b) → r ≡ up_to_64_bits (x + y)
 counted-sum x y a b r p q e = omega arith
 

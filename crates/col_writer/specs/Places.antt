@@ -1,18 +1,20 @@
--- Places of names in a map that keeps an order.
-use Rattle.std.specs.Prelude.{◌≡◌, ℕ, List, Some, slice_get, String, string_bytes}
-use Rattle.std.specs.HashMap.{HashMap, IsUnique}
-use Rattle.std.specs.String.{string_eq}
+-- Places of names among columns.
+use Rattle.std.specs.Prelude.{◌≡◌, ℕ, false, List, map, Option, Some, None, slice_get, String, bytes_eq, string_bytes}
+use Rattle.std.specs.BTreeMap.{BTreeMap, get_by_text}
+use Rattle.std.specs.List.{list_any, IsDistinct}
 use Rattle.std.specs.declared.alloc.Global.{Global}
+use Rattle.col_writer.specs.Changes.{ByName}
 
-module _ {C S : Type 0} (name : List ℕ) (columns : HashMap (String Global) C S) (at : ℕ) where
-  -- the name stands at this place
-  pub record HasName : Type 0 where
-    pub key : String Global
-    pub column : C
-    pub stands : slice_get columns.entries at ≡ Some (key, column)
-    pub is : string_bytes key ≡ name
+-- the names of columns
+abbrev pub names_of : {X : Type 0} → ByName X → List (List ℕ)
+names_of es = map (λ p. string_bytes p.0) es
 
-  -- and nowhere else
-  pub record IsPlace : Type 0 where
-    pub named : HasName
-    pub unique : IsUnique string_eq columns
+-- the place of a name, or none where it isn't there
+abbrev pub IsPlaceOf : List (List ℕ) → List ℕ → Option ℕ → Type 0
+IsPlaceOf names name None = list_any (bytes_eq name) names ≡ false
+IsPlaceOf names name (Some at) = slice_get names at ≡ Some name
+
+-- names that differ, and a map that has the place of each
+pub record ArePlaced (names : List (List ℕ)) (places : BTreeMap (String Global) ℕ) : Type 0 where
+  pub differ : IsDistinct bytes_eq names
+  pub placed : (name : List ℕ) → IsPlaceOf names name (get_by_text places name)

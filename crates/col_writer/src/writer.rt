@@ -45,8 +45,8 @@ impl Model for ColumnarWriter {
 
     ghost Value = { Recorded };
 
-    ghost view = { λ w. writer_content (columns_of w.numerical.columns w.bytes.columns
-        w.strs.columns w.bools.columns w.ip_addrs.columns w.datetimes.columns) };
+    ghost view = { λ w. writer_content (columns_of w.numerical w.bytes
+        w.strs w.bools w.ip_addrs w.datetimes) };
 }
 
 // By hand, so that a drop of a writer is one call in proofs.

@@ -88,11 +88,12 @@ impl RecordBytes for PlainColumnWriter<u64> {
 
 // How many bytes the names, the records and the texts of some columns have.
 fn columns_bytes<C: RecordBytes>(columns: &NamedColumns<C>) -> u64
-    ensures bytes { result ≡ up_to_64_bits (named_bytes C.bytes columns.now.columns.entries) }
-    ensures differ { IsDistinct bytes_eq (map (λ p. string_bytes p.0) columns.now.columns.entries) }
+    ensures bytes { result ≡ up_to_64_bits (named_bytes C.bytes columns.now) }
+    ensures differ { IsDistinct bytes_eq (map (λ p. string_bytes p.0) columns.now) }
 {
+    columns.names_differ();
     let mut bytes: u64 = 0;
-    for (name, column) in &columns.columns {
+    for (name, column) in columns.as_slice() {
         bytes = bytes
             .saturating_add(name.len() as u64)
             .saturating_add(column.num_bytes());

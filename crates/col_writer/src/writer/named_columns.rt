@@ -1,15 +1,18 @@
 //! Columns by name, of which a call changes one.
-ghost use Rattle.std.specs.Prelude.{◌≡◌, [], None, false};
+ghost use Rattle.std.specs.Prelude.{◌≡◌, [], None, false, bytes_eq, option_map};
+ghost use Rattle.std.specs.List.{IsDistinct};
 ghost use Rattle.col_model.specs.Recording.{no_records};
 ghost use Rattle.col_writer_columns.specs.Texts.{no_texts};
 ghost use Rattle.col_writer.specs.Changes.{column_at, ChangesColumn};
+ghost use Rattle.col_writer.specs.Places.{names_of};
 
 use super::changes::Change;
 use super::places::place_of;
 use col_common::ColumnarError;
 use col_writer_columns::{NumericalColumnWriter, PlainColumnWriter, StrOrBytesColumnWriter};
-use indexmap::IndexMap;
 use std::alloc::Global;
+use std::collections::BTreeMap;
+use std::marker::Model;
 
 // A column that is made where a name is new.
 pub(super) trait NewColumn: Drop {
@@ -44,22 +47,61 @@ impl<T: Copy> NewColumn for PlainColumnWriter<T> {
     }
 }
 
-// Columns by name, and the place at which one was found last.
+// Columns by name, in the order in which they came.
 #[derive(Drop)]
 pub(super) struct NamedColumns<C> {
-    pub(super) columns: IndexMap<String, C>,
-    pub(super) last: usize,
+    columns: Vec<(String, C)>,
+    // The place of each name, by the order of the names.
+    places: BTreeMap<String, usize>,
+    // The place at which a column was found last.
+    last: usize,
+}
+
+impl<C> Model for NamedColumns<C> {
+    ghost use Rattle.col_writer.specs.Changes.{ByName};
+    ghost use Rattle.col_writer.specs.Places.{names_of, ArePlaced};
+
+    ghost Value = { ByName C };
+
+    ghost view = { λ c. c.columns.items };
+
+    ghost invariant = { λ c. ArePlaced (names_of c.columns.items) c.places };
 }
 
 impl<C> NamedColumns<C> {
     // No columns.
     pub(super) fn new(alloc: Global) -> NamedColumns<C>
-        ensures { result.columns.entries ≡ [] }
+        ensures { result ≡ [] }
     {
         NamedColumns {
-            columns: IndexMap::new(alloc),
+            columns: Vec::new(alloc),
+            places: BTreeMap::new(alloc),
             last: 0,
         }
+    }
+
+    // The columns with their names.
+    pub(super) fn as_slice(&self) -> &[(String, C)]
+        ensures { result.now ≡ self.now }
+    {
+        &self.columns
+    }
+
+    // The column of a name.
+    pub(super) fn get(&self, name: &str) -> Option<&C>
+        ensures { option_map (λ c. c.now) result ≡ column_at name.now self.now }
+    {
+        match place_of(&self.columns, &self.places, self.last, name) {
+            Some(place) => Some(&self.columns[place].1),
+            None => None,
+        }
+    }
+
+    // That the names differ.
+    pub(super) fn names_differ(&self)
+        ensures { IsDistinct bytes_eq (names_of self.now) }
+    {
+        let _ = &self.places;
     }
 }
 
@@ -72,12 +114,11 @@ impl<C: NewColumn> NamedColumns<C> {
         name: &str,
         change: D,
     ) -> Result<(), ColumnarError>
-        ensures { ChangesColumn C.is_empty (D.makes change) name.now
-            self.old.columns.entries self.new.columns.entries result }
+        ensures { ChangesColumn C.is_empty (D.makes change) name.now self.old self.new result }
     {
-        if let Some(place) = place_of(&self.columns, self.last, name) {
+        if let Some(place) = place_of(&self.columns, &self.places, self.last, name) {
             self.last = place;
-            return change.make(&mut self.columns[place]);
+            return change.make(&mut self.columns[place].1);
         }
         self.add(alloc, name, change)
     }
@@ -90,14 +131,16 @@ impl<C: NewColumn> NamedColumns<C> {
         name: &str,
         change: D,
     ) -> Result<(), ColumnarError>
-        requires { column_at name.now self.old.columns.entries ≡ None }
-        ensures { ChangesColumn C.is_empty (D.makes change) name.now
-            self.old.columns.entries self.new.columns.entries result }
+        requires { column_at name.now self.old ≡ None }
+        ensures { ChangesColumn C.is_empty (D.makes change) name.now self.old self.new result }
     {
         let mut column = C::empty(alloc);
         change.make(&mut column)?;
         let key = String::from_str(alloc, name)?;
-        self.columns.insert(key, column)?;
+        let place_key = String::from_str(alloc, name)?;
+        self.columns.reserve(1)?;
+        self.places.insert(place_key, self.columns.len())?;
+        self.columns.push_reserved((key, column));
         Ok(())
     }
 }

@@ -1,19 +1,21 @@
 //! Where the column of a name stands: where it is likely to stand is tried first.
-ghost use Rattle.std.specs.Prelude.{◌≡◌, true, None, IfSome, IfNone};
-ghost use Rattle.std.specs.HashMap.{get_by_text};
-ghost use Rattle.col_writer.specs.Places.{HasName, IsPlace};
+ghost use Rattle.std.specs.Prelude.{◌≡◌, true, Some, slice_get};
+ghost use Rattle.col_writer.specs.Places.{names_of, ArePlaced, IsPlaceOf};
 
-use indexmap::IndexMap;
+use std::collections::BTreeMap;
 
 // The place of a name: the one behind the last that was found, the first, the last one once more,
-// or else that by its hash.
+// or else that by the order of the names.
 #[inline]
-pub(super) fn place_of<C>(columns: &IndexMap<String, C>, last: usize, name: &str) -> Option<usize>
-    ensures found { IfSome result (λ at. IsPlace name.now columns.now at) }
-    ensures absent { IfNone result (get_by_text columns.now name.now ≡ None) }
+pub(super) fn place_of<C>(
+    columns: &[(String, C)],
+    places: &BTreeMap<String, usize>,
+    last: usize,
+    name: &str,
+) -> Option<usize>
+    requires { ArePlaced (names_of columns.now) places.now }
+    ensures { IsPlaceOf (names_of columns.now) name.now result }
 {
-    // That each name stands at one place, which the walk of a map tells.
-    let _ = columns.into_iter();
     let next = last.wrapping_add(1);
     if is_at(columns, next, name) {
         return Some(next);
@@ -24,15 +26,15 @@ pub(super) fn place_of<C>(columns: &IndexMap<String, C>, last: usize, name: &str
     if is_at(columns, last, name) {
         return Some(last);
     }
-    columns.get_index_of(name)
+    places.get(name).copied()
 }
 
 // Whether the name stands at a place.
 #[inline]
-fn is_at<C>(columns: &IndexMap<String, C>, at: usize, name: &str) -> bool
-    ensures { result ≡ true → HasName name.now columns.now at }
+fn is_at<C>(columns: &[(String, C)], at: usize, name: &str) -> bool
+    ensures { result ≡ true → slice_get (names_of columns.now) at ≡ Some name.now }
 {
-    match columns.get_index(at) {
+    match columns.get(at) {
         Some((key, _)) => key.as_str() == name,
         None => false,
     }

@@ -72,10 +72,9 @@ impl ColumnarWriter {
 
 // That the names of columns differ.
 fn names_differ<C>(columns: &NamedColumns<C>)
-    ensures { IsDistinct bytes_eq (map (λ p. string_bytes p.0) columns.now.columns.entries) }
+    ensures { IsDistinct bytes_eq (map (λ p. string_bytes p.0) columns.now) }
 {
-    // That a map's keys differ, which its walk tells.
-    let _ = (&columns.columns).into_iter();
+    columns.names_differ();
 }
 
 // How the columns of a category are listed.
@@ -168,9 +167,9 @@ fn list<'a, C, L: Listing<C>>(
     columns: &'a NamedColumns<C>,
 ) -> Result<(), AllocError>
     ensures { OnOk result (map named_entry found.new.items ≡ map named_entry found.old.items
-        ++ under L.category (each_entry L.entry columns.now.columns.entries)) }
+        ++ under L.category (each_entry L.entry columns.now)) }
 {
-    for (name, column) in &columns.columns {
+    for (name, column) in columns.as_slice() {
         found.push(NamedEntry {
             name: name.as_str(),
             column: L::listed(column),

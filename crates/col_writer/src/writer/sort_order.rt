@@ -20,16 +20,16 @@ impl ColumnarWriter {
         ensures { Gives (λ v. v.items) result
             (sort_order self.now sort_field.now num_docs reversed) }
     {
-        if let Some(column) = self.numerical.columns.get(sort_field) {
+        if let Some(column) = self.numerical.get(sort_field) {
             return column.sort_order(self.alloc, num_docs, reversed);
         }
-        if let Some(column) = self.datetimes.columns.get(sort_field) {
+        if let Some(column) = self.datetimes.get(sort_field) {
             return column.sort_order(self.alloc, num_docs, reversed);
         }
-        if let Some(column) = self.strs.columns.get(sort_field) {
+        if let Some(column) = self.strs.get(sort_field) {
             return column.sort_order(self.alloc, num_docs, reversed);
         }
-        if let Some(column) = self.bytes.columns.get(sort_field) {
+        if let Some(column) = self.bytes.get(sort_field) {
             return column.sort_order(self.alloc, num_docs, reversed);
         }
         Ok(Vec::new(self.alloc))

@@ -82,9 +82,9 @@ impl SoundColumn for PlainColumnWriter<u64> {
 
 // The names are UTF-8, and the columns sound.
 fn columns_are_sound<C: SoundColumn>(columns: &NamedColumns<C>)
-    ensures { AreNamed C.is_sound columns.now.columns.entries }
+    ensures { AreNamed C.is_sound columns.now }
 {
-    for (name, column) in &columns.columns {
+    for (name, column) in columns.as_slice() {
         name_is_utf8(name);
         column.entry_is_sound();
     }

@@ -12,14 +12,14 @@ use Rattle.col_writer.proofs.writer.ColumnarWriter.content_is_sound.Goals as goa
 pub returns : goal.returns
 returns c =
     let w = c.self.inside in
-    let m = columns_of w.numerical.columns w.bytes.columns w.strs.columns w.bools.columns w.ip_addrs.columns w.datetimes.columns in
+    let m = columns_of w.numerical w.bytes w.strs w.bools w.ip_addrs w.datetimes in
     content-sound m c.args.self.now c.self.view_is
-    (each-sound categories.numerical (λ e. e) _ (λ e h. h) w.numerical.columns.entries c.columns_are_sound.ensures)
-    (each-sound categories.bytes (text_entry types.bytes) AreSoundTexts (λ t h. h types.bytes refl) w.bytes.columns.entries
+    (each-sound categories.numerical (λ e. e) _ (λ e h. h) w.numerical c.columns_are_sound.ensures)
+    (each-sound categories.bytes (text_entry types.bytes) AreSoundTexts (λ t h. h types.bytes refl) w.bytes
     c.columns_are_sound-2.ensures)
-    (each-sound categories.str (text_entry types.str) AreSoundTexts (λ t h. h types.str refl) w.strs.columns.entries
+    (each-sound categories.str (text_entry types.str) AreSoundTexts (λ t h. h types.str refl) w.strs
     c.columns_are_sound-3.ensures)
-    (each-sound categories.bool (plain_entry types.bool bool_cell) _ (λ v h. h) w.bools.columns.entries c.columns_are_sound-4.ensures)
-    (each-sound categories.ip (plain_entry types.ip unsigned_cell) _ (λ v h. h) w.ip_addrs.columns.entries c.columns_are_sound-5.ensures)
-    (each-sound categories.datetime (plain_entry types.datetime time_cell) _ (λ v h. h) w.datetimes.columns.entries
+    (each-sound categories.bool (plain_entry types.bool bool_cell) _ (λ v h. h) w.bools c.columns_are_sound-4.ensures)
+    (each-sound categories.ip (plain_entry types.ip unsigned_cell) _ (λ v h. h) w.ip_addrs c.columns_are_sound-5.ensures)
+    (each-sound categories.datetime (plain_entry types.datetime time_cell) _ (λ v h. h) w.datetimes
     c.columns_are_sound-6.ensures)

@@ -11,10 +11,10 @@ use Rattle.col_writer.proofs.writer.ColumnarWriter.record_bool.Goals as goal
 pub returns : goal.returns
 returns c =
     let w = c.self.inside in
-    let m = columns_of w.numerical.columns w.bytes.columns w.strs.columns w.bools.columns w.ip_addrs.columns w.datetimes.columns in
+    let m = columns_of w.numerical w.bytes w.strs w.bools w.ip_addrs w.datetimes in
     let cell = bool_cell c.args.value in
-    change-records m categories.bool (plain_entry types.bool bool_cell) w.bools.columns.entries
-    c.change.new.self.columns.entries c.args.name.now _ _ refl
+    change-records m categories.bool (plain_entry types.bool bool_cell) w.bools
+    c.change.new.self c.args.name.now _ _ refl
     (recorded-follows c.args.name.now c.args.doc types.bool cell categories.bool refl) _ _ c.args.self.now c.change.result
     c.self.view_is (λ v e. plain-new types.bool bool_cell v e.0 e.1)
     (λ v u h. plain-answers types.bool bool_cell v u c.args.doc c.args.value c.change.result h.0 h.1) c.change.ensures

@@ -11,10 +11,10 @@ use Rattle.col_writer.proofs.writer.ColumnarWriter.record_bytes.Goals as goal
 pub returns : goal.returns
 returns c =
     let w = c.self.inside in
-    let m = columns_of w.numerical.columns w.bytes.columns w.strs.columns w.bools.columns w.ip_addrs.columns w.datetimes.columns in
+    let m = columns_of w.numerical w.bytes w.strs w.bools w.ip_addrs w.datetimes in
     let value = c.args.value.now in
-    change-records m categories.bytes (text_entry types.bytes) w.bytes.columns.entries
-    c.change.new.self.columns.entries c.args.name.now _ _ refl
+    change-records m categories.bytes (text_entry types.bytes) w.bytes
+    c.change.new.self c.args.name.now _ _ refl
     (recorded-follows c.args.name.now c.args.doc types.bytes (text value) categories.bytes refl) _ _ c.args.self.now
     c.change.result c.self.view_is (text-new types.bytes)
     (λ v u h. text-answers types.bytes v u c.args.doc value c.change.result h.0 h.1 h.2) c.change.ensures

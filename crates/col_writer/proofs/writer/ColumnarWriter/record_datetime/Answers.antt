@@ -16,15 +16,15 @@ use Rattle.col_writer.proofs.writer.ColumnarWriter.record_datetime.Goals as goal
 pub returns : goal.returns
 returns c =
     let w = c.self.inside in
-    let m = columns_of w.numerical.columns w.bytes.columns w.strs.columns w.bools.columns w.ip_addrs.columns w.datetimes.columns in
-    let new = columns_of w.numerical.columns w.bytes.columns w.strs.columns w.bools.columns w.ip_addrs.columns
-    c.change.new.self.columns in
+    let m = columns_of w.numerical w.bytes w.strs w.bools w.ip_addrs w.datetimes in
+    let new = columns_of w.numerical w.bytes w.strs w.bools w.ip_addrs
+    c.change.new.self in
     let code = c.time_code-value.result in
     let P : ℤ → Type 0 = λ z. RecordsOrRefuses c.args.self.now (writer_content new) c.change.result
     (content_after c.args.self.now (recorded c.args.doc c.args.name.now types.datetime (number z))) in
     subst P c.time_code-value.ensures
-    (change-records m categories.datetime (plain_entry types.datetime time_cell) w.datetimes.columns.entries
-    c.change.new.self.columns.entries c.args.name.now _ _ refl
+    (change-records m categories.datetime (plain_entry types.datetime time_cell) w.datetimes
+    c.change.new.self c.args.name.now _ _ refl
     (recorded-follows c.args.name.now c.args.doc types.datetime (time_cell code) categories.datetime refl) _ _
     c.args.self.now c.change.result c.self.view_is (λ v e. plain-new types.datetime time_cell v e.0 e.1)
     (λ v u h. plain-answers types.datetime time_cell v u c.args.doc code c.change.result h.0 h.1) c.change.ensures)

@@ -10,9 +10,9 @@ use Rattle.col_writer.proofs.writer.ColumnarWriter.record_numerical.Goals as goa
 pub returns : goal.returns
 returns c =
     let w = c.self.inside in
-    let m = columns_of w.numerical.columns w.bytes.columns w.strs.columns w.bools.columns w.ip_addrs.columns w.datetimes.columns in
+    let m = columns_of w.numerical w.bytes w.strs w.bools w.ip_addrs w.datetimes in
     let value = c.args.value in
-    change-records m categories.numerical (λ e. e) w.numerical.columns.entries c.change.new.self.columns.entries
+    change-records m categories.numerical (λ e. e) w.numerical c.change.new.self
     c.args.name.now _ _ refl
     (recorded-follows c.args.name.now c.args.doc (value_type value) (number (number_of value)) categories.numerical (value-kind value))
     _ _ c.args.self.now c.change.result c.self.view_is (λ e is. is) (λ e f h. h) c.change.ensures

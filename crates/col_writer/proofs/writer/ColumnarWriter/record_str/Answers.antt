@@ -14,15 +14,15 @@ use Rattle.col_writer.proofs.writer.ColumnarWriter.record_str.Goals as goal
 pub returns : goal.returns
 returns c =
     let w = c.self.inside in
-    let m = columns_of w.numerical.columns w.bytes.columns w.strs.columns w.bools.columns w.ip_addrs.columns w.datetimes.columns in
-    let new = columns_of w.numerical.columns w.bytes.columns c.change.new.self.columns w.bools.columns w.ip_addrs.columns
-    w.datetimes.columns in
+    let m = columns_of w.numerical w.bytes w.strs w.bools w.ip_addrs w.datetimes in
+    let new = columns_of w.numerical w.bytes c.change.new.self w.bools w.ip_addrs
+    w.datetimes in
     let value = c.as_bytes-value.result.now in
     let P : List ℕ → Type 0 = λ t. RecordsOrRefuses c.args.self.now (writer_content new) c.change.result
     (content_after c.args.self.now (recorded c.args.doc c.args.name.now types.str (text t))) in
     subst P c.as_bytes-value.ensures.value
-    (change-records m categories.str (text_entry types.str) w.strs.columns.entries
-    c.change.new.self.columns.entries c.args.name.now _ _ refl
+    (change-records m categories.str (text_entry types.str) w.strs
+    c.change.new.self c.args.name.now _ _ refl
     (recorded-follows c.args.name.now c.args.doc types.str (text value) categories.str refl) _ _ c.args.self.now
     c.change.result c.self.view_is (text-new types.str)
     (λ v u h. text-answers types.str v u c.args.doc value c.change.result h.0 h.1 h.2) c.change.ensures)

@@ -10,8 +10,8 @@ use Rattle.col_writer.proofs.writer.ColumnarWriter.record_tie_breaker_column.Goa
 pub returns : goal.returns
 returns c =
     let w = c.self.inside in
-    let m = columns_of w.numerical.columns w.bytes.columns w.strs.columns w.bools.columns w.ip_addrs.columns w.datetimes.columns in
+    let m = columns_of w.numerical w.bytes w.strs w.bools w.ip_addrs w.datetimes in
     let same : to_z w64 (of_z w64 c.args.start) ≡ c.args.start = omega (arith, ints) in
-    change-records m categories.numerical (λ e. e) w.numerical.columns.entries c.change.new.self.columns.entries
+    change-records m categories.numerical (λ e. e) w.numerical c.change.new.self
     c.args.name.now _ _ refl (tied-follows c.args.name.now c.args.start _ same) _ _ c.args.self.now c.change.result
     c.self.view_is (λ e is. is) (λ e f h. exactly-records e f _ _ h) c.change.ensures

@@ -9,7 +9,7 @@ use Rattle.col_writer.proofs.writer.ColumnarWriter.serialize.Goals as goal
 pub serialize_table-requires : goal.serialize_table-requires
 serialize_table-requires g c =
     let w = c.self.inside in
-    let m = columns_of w.numerical.columns w.bytes.columns w.strs.columns w.bools.columns w.ip_addrs.columns w.datetimes.columns in
+    let m = columns_of w.numerical w.bytes w.strs w.bools w.ip_addrs w.datetimes in
     content-sorted m _ c.args.self.now
     (ap (map named_entry) c.deref.ensures.value ∙ c.in_ok-columns.ensures) c.self.view_is
 

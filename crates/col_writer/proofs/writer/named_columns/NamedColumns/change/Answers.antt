@@ -1,12 +1,24 @@
 use Rattle.col_writer.specs.Changes.{of_name}
-use Rattle.col_writer.proofs.PlaceLemmas.{updates-at_place, column-at_place}
+use Rattle.col_writer.proofs.PlaceLemmas.{found-there, set-there, placed-there, nowhere}
 use Rattle.col_writer.proofs.writer.named_columns.NamedColumns.change.Goals as goal
 
 pub returns-in-Some : goal.returns-in-Some
 returns-in-Some g c =
-    let name = c.args.name.now in
-    let m = c.args.self.now.columns in
-    let place = c.in-Some.place in
-    of_name c.index_mut.result.now c.make.new.column
-    (column-at_place name m place c.in-Some.ensures.found c.index_mut.result.now c.index_mut.ensures.value)
-    c.make.ensures (updates-at_place name m place c.in-Some.ensures.found c.make.new.column)
+    of_name c.index_mut.result.now.1 c.make.new.column
+    (found-there c.args.name.now c.deref.result.now c.self.inside.columns.items c.args.self.now c.in-Some.place
+    c.index_mut.result.now c.in-Some.ensures c.deref.ensures.value c.self.view_is c.index_mut.ensures.value c.self.invariant.differ)
+    c.make.ensures
+    (set-there c.args.name.now c.deref.result.now c.self.inside.columns.items c.args.self.now c.in-Some.place
+    c.index_mut.result.now c.in-Some.ensures c.deref.ensures.value c.self.view_is c.index_mut.ensures.value c.self.invariant.differ
+    c.make.new.column)
+
+pub invariant_of-self : goal.invariant_of-self
+invariant_of-self g c =
+    placed-there c.args.name.now c.deref.result.now c.self.inside.columns.items c.args.self.now c.in-Some.place
+    c.index_mut.result.now c.in-Some.ensures c.deref.ensures.value c.self.view_is c.index_mut.ensures.value c.self.invariant.differ
+    c.make.new.column c.self.inside.places c.self.invariant
+
+pub add-requires : goal.add-requires
+add-requires g c =
+    nowhere c.args.name.now c.deref.result.now c.self.inside.columns.items c.args.self.now c.in_default.ensures
+    c.deref.ensures.value c.self.view_is
