@@ -20,6 +20,10 @@ use std::marker::Model;
 // How many terms there may be.
 const MAX_NUM_TERMS: u64 = 4_294_967_295;
 
+// How many ids make a chain long, to which no further one is added. By hashes that nobody chose, no
+// chain of a billion is long.
+const LONG_CHAIN_LEN: u32 = 16;
+
 // How many bytes a dictionary may have.
 const MAX_NUM_BYTES: u64 = 4_294_967_295;
 
@@ -145,25 +149,31 @@ impl DictionaryBuilder {
         ensures kept { OnErr result (self.new ≡ self.old) }
     {
         let hash = hash_of(term);
-        if let Some(id) = self.known_id(term, hash) {
+        let (known, num_looks) = self.known_id(term, hash);
+        if let Some(id) = known {
             return Ok(UnorderedId(id));
         }
         if self.num_terms() >= MAX_NUM_TERMS {
             return Err(ColumnarError::TooLarge);
         }
-        Ok(self.allocate_id(term, hash)?)
+        Ok(self.allocate_id(term, hash, num_looks)?)
     }
 
-    // The id of a term that is there.
-    fn known_id(&self, term: &[u8], hash: u32) -> Option<u32>
+    // The id of a term that is there, and at how many ids of its hash's chain it was looked.
+    fn known_id(&self, term: &[u8], hash: u32) -> (Option<u32>, u32)
         requires { hash ≡ hash_of term.now }
-        ensures { result ≡ known_id self.now term.now }
+        ensures { result.0 ≡ known_id self.now term.now }
     {
         find(&self.terms, &self.chains, &self.apart, term, hash)
     }
 
-    // The next id, for a new term.
-    fn allocate_id(&mut self, term: &[u8], hash: u32) -> Result<UnorderedId, AllocError>
+    // The next id, for a new term, behind so many in the chain of its hash.
+    fn allocate_id(
+        &mut self,
+        term: &[u8],
+        hash: u32,
+        chain_len: u32,
+    ) -> Result<UnorderedId, AllocError>
         requires new { is_known self.old term.now ≡ false }
         requires room { length self.old < MAX_NUM_TERMS }
         requires hash { hash ≡ hash_of term.now }
@@ -172,7 +182,7 @@ impl DictionaryBuilder {
     {
         let id = self.terms.len() as u32;
         self.chains.reserve()?;
-        let place = place_new(self.alloc, &self.chains, &mut self.apart, term, hash, id)?;
+        let place = place_new(self.alloc, &mut self.apart, term, hash, chain_len, id)?;
         self.terms.push(term)?;
         self.chains.push(place);
         Ok(UnorderedId(id))
@@ -253,27 +263,30 @@ impl DictionaryBuilder {
     }
 }
 
-// The id of a term that is there, along the chain of its hash, or apart.
+// The id of a term that is there, along the chain of its hash, or apart; and at how many ids of the
+// chain it was looked.
 fn find(
     terms: &TermArena,
     chains: &HashChains,
     apart: &BTreeMap<Vec<u8>, u32>,
     term: &[u8],
     hash: u32,
-) -> Option<u32>
+) -> (Option<u32>, u32)
     requires hashed { AreHashed terms.now chains.now apart.now }
     requires hash { hash ≡ hash_of term.now }
-    ensures { result ≡ known_id terms.now term.now }
+    ensures { result.0 ≡ known_id terms.now term.now }
 {
+    let mut num_looks: u32 = 0;
     let mut at = chains.newest(hash);
     while at > 0 {
         let id = at - 1;
         if chains.hash(id) == hash && terms.get(id) == term {
-            return Some(id);
+            return (Some(id), num_looks);
         }
         at = chains.older(id);
+        num_looks = num_looks.saturating_add(1);
     }
-    find_apart(terms, apart, term)
+    (find_apart(terms, apart, term), num_looks)
 }
 
 // The id of a term whose id stands apart.
@@ -294,17 +307,17 @@ fn find_apart(terms: &TermArena, apart: &BTreeMap<Vec<u8>, u32>, term: &[u8]) ->
 #[inline]
 fn place_new(
     alloc: Global,
-    chains: &HashChains,
     apart: &mut BTreeMap<Vec<u8>, u32>,
     term: &[u8],
     hash: u32,
+    chain_len: u32,
     id: u32,
 ) -> Result<u32, AllocError>
     requires { hash ≡ hash_of term.now }
     ensures placed { IfOk result (IsPlaced apart.new term.now id) }
     ensures others { KeepsOtherIds term.now apart.old apart.new }
 {
-    if !chains.is_long(hash) {
+    if chain_len < LONG_CHAIN_LEN {
         return Ok(hash);
     }
     set_apart(alloc, apart, term, id)?;

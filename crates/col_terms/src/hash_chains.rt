@@ -8,9 +8,6 @@ use std::marker::Model;
 // How many chains there are at first: a power of two.
 const MIN_NUM_CHAINS: usize = 16;
 
-// How many ids make a chain long. By hashes that nobody chose, none of a billion is.
-const LONG_CHAIN_LEN: u32 = 16;
-
 /// The hashes of ids. Those of ids in one chain end in the same bits, and there are as many chains
 /// as there is room for ids.
 #[derive(Drop)]
@@ -78,19 +75,6 @@ impl HashChains {
         ensures { IsLast self.now (chain_at self.now id) id result }
     {
         self.older[id as usize]
-    }
-
-    /// Whether the chain of a hash is so long that no further id should join it.
-    #[inline]
-    pub fn is_long(&self, hash: u32) -> bool {
-        let mut at = self.newest(hash);
-        for _ in 0..LONG_CHAIN_LEN {
-            if at == 0 {
-                return false;
-            }
-            at = self.older(at - 1);
-        }
-        true
     }
 
     /// Makes room for one id more.
