@@ -15,5 +15,4 @@ mod KeyOrderLemmas
 mod RowKeyLemmas
 mod SortLemmas
 mod SortedMerges
-mod AlikeLemmas
-mod GapLemmas
+mod NeighbourLemmas

@@ -1,19 +1,18 @@
 -- Neighbours without a column look like one part to a stack.
-use Rattle.std.proofs.Common.{◌≡◌, ℕ, zero, suc, ◌+◌, ◌==◌, ◌&&◌, Bool, true, false, List, [], ◌∷◌, ◌++◌, map, filter_map, flat_map, fold, replicate, None, option_map, option_and_then, unwrap_or, append-nil, refl, sym, ◌∙◌, ap, ap₂, arith}
+use Rattle.std.proofs.Common.{◌≡◌, ℕ, zero, suc, ◌+◌, ◌==◌, ◌&&◌, Bool, true, false, List, [], ◌∷◌, ◌++◌, map, filter_map, flat_map, fold, replicate, None, option_map, option_and_then, unwrap_or, append-nil, refl, sym, ◌∙◌, ap, ap₂, subst, arith}
 use Rattle.std.specs.Prelude.{sum, if◌then◌else◌}
 use Rattle.std.specs.List.{list_any, range_with_len, AllByRecursion}
-use Rattle.std.proofs.lemmas.Bool.{ne_eqb}
+use Rattle.std.proofs.lemmas.Bool.{ne_eqb, eqb-true}
 use Rattle.std.proofs.lemmas.List.{replicate-append-replicate}
 use Rattle.col_model.specs.Category.{Slot}
 use Rattle.col_model.specs.File.{Part, whole_column}
 use Rattle.col_model.specs.Lookup.{row_of}
 use Rattle.col_model.specs.Merge.{column_in, whole_column_in, greater_cardinality, row_counts}
 use Rattle.col_model.specs.Table.{Cardinality, full, optional, multivalued}
-use Rattle.col_laws.specs.StackLaws.{NeighboursWithoutTheColumnAreOne}
 use Rattle.col_model.proofs.ListLaws.{sum-cons}
 use Rattle.col_model.proofs.StackLaws.{part_rows}
 use Rattle.col_model.proofs.StackSeen.{no-cells}
-use Rattle.col_laws.proofs.AlikeLemmas.{kept_part, part_cardinality, bad_part, LookAlike, alike-joined, alike-self, alike-append}
+use Rattle.col_alike.proofs.AlikeLemmas.{kept_part, part_cardinality, bad_part, LookAlike}
 
 -- a part of so many rows and no columns
 abbrev pub gap_of : ℕ → Part
@@ -112,10 +111,37 @@ module _ (slot : Slot) where
         rows = gap-rows ps all ∙ sym (no-cells n 0) ∙ sym (append-nil (part_rows slot (gap_of n)));
       }
 
--- neighbours without the column may be one of as many rows, between others
-pub neighbours-are-one : NeighboursWithoutTheColumnAreOne
-neighbours-are-one slot before gap behind required all =
-    alike-joined slot (before ++ (gap ++ behind)) (before ++ gap_of (sum (row_counts gap)) ∷ behind)
-    (alike-append slot before before (gap ++ behind) (gap_of (sum (row_counts gap)) ∷ behind) (alike-self slot before)
-    (alike-append slot gap (gap_of (sum (row_counts gap)) ∷ []) behind behind (alike-gap slot gap all) (alike-self slot behind)))
-    required
+-- ---- rows without the column, which may be none
+
+-- what looks alike to a list that looks alike to another looks alike to that
+alike-then : (slot : Slot) (ps qs us : List Part) → LookAlike slot ps qs → LookAlike slot qs us → LookAlike slot ps us
+alike-then slot ps qs us a b = record {
+  bad = a.bad ∙ b.bad;
+  kept = a.kept ∙ b.kept;
+  cardinality = λ c. a.cardinality c ∙ b.cardinality c;
+  rows = a.rows ∙ b.rows;
+}
+
+-- one part of so many rows, or no part where there are none
+abbrev pub gaps_of : ℕ → List Part
+gaps_of n = if n == 0 then [] else gap_of n ∷ []
+
+-- a part without rows and columns isn't seen
+no-rows : (slot : Slot) → LookAlike slot (gap_of 0 ∷ []) []
+no-rows slot = record { bad = refl; kept = refl; cardinality = by; rows = refl }
+  where
+    by : (c : Cardinality) → greater_cardinality c full ≡ c
+    by full = refl
+    by optional = refl
+    by multivalued = refl
+
+-- neighbours without the column look like one of as many rows, if they have any
+pub alike-gaps : (slot : Slot) (ps : List Part) → AllByRecursion (LacksColumn slot) ps
+    → LookAlike slot ps (gaps_of (sum (row_counts ps)))
+alike-gaps slot ps all = by (sum (row_counts ps)) (sum (row_counts ps) == 0) refl (alike-gap slot ps all)
+  where
+    by : (n : ℕ) (b : Bool) → (n == 0) ≡ b → LookAlike slot ps (gap_of n ∷ [])
+        → LookAlike slot ps (if b then [] else gap_of n ∷ [])
+    by n true e alike =
+        alike-then slot ps (gap_of 0 ∷ []) [] (subst (λ n. LookAlike slot ps (gap_of n ∷ [])) (eqb-true n 0 e) alike) (no-rows slot)
+    by n false e alike = alike
