@@ -3,4 +3,5 @@ pub mod ListLemmas
 mod DistinctLemmas
 mod RunLemmas
 pub mod SegmentLemmas
+pub mod LeftLemmas
 mod RequiredLemmas

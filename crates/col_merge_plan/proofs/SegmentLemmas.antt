@@ -1,12 +1,12 @@
 -- The segments that have a slot, of slots that are sorted with their segments.
-use Rattle.std.proofs.Common.{◌≡◌, append_assoc, append-nil, ℕ, zero, suc, ◌+◌, ◌≤◌, ◌<◌, ◌==◌, ◌&&◌, ◌||◌, Bool, true, false, cond, List, [], ◌∷◌, ◌++◌, map, filter, flat_map, length, get_or, take, drop, slice_get, Some, None, refl, sym, ◌∙◌, ap, ap₂, subst, arith}
+use Rattle.std.proofs.Common.{◌≡◌, append_assoc, append-nil, ℕ, zero, suc, ◌+◌, ◌≤◌, ◌<◌, ◌==◌, ◌&&◌, ◌||◌, Bool, true, false, cond, List, [], ◌∷◌, ◌++◌, map, filter, flat_map, length, get_or, take, drop, nat_le, slice_get, Some, None, refl, sym, ◌∙◌, ap, ap₂, subst, arith}
 use Rattle.std.specs.Ordering.{nat_cmp, ordering_then, is_lt, is_eq}
 use Rattle.std.specs.declared.cmp.Ordering.{Ordering}
 use Rattle.std.specs.declared.cmp.Ordering.TheVariants.{Less, Equal, Greater}
 use Rattle.std.specs.List.{list_any, enumerate_from, AllByRecursion}
 use Rattle.std.specs.List.Sorted.{IsSorted, IsPermutation}
 use Rattle.std.specs.Cmp.{IsTotalOrder}
-use Rattle.std.proofs.lemmas.Bool.{or_right, true≢false, eq-eqb, ne_eqb, and_from, and_parts}
+use Rattle.std.proofs.lemmas.Bool.{or_right, true≢false, eq-eqb, lt-leb, leb-false}
 use Rattle.std.proofs.lemmas.Cmp.{then_total, on_total, nat_cmp_total, tied_itself}
 use Rattle.std.proofs.lemmas.List.Folds.{list_any-append}
 use Rattle.std.proofs.lemmas.List.Kept.{IsSortedBy-filter}
@@ -111,11 +111,42 @@ module _ (slot : Slot) where
       (placed-there (at + 1) k j f fs (omega (arith, same)) e h)
       ∙ or_right (list_any (is_at k) (map (λ s. (s, at)) (file_slots g))) true refl
 
+  -- no place is that of a file behind the last
+  past-none : (at n : ℕ) (ss : List Slot) → at < n → list_any (λ (p : Slot × ℕ). nat_le n p.1) (map (λ s. (s, at)) ss) ≡ false
+  past-none at n [] h = refl
+  past-none at n (s ∷ ss) h = rw (lt-leb n at h) (past-none at n ss h)
+
+  placed-below : (at n : ℕ) (fs : List FileKeys) → at + length fs ≤ n
+      → list_any (λ (p : Slot × ℕ). nat_le n p.1) (placed_from at fs) ≡ false
+  placed-below at n [] h = refl
+  placed-below at n (f ∷ fs) h =
+      list_any-append (λ (p : Slot × ℕ). nat_le n p.1) (map (λ s. (s, at)) (file_slots f)) (placed_from (at + 1) fs)
+      ∙ ap₂ (λ a b. a || b) (past-none at n (file_slots f) (omega (arith, h)))
+      (placed-below (at + 1) n fs (omega (arith, h)))
+
+  all-below : (n : ℕ) (ps : List (Slot × ℕ)) → list_any (λ p. nat_le n p.1) ps ≡ false → AllByRecursion (λ s. s < n) (segments_in ps slot)
+  all-below n [] h = tt
+  all-below n (p ∷ ps) h = by (same_slot p.0 slot) (nat_le n p.1) refl h (all-below n ps)
+    where
+      rest : List ℕ
+      rest = segments_in ps slot
+
+      by : (b c : Bool) → nat_le n p.1 ≡ c → (c || list_any (λ p. nat_le n p.1) ps) ≡ false
+          → (list_any (λ p. nat_le n p.1) ps ≡ false → AllByRecursion (λ s. s < n) rest)
+          → AllByRecursion (λ s. s < n) (map (λ p. p.1) (cond b (p ∷ filter (λ p. same_slot p.0 slot) ps) (filter (λ p. same_slot p.0 slot) ps)))
+      by b true e h later = absurd (true≢false h)
+      by true false e h later = (leb-false n p.1 e, later h)
+      by false false e h later = later h
+
   -- the segments of a slot are all that have it, in order
   pub are-segments : (ks : List FileKeys) (placed : List (Slot × ℕ)) → ArePlaced ks placed
       → AreSegmentsFrom 0 slot ks (segments_in placed slot)
   are-segments ks placed are = record {
     rise = segments-rise slot placed are.sorted;
+    within =
+        all-below (length ks) placed
+        (sym (list_any-IsPermutation (λ (p : Slot × ℕ). nat_le (length ks) p.1) (placed_from 0 ks) placed are.same)
+        ∙ placed-below 0 (length ks) ks (omega arith));
     each =
         λ k f e from h. sym (any-filter (λ (p : Slot × ℕ). p.1) (λ p. same_slot p.0 slot) (λ s. s == k) placed)
         ∙ sym (list_any-IsPermutation (is_at k) (placed_from 0 ks) placed are.same)

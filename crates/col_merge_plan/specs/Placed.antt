@@ -1,5 +1,5 @@
 -- The segments that have columns of slots. States docs/RULES.md, Merged tables.
-use Rattle.std.specs.Prelude.{◌≡◌, ◌≤◌, ◌==◌, ℕ, Bool, true, List, [], ◌∷◌, map, filter, flat_map, slice_get, Some}
+use Rattle.std.specs.Prelude.{◌≡◌, ◌≤◌, ◌<◌, ◌==◌, ℕ, Bool, true, List, [], ◌∷◌, length, map, filter, flat_map, slice_get, Some}
 use Rattle.std.specs.List.{AllByRecursion, list_any, enumerate_from}
 use Rattle.std.specs.List.Sorted.{IsPermutation, IsSorted}
 use Rattle.std.specs.Ordering.{nat_cmp, ordering_then}
@@ -34,9 +34,11 @@ abbrev pub Rise : List ℕ → Type 0
 Rise [] = Unit {0}
 Rise (n ∷ ns) = AllByRecursion (λ m. n ≤ m) ns × Rise ns
 
--- From a segment on, each that has a column of the slot is among these, which rise.
+-- From a segment on, each that has a column of the slot is among these, which rise, and each of
+-- them is there.
 pub record AreSegmentsFrom (from : ℕ) (slot : Slot) (ks : List FileKeys) (segments : List ℕ) :
     Type 0 where
   pub rise : Rise segments
+  pub within : AllByRecursion (λ s. s < length ks) segments
   pub each : (k : ℕ) (f : FileKeys) → slice_get ks k ≡ Some f → from ≤ k → has_slot slot f ≡ true
       → list_any (λ s. s == k) segments ≡ true
