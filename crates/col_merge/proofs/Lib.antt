@@ -10,4 +10,9 @@ pub mod MergedLemmas
 mod EndLemmas
 mod OpenLemmas
 pub mod OpenTurnLemmas
+mod LackLemmas
+mod ShortLemmas
+mod ShortTurnLemmas
+mod ShortLoopLemmas
+mod ShortJoinLemmas
 mod WriteLemmas

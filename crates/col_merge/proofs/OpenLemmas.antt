@@ -88,7 +88,7 @@ any-found test (y ∷ xs) x e = by (test y) e (any-found test xs x)
 
 -- ---- the part's column
 
-columns-found : (bytes : List ℕ) (k : FileKeys) (s : Slot) (es : List Entry)
+pub columns-found : (bytes : List ℕ) (k : FileKeys) (s : Slot) (es : List Entry)
     → find (λ c. same_slot (part_slot c) s) (map (part_column bytes k) es)
     ≡ option_map (part_column bytes k) (find (λ e. same_slot (entry_slot e) s) es)
 columns-found bytes k s [] = refl

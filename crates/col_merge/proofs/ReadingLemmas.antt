@@ -1,17 +1,18 @@
 -- What reading leaves of readers, one after another.
-use Rattle.std.proofs.Common.{◌≡◌, ℕ, zero, suc, ◌+◌, ◌<◌, ◌≤◌, List, [], ◌∷◌, drop, length, get_or, Some, slice_get, refl, sym, ap, ap₂, ◌∙◌, subst, arith, add-one}
+use Rattle.std.proofs.Common.{◌≡◌, ℕ, zero, suc, ◌+◌, ◌<◌, ◌≤◌, List, [], ◌∷◌, drop, length, get_or, Some, IfSome, slice_get, refl, sym, ap, ap₂, ◌∙◌, subst, arith, add-one}
+use Rattle.std.specs.List.{AllByRecursion}
 use Rattle.std.proofs.Math.ListN.{set}
 use Rattle.std.proofs.lemmas.Option.{slice_get-get_or}
 use Rattle.col_common.specs.Causes.{Rose}
-use Rattle.col_model.specs.Keys.{FileKeys}
+use Rattle.col_model.specs.Keys.{FileKeys, keys}
 use Rattle.col_model.proofs.SharedTypes.{some≢none, same-some}
 use Rattle.col_common.specs.Reading.{◌>>=◌}
-use Rattle.col_file.specs.Readers.{SeenReader, Reads}
+use Rattle.col_file.specs.Readers.{SeenReader, IsRead, IsWithin, Reads}
 use Rattle.col_file.proofs.ReadLemmas.{reads-none, reads-then, reads-most, rose-later}
 use Rattle.col_model.specs.File.{parts_of}
 use Rattle.col_merge.specs.Parts.{told_part, told_parts}
 use Rattle.col_merge.specs.Readings.{AllRead, SomeReaderRose}
-use Rattle.col_merge_plan.specs.Slots.{counts_read}
+use Rattle.col_merge_plan.specs.Slots.{counts_read, keys_read}
 
 -- readers that stay as they are were read no more than so often
 pub all_read-none : (times : FileKeys → ℕ) (rs : List SeenReader) → AllRead times rs rs
@@ -42,6 +43,17 @@ all_read-most m n (r ∷ rs) (s ∷ ss) le h = (reads-most (m r.keys) (n r.keys)
 part-stays : (times : ℕ) (r s : SeenReader) → Reads times r s → told_part s ≡ told_part r
 part-stays times r s h = ap (λ o. o >>= parts_of) h.file.told
 
+one-stays : (times : ℕ) (r s : SeenReader) → Reads times r s → IsRead r → IsRead s
+one-stays times r s h read =
+    record {
+      told =
+          subst (λ o. IfSome o (λ bytes. keys bytes ≡ Some s.keys)) (sym h.file.told)
+          (subst (λ k. IfSome r.file.told (λ bytes. keys bytes ≡ Some k)) (sym h.keys) read.told);
+      within =
+          subst (λ n. AllByRecursion (IsWithin n) s.keys.entries) (sym h.file.size)
+          (subst (λ (k : FileKeys). AllByRecursion (IsWithin r.file.size) k.entries) (sym h.keys) read.within);
+    }
+
 module _ (times : FileKeys → ℕ) where
   -- readers tell the same parts after they were read
   pub parts-stay : (rs ss : List SeenReader) → AllRead times rs ss → told_parts ss ≡ told_parts rs
@@ -57,6 +69,19 @@ module _ (times : FileKeys → ℕ) where
   counts-stay [] (s ∷ ss) h = absurd h
   counts-stay (r ∷ rs) [] h = absurd h
   counts-stay (r ∷ rs) (s ∷ ss) h = ap₂ (λ n ns. n ∷ ns) (ap (λ k. k.row_count) h.0.keys) (counts-stay rs ss h.1)
+  -- readers are read as they were after they were read
+  pub read-stays : (rs ss : List SeenReader) → AllRead times rs ss → AllByRecursion IsRead rs → AllByRecursion IsRead ss
+  read-stays [] [] h all = tt
+  read-stays [] (s ∷ ss) h all = absurd h
+  read-stays (r ∷ rs) [] h all = absurd h
+  read-stays (r ∷ rs) (s ∷ ss) h all = (one-stays (times r.keys) r s h.0 all.0, read-stays rs ss h.1 all.1)
+
+  -- readers have the same columns after they were read
+  pub keys-stay : (rs ss : List SeenReader) → AllRead times rs ss → keys_read ss ≡ keys_read rs
+  keys-stay [] [] h = refl
+  keys-stay [] (s ∷ ss) h = absurd h
+  keys-stay (r ∷ rs) [] h = absurd h
+  keys-stay (r ∷ rs) (s ∷ ss) h = ap₂ (λ k ks. k ∷ ks) h.0.keys (keys-stay rs ss h.1)
 
 -- ---- faults
 

@@ -3,4 +3,5 @@ pub mod Readings
 pub mod Opened
 pub mod Turns
 pub mod Joined
+pub mod Short
 pub mod Merges

@@ -1,36 +1,44 @@
 //! Joins the columns of a slot.
 ghost use Rattle.std.specs.Prelude.{◌≡◌, length, List, option_map};
-ghost use Rattle.col_model.specs.Category.{Slot};
-ghost use Rattle.col_model.specs.File.{Part};
-ghost use Rattle.col_model.specs.Merge.{Required, required_type, row_counts};
+ghost use Rattle.std.specs.List.{AllByRecursion};
+ghost use Rattle.col_model.specs.Merge.{Required, required_type};
+ghost use Rattle.col_model.specs.Order.{stack, all_rows};
+ghost use Rattle.col_file.specs.Readers.{IsRead};
 ghost use Rattle.col_order.specs.Orders.{counts_of, picks_of};
 ghost use Rattle.col_order.specs.RowOrders.{order_of};
 ghost use Rattle.col_types.specs.Kinds.{kind_of};
-ghost use Rattle.col_merge.specs.Joined.{HasJoinCause, JoinsBytes, JoinsColumns, joined_by};
-ghost use Rattle.col_merge_slot.specs.JoinedSlots.{AreOpened};
-ghost use Rattle.col_merge_slot.specs.Segments.{HaveRows};
+ghost use Rattle.col_merge.specs.Joined.{JoinsColumns, joined_by};
 ghost use Rattle.col_merge.specs.Readings.{AllRead, slot_reads};
-ghost use Rattle.col_merge_plan.specs.Slots.{counts_read};
+ghost use Rattle.col_merge.specs.Short.{ArePlacedFor};
+ghost use Rattle.col_merge_plan.specs.Placed.{ArePlaced};
+ghost use Rattle.col_merge_plan.specs.Slots.{counts_read, keys_read};
 
+use crate::joining::joined_bytes;
 use crate::opening::open_columns;
+use crate::short::open_short;
 use col_common::{Buffer, ColumnarError, FileHandle};
-use col_dynamic::DynamicColumn;
-use col_file::{ColumnarReader, files_are_read};
+use col_file::ColumnarReader;
 use col_keys::SlotKey;
-use col_merge_slot::join_slot;
-use col_order::MergeRowOrder;
+use col_merge_plan::segments_of;
+use col_order::{MergeRowOrder, StackMergeOrder};
 use col_types::ColumnType;
 use std::alloc::Global;
 
-// The joined column of a slot, of the type that is required of it: its type and its bytes.
+// The joined column of a slot, of the type that is required of it: its type and its bytes. A stack
+// opens the segments that have the slot, and a shuffle asks each.
 pub(crate) fn join_columns<F: FileHandle>(
     alloc: Global,
     columnar_readers: &mut [ColumnarReader<F>],
     slot: &SlotKey,
     wanted: Option<ColumnType>,
     merge_row_order: &MergeRowOrder,
+    placed: &[(SlotKey, usize)],
 ) -> Result<Option<(ColumnType, Buffer)>, ColumnarError>
-    requires { counts_read columnar_readers.old ≡ counts_of (order_of merge_row_order.now) }
+    requires counts { counts_read columnar_readers.old
+        ≡ counts_of (order_of merge_row_order.now) }
+    requires read { AllByRecursion IsRead columnar_readers.old }
+    requires placed { ArePlacedFor (order_of merge_row_order.now)
+        (keys_read columnar_readers.old) placed.now }
     ensures answer { (required : List Required)
         → option_map kind_of wanted ≡ required_type required slot.now
         → JoinsColumns columnar_readers.old columnar_readers.new result slot.now.name
@@ -38,30 +46,60 @@ pub(crate) fn join_columns<F: FileHandle>(
         (λ parts. joined_by (order_of merge_row_order.now) required parts slot.now) }
     ensures kept { AllRead (slot_reads slot.now) columnar_readers.old columnar_readers.new }
 {
-    files_are_read(columnar_readers);
-    let mut columns = open_columns(alloc, columnar_readers, slot)?;
-    joined_bytes(alloc, &mut columns, wanted, merge_row_order)
+    match merge_row_order {
+        MergeRowOrder::Stack(order) => {
+            join_short(alloc, columnar_readers, slot, wanted, order, placed)
+        }
+        MergeRowOrder::Shuffled(_) => {
+            join_whole(alloc, columnar_readers, slot, wanted, merge_row_order)
+        }
+    }
 }
 
-// The joined column of columns that were opened.
-fn joined_bytes(
+// The same of a stack, of the segments that have the slot.
+fn join_short<F: FileHandle>(
     alloc: Global,
-    columns: &mut [Option<DynamicColumn>],
+    columnar_readers: &mut [ColumnarReader<F>],
+    slot: &SlotKey,
+    wanted: Option<ColumnType>,
+    order: &StackMergeOrder,
+    placed: &[(SlotKey, usize)],
+) -> Result<Option<(ColumnType, Buffer)>, ColumnarError>
+    requires counts { counts_read columnar_readers.old ≡ order.now }
+    requires read { AllByRecursion IsRead columnar_readers.old }
+    requires placed { ArePlaced (keys_read columnar_readers.old) placed.now }
+    ensures answer { (required : List Required)
+        → option_map kind_of wanted ≡ required_type required slot.now
+        → JoinsColumns columnar_readers.old columnar_readers.new result slot.now.name
+        (length (all_rows order.now))
+        (λ parts. joined_by (stack order.now) required parts slot.now) }
+    ensures kept { AllRead (slot_reads slot.now) columnar_readers.old columnar_readers.new }
+{
+    let segments = segments_of(alloc, placed, slot)?;
+    let mut short = open_short(alloc, columnar_readers, slot, &segments, order)?;
+    // That 32 bits count the rows is known of a number that is asked.
+    let _rows = order.num_rows();
+    short.join(alloc, wanted)
+}
+
+// The same of any order, of all segments.
+fn join_whole<F: FileHandle>(
+    alloc: Global,
+    columnar_readers: &mut [ColumnarReader<F>],
+    slot: &SlotKey,
     wanted: Option<ColumnType>,
     merge_row_order: &MergeRowOrder,
 ) -> Result<Option<(ColumnType, Buffer)>, ColumnarError>
-    requires { HaveRows (counts_of (order_of merge_row_order.now)) columns.old }
-    ensures causes { HasJoinCause result }
-    ensures joined { (slot : Slot) (parts : List Part) (required : List Required)
-        → row_counts parts ≡ counts_of (order_of merge_row_order.now)
-        → AreOpened slot parts columns.old
-        → option_map kind_of wanted ≡ required_type required slot
-        → JoinsBytes result slot.name (length (picks_of (order_of merge_row_order.now)))
-        (joined_by (order_of merge_row_order.now) required parts slot) }
+    requires counts { counts_read columnar_readers.old
+        ≡ counts_of (order_of merge_row_order.now) }
+    requires read { AllByRecursion IsRead columnar_readers.old }
+    ensures answer { (required : List Required)
+        → option_map kind_of wanted ≡ required_type required slot.now
+        → JoinsColumns columnar_readers.old columnar_readers.new result slot.now.name
+        (length (picks_of (order_of merge_row_order.now)))
+        (λ parts. joined_by (order_of merge_row_order.now) required parts slot.now) }
+    ensures kept { AllRead (slot_reads slot.now) columnar_readers.old columnar_readers.new }
 {
-    let mut bytes = Buffer::new(alloc);
-    match join_slot(alloc, columns, wanted, merge_row_order, &mut bytes)? {
-        Some(column_type) => Ok(Some((column_type, bytes))),
-        None => Ok(None),
-    }
+    let mut columns = open_columns(alloc, columnar_readers, slot)?;
+    joined_bytes(alloc, &mut columns, wanted, merge_row_order)
 }

@@ -3,8 +3,10 @@
 #![tactic(auto)]
 
 mod join_columns;
+mod joining;
 mod merge;
 mod opening;
+mod short;
 mod stack_from_readers;
 mod turn;
 

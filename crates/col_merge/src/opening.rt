@@ -34,7 +34,7 @@ pub fn open_columns<F: FileHandle>(
 }
 
 // Opens the column that a reader has under a slot, where it has one.
-fn open_in<F: FileHandle>(
+pub(crate) fn open_in<F: FileHandle>(
     alloc: Global,
     reader: &mut ColumnarReader<F>,
     slot: &SlotKey,

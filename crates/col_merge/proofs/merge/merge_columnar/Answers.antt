@@ -36,6 +36,9 @@ returns-in_err-types-clause-kept g c = all_read-none (λ k. length k.entries) c.
 pub returns-in_err-slots-clause-kept : goal.returns-in_err-slots-clause-kept
 returns-in_err-slots-clause-kept g c = all_read-none (λ k. length k.entries) c.args.columnar_readers.now
 
+pub returns-in_err-placed-clause-kept : goal.returns-in_err-placed-clause-kept
+returns-in_err-placed-clause-kept g c = all_read-none (λ k. length k.entries) c.args.columnar_readers.now
+
 pub returns-clause-answer : goal.returns-clause-answer
 returns-clause-answer g c =
     let rs = c.args.columnar_readers.now in

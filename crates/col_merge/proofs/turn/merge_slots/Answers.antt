@@ -6,9 +6,10 @@ use Rattle.col_order.specs.Orders.{picks_of}
 use Rattle.col_order.specs.RowOrders.{order_of}
 use Rattle.col_types.specs.Kinds.{kind_of}
 use Rattle.col_merge.specs.Joined.{joined_by}
+use Rattle.col_merge.specs.Short.{ArePlacedFor}
 use Rattle.col_merge.specs.Turns.{MergedSoFar}
 use Rattle.col_merge.specs.Readings.{slots_reads}
-use Rattle.col_merge.proofs.ReadingLemmas.{all_read-none, counts-stay}
+use Rattle.col_merge.proofs.ReadingLemmas.{all_read-none, counts-stay, read-stays, keys-stay}
 use Rattle.col_merge.proofs.SlotReadLemmas.{read-more, read-stops, read-all}
 use Rattle.col_merge.proofs.TurnLemmas.{goes-itself, goes-then, slots-none, all-taken, turn-more, turn-refused}
 use Rattle.col_merge.proofs.turn.merge_slots.Goals as goal
@@ -72,10 +73,21 @@ returns-in_err-merge_slot-clause-sink g c =
     goes-then (g.K.Sink.seen c.args.output.now) (g.K.Sink.seen c.loop-slot.output)
     (g.K.Sink.seen c.merge_slot.new.output) c.loop-slot.invariant.1 c.in_err-merge_slot.ensures.sink
 
-pub merge_slot-requires : goal.merge_slot-requires
-merge_slot-requires g c =
+pub merge_slot-requires-clause-counts : goal.merge_slot-requires-clause-counts
+merge_slot-requires-clause-counts g c =
     counts-stay (slots_reads (take c.loop-slot.slot-index c.args.slots.now)) c.args.columnar_readers.now
     c.loop-slot.columnar_readers c.loop-slot.invariant.0 ∙ c.requires.counts
+
+pub merge_slot-requires-clause-read : goal.merge_slot-requires-clause-read
+merge_slot-requires-clause-read g c =
+    read-stays (slots_reads (take c.loop-slot.slot-index c.args.slots.now)) c.args.columnar_readers.now
+    c.loop-slot.columnar_readers c.loop-slot.invariant.0 c.requires.read
+
+pub merge_slot-requires-clause-placed : goal.merge_slot-requires-clause-placed
+merge_slot-requires-clause-placed g c =
+    let stay = keys-stay (slots_reads (take c.loop-slot.slot-index c.args.slots.now)) c.args.columnar_readers.now
+    c.loop-slot.columnar_readers c.loop-slot.invariant.0 in
+    subst (λ ks. ArePlacedFor (order_of c.args.merge_row_order.now) ks c.args.placed.now) (sym stay) c.requires.placed
 
 pub returns-clause-answer : goal.returns-clause-answer
 returns-clause-answer g c required types =

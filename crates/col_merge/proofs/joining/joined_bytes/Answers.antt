@@ -1,6 +1,6 @@
 use Rattle.std.proofs.lemmas.Result.{err_from_is_err_and}
 use Rattle.col_merge.proofs.OpenTurnLemmas.{slot-cause}
-use Rattle.col_merge.proofs.join_columns.joined_bytes.Goals as goal
+use Rattle.col_merge.proofs.joining.joined_bytes.Goals as goal
 
 pub returns-in_err-column_type-clause-causes : goal.returns-in_err-column_type-clause-causes
 returns-in_err-column_type-clause-causes c =

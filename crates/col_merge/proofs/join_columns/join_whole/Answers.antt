@@ -7,14 +7,14 @@ use Rattle.col_merge_slot.specs.Segments.{HaveRows}
 use Rattle.col_merge.specs.Joined.{joined_by}
 use Rattle.col_merge.proofs.OpenTurnLemmas.{opened-rows, are-opened, joins-columns, open-refused}
 use Rattle.col_merge.proofs.PartLemmas.{parts-told, counts-told}
-use Rattle.col_merge.proofs.join_columns.join_columns.Goals as goal
+use Rattle.col_merge.proofs.join_columns.join_whole.Goals as goal
 
 pub joined_bytes-requires : goal.joined_bytes-requires
 joined_bytes-requires g c =
     let same : c.deref_mut.result.now ≡ c.in_ok-columns.columns.items = cc (c.deref_mut.ensures.value) in
     let counts = counts_of (order_of c.args.merge_row_order.now) in
     subst (λ cs. HaveRows counts cs) (sym same) (opened-rows c.args.slot.now c.args.columnar_readers.now
-    c.in_ok-columns.columns.items counts c.requires c.in_ok-columns.ensures.ok)
+    c.in_ok-columns.columns.items counts c.requires.counts c.in_ok-columns.ensures.ok)
 
 pub returns-clause-answer : goal.returns-clause-answer
 returns-clause-answer g c required wanted =
@@ -25,7 +25,7 @@ returns-clause-answer g c required wanted =
     joins-columns rs c.open_columns.new.columnar_readers slot.name (length (picks_of order))
     (λ parts. joined_by order required parts slot) c.joined_bytes.result c.joined_bytes.ensures.causes
     (λ parts t. c.joined_bytes.ensures.joined slot parts required
-    (counts-told rs parts (parts-told rs parts c.files_are_read.ensures t) ∙ c.requires) (subst
+    (counts-told rs parts (parts-told rs parts c.requires.read t) ∙ c.requires.counts) (subst
     (λ cs. AreOpened slot parts cs) (sym same)
     (are-opened slot rs parts c.in_ok-columns.columns.items t c.in_ok-columns.ensures.ok)) wanted)
 
