@@ -1,5 +1,5 @@
 -- What reading leaves of readers, one after another.
-use Rattle.std.proofs.Common.{◌≡◌, ℕ, zero, suc, ◌+◌, ◌<◌, ◌≤◌, List, [], ◌∷◌, drop, length, get_or, Some, IfSome, slice_get, refl, sym, ap, ap₂, ◌∙◌, subst, arith, add-one}
+use Rattle.std.proofs.Common.{◌≡◌, ℕ, zero, suc, ◌+◌, ◌<◌, ◌≤◌, List, [], ◌∷◌, drop, length, get_or, Some, IfSome, slice_get, refl, sym, ap, ap₂, ◌∙◌, subst, add-one}
 use Rattle.std.specs.List.{AllByRecursion}
 use Rattle.std.proofs.Math.ListN.{set}
 use Rattle.std.proofs.lemmas.Option.{slice_get-get_or}
@@ -69,6 +69,7 @@ module _ (times : FileKeys → ℕ) where
   counts-stay [] (s ∷ ss) h = absurd h
   counts-stay (r ∷ rs) [] h = absurd h
   counts-stay (r ∷ rs) (s ∷ ss) h = ap₂ (λ n ns. n ∷ ns) (ap (λ k. k.row_count) h.0.keys) (counts-stay rs ss h.1)
+
   -- readers are read as they were after they were read
   pub read-stays : (rs ss : List SeenReader) → AllRead times rs ss → AllByRecursion IsRead rs → AllByRecursion IsRead ss
   read-stays [] [] h all = tt

@@ -1,7 +1,7 @@
 -- The columns of a slot, where the rows between them that have none are one segment.
-use Rattle.std.proofs.Common.{◌≡◌, ℕ, zero, suc, ◌+◌, ◌≤◌, ◌<◌, ◌==◌, Bool, true, false, List, [], ◌∷◌, ◌++◌, length, take, drop, map, sum, Option, Some, None, IfSome, option_map, slice_get, refl, sym, ap, ap₂, ◌∙◌, subst, arith}
+use Rattle.std.proofs.Common.{◌≡◌, ℕ, zero, suc, ◌+◌, ◌≤◌, ◌<◌, ◌==◌, Bool, true, false, List, [], ◌∷◌, ◌++◌, length, take, drop, sum, Option, Some, None, IfSome, option_map, slice_get, refl, sym, ap, ap₂, ◌∙◌, subst, arith}
 use Rattle.std.specs.Prelude.{if◌then◌else◌, slice_index, slice_index_or}
-use Rattle.std.specs.List.{AllByRecursion, AllZip, sum_by}
+use Rattle.std.specs.List.{AllByRecursion, AllZip}
 use Rattle.std.proofs.lemmas.Bool.{eqb-true}
 use Rattle.std.proofs.lemmas.List.{map-append, take_all}
 use Rattle.std.proofs.lemmas.List.Sums.{sum_by-append, sum_by-cons}
@@ -17,17 +17,16 @@ use Rattle.col_merge.proofs.OpenTurnLemmas.{zip-length}
 use Rattle.col_merge.proofs.PartLemmas.{ArePartsOf, parts-told, counts-told}
 use Rattle.col_merge.specs.Joined.{joined_by}
 use Rattle.col_merge.specs.Opened.{IsOpenedAs}
-use Rattle.col_merge.specs.Parts.{told_part, told_parts}
+use Rattle.col_merge.specs.Parts.{told_parts}
 use Rattle.col_merge.specs.Short.{gap_counts, gap_columns, StandShort, IsShortOf}
 use Rattle.col_merge_plan.proofs.CountLemmas.{length-counts}
 use Rattle.col_merge_plan.specs.Placed.{has_slot}
 use Rattle.col_merge_plan.specs.Slots.{counts_read, keys_read}
-use Rattle.col_merge_slot.specs.JoinedSlots.{part_seen, AreOpened}
-use Rattle.col_merge_slot.specs.Segments.{HaveRows}
+use Rattle.col_merge_slot.specs.JoinedSlots.{part_seen}
 use Rattle.col_model.specs.Category.{Slot}
 use Rattle.col_model.specs.File.{Part}
 use Rattle.col_model.specs.Keys.{FileKeys}
-use Rattle.col_model.specs.Merge.{Required, column_in, row_counts}
+use Rattle.col_model.specs.Merge.{column_in, row_counts}
 use Rattle.col_model.specs.Order.{stack}
 use Rattle.col_model.specs.Positions.{start_of}
 use Rattle.col_model.proofs.SharedTypes.{some≢none, same-some}
