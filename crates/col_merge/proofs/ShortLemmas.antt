@@ -126,7 +126,8 @@ gap-counted rows = by (rows == 0)
 gap-seen : (slot : Slot) (rows : ℕ) → AllZip (IsSeenAs slot) (gaps_of rows) (gap_columns rows)
 gap-seen slot rows = by (rows == 0)
   where
-    by : (b : Bool) → AllZip (IsSeenAs slot) (if b then [] else (record { row_count = rows; columns = [] }) ∷ []) (if b then [] else None ∷ [])
+    by : (b : Bool) → AllZip (IsSeenAs slot) (if b then [] else (record { row_count = rows; columns = [] }) ∷ [])
+        (if b then [] else None ∷ [])
     by true = tt
     by false = (refl, tt)
 

@@ -1,10 +1,9 @@
 -- The segments that have a slot, of slots that are sorted with their segments.
-use Rattle.std.proofs.Common.{◌≡◌, append_assoc, append-nil, ℕ, zero, suc, ◌+◌, ◌≤◌, ◌<◌, ◌==◌, ◌&&◌, ◌||◌, Bool, true, false, cond, List, [], ◌∷◌, ◌++◌, map, filter, flat_map, length, get_or, take, drop, nat_le, slice_get, Some, None, refl, sym, ◌∙◌, ap, ap₂, subst, arith}
-use Rattle.std.specs.Ordering.{nat_cmp, ordering_then, is_lt, is_eq}
-use Rattle.std.specs.declared.cmp.Ordering.{Ordering}
-use Rattle.std.specs.declared.cmp.Ordering.TheVariants.{Less, Equal, Greater}
-use Rattle.std.specs.List.{list_any, enumerate_from, AllByRecursion}
-use Rattle.std.specs.List.Sorted.{IsSorted, IsPermutation}
+use Rattle.std.proofs.Common.{◌≡◌, append_assoc, append-nil, ℕ, zero, suc, ◌+◌, ◌≤◌, ◌<◌, ◌==◌, ◌&&◌, ◌||◌, Bool, true, false, cond, List, [], ◌∷◌, ◌++◌, map, filter, length, get_or, take, nat_le, slice_get, Some, refl, sym, ◌∙◌, ap, ap₂, arith}
+use Rattle.std.specs.Ordering.{nat_cmp, ordering_then, is_lt}
+use Rattle.std.specs.declared.cmp.Ordering.TheVariants.{Equal}
+use Rattle.std.specs.List.{list_any, AllByRecursion}
+use Rattle.std.specs.List.Sorted.{IsSorted}
 use Rattle.std.specs.Cmp.{IsTotalOrder}
 use Rattle.std.proofs.lemmas.Bool.{or_right, true≢false, eq-eqb, lt-leb, leb-false}
 use Rattle.std.proofs.lemmas.Cmp.{then_total, on_total, nat_cmp_total, tied_itself}
@@ -133,7 +132,8 @@ module _ (slot : Slot) where
 
       by : (b c : Bool) → nat_le n p.1 ≡ c → (c || list_any (λ p. nat_le n p.1) ps) ≡ false
           → (list_any (λ p. nat_le n p.1) ps ≡ false → AllByRecursion (λ s. s < n) rest)
-          → AllByRecursion (λ s. s < n) (map (λ p. p.1) (cond b (p ∷ filter (λ p. same_slot p.0 slot) ps) (filter (λ p. same_slot p.0 slot) ps)))
+          → AllByRecursion (λ s. s < n)
+          (map (λ p. p.1) (cond b (p ∷ filter (λ p. same_slot p.0 slot) ps) (filter (λ p. same_slot p.0 slot) ps)))
       by b true e h later = absurd (true≢false h)
       by true false e h later = (leb-false n p.1 e, later h)
       by false false e h later = later h

@@ -1,8 +1,7 @@
-use Rattle.std.proofs.Common.{rules, ◌≡◌, ℕ, true, false}
-use Rattle.std.specs.List.Sorted.{IsPartitionPoint}
+use Rattle.std.proofs.Common.{rules}
 use Rattle.std.specs.Ordering.{is_lt, is_le}
 use Rattle.std.proofs.lemmas.Fn.{always_returns_same}
-use Rattle.col_model.specs.Category.{Slot, slot_cmp}
+use Rattle.col_model.specs.Category.{slot_cmp}
 use Rattle.col_merge_plan.proofs.RunLemmas.{lt-partitioned, le-partitioned, in-order, run-found}
 use Rattle.col_merge_plan.proofs.segments.places_of.Goals as goal
 
