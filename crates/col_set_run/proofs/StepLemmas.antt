@@ -17,7 +17,7 @@ use Rattle.col_set.specs.Held.{held_by}
 use Rattle.col_set.specs.Sets.{SeenSet, EachStands, IsBeforeOrGiven, ChangesSet}
 use Rattle.col_set.proofs.LeaveLemmas.{if_told, retold}
 use Rattle.col_set_run.specs.Outcome.{after_step, found_lines, held_before, reached, step_lines}
-use Rattle.col_set_run.specs.Running.{IsReached, RunsSteps, TakesStep}
+use Rattle.col_set_run.specs.Running.{IsPrefix, IsReached, RunsSteps, TakesStep}
 use Rattle.col_set_run.proofs.ReachedLemmas.{reached-more, reached-one, before-more, before-refused, found-more, found-one}
 use Rattle.col_set_run.proofs.StayLemmas.{not-fault, not-memory}
 use Rattle.col_set_script.specs.SetScripts.{SetStep}
@@ -25,16 +25,21 @@ use Rattle.col_set_script.specs.Steps.{filled_step, step_of}
 use Rattle.col_set_script.specs.declared.step.Step.{Step}
 use Rattle.col_writer_columns.specs.Answers.{answer_of, MayRefuse}
 
--- what stands for the tables after the steps that were made
-here : (hs now : List HeldTable) (xs made left : List SetStep) → xs ≡ made ++ left → reached hs made ≡ Ok now → (c : List ℕ)
-    → held_by c ≡ Some now → IsReached hs xs c
-here hs now xs made left whole is c held = record {
+-- the tables after the steps that were made
+prefix : (hs now : List HeldTable) (xs made left : List SetStep) → xs ≡ made ++ left → reached hs made ≡ Ok now
+    → IsPrefix hs xs now
+prefix hs now xs made left whole is = record {
   steps = length made;
   within = omega (arith, ap length whole, length-append made left);
-  after = now;
   is = ap (reached hs) (ap (take (length made)) whole ∙ take_at made left (length made) refl) ∙ is;
-  held = held;
 }
+
+-- what stands for them
+here : (hs now : List HeldTable) (xs made left : List SetStep) → xs ≡ made ++ left → reached hs made ≡ Ok now → (c : List ℕ)
+    → held_by c ≡ Some now → IsReached hs xs c
+here hs now xs made left whole is c held =
+    let p = prefix hs now xs made left whole is in
+    record { steps = p.steps; within = p.within; after = now; is = p.is; held = held }
 
 -- the steps that are left, where the first that was read is this one
 pub record IsNext (rest : List SetStep) (step : Step) (left : List Step) : Type 0 where
@@ -161,6 +166,7 @@ module _ {D : Type 0} (see : D → SeenDisk) where
       known = takes.known;
       refused = by changes.refused;
       kept = λ r same. kept r (same-error e (answer_of r) same) changes.refused;
+      some = prefix old.held next.held xs was.made (n.first ∷ n.others) split (was.is ∙ ap Ok (sym changes.kept));
       write_fault = λ fault. let rose : Rose _ _ = (changes.write_fault fault).1 in omega (arith, was.later, rose);
       failed = changes.failed;
       later = omega (arith, was.later, changes.later);
@@ -198,6 +204,7 @@ module _ {D : Type 0} (see : D → SeenDisk) where
     known = tt;
     refused = tt;
     kept = λ r same. absurd (cc same);
+    some = prefix old.held now.held xs was.made was.rest was.whole was.is;
     write_fault = λ fault. absurd (cc fault);
     failed = (λ failed. absurd (let e : true ≡ false = sym failed ∙ was.works in cc), λ fault. absurd (cc fault));
     later = was.later;

@@ -43,6 +43,12 @@ pub record IsReached (hs : List HeldTable) (xs : List SetStep) (c : List ℕ) : 
   pub is : reached hs (take steps xs) ≡ Ok after
   pub held : held_by c ≡ Some after
 
+-- The tables are those after the first so many steps, none skipped and none in part.
+pub record IsPrefix (hs : List HeldTable) (xs : List SetStep) (after : List HeldTable) : Type 0 where
+  pub steps : ℕ
+  pub within : steps ≤ length xs
+  pub is : reached hs (take steps xs) ≡ Ok after
+
 -- What running steps answers and leaves: a crash at any moment leaves the tables after some prefix
 -- of the steps; Ok leaves those after all of them, and a refusal is the first one, which leaves
 -- those before it.
@@ -55,6 +61,8 @@ pub record RunsSteps {D : Type 0} (see : D → SeenDisk) (old new : SeenSet D)
   pub refused : IfErr result (λ e. (e ≡ WriteFault) ⊎ MayRefuse (reached old.held xs) e)
   pub kept : (r : Refusal) → result ≡ Err (answer_of r)
       → new.held ≡ held_before old.held xs
+  -- whatever is answered, some first steps were taken
+  pub some : IsPrefix old.held xs new.held
   pub write_fault : result ≡ Err WriteFault → Rose (see old.disk).faults (see new.disk).faults
   pub failed : (new.failed ≡ true) ↔ (result ≡ Err WriteFault)
   pub later : (see old.disk).faults ≤ (see new.disk).faults

@@ -5,4 +5,7 @@ mod WroteLemmas
 mod StatusLemmas
 mod UnreadLemmas
 mod UnopenedLemmas
+mod RefusalLemmas
 mod RanLemmas
+mod WellLemmas
+mod IllLemmas

@@ -1,6 +1,7 @@
-use Rattle.col_set_tool.proofs.RanLemmas.{ran-ill, ran-well}
+use Rattle.col_set_tool.proofs.IllLemmas.{ran-ill}
 use Rattle.col_set_tool.proofs.UnopenedLemmas.{unopened}
 use Rattle.col_set_tool.proofs.UnreadLemmas.{unread}
+use Rattle.col_set_tool.proofs.WellLemmas.{ran-well}
 use Rattle.col_set_tool.proofs.run.run_set.Goals as goal
 use Rattle.col_set_tool.proofs.run.run_set.Goals.{in-Ok-run_whole, in-Err-run_whole}
 
