@@ -75,11 +75,6 @@ divisor-by (y ∷ ys) g r some apart left top =
       | inr none ↦ (let e : g ≡ d = omega arith in e)
     ]
 
--- the divisor of statistics is none that divides nothing
-pub divisor-positive : (xs : List ℕ) → 0 < (stats_of xs).divisor
-unfolding stats_of
-divisor-positive xs = omega arith
-
 -- ---- samples
 
 all-joined : (P : ℕ → Type 0) (xs : List ℕ) (y : ℕ) → AllByRecursion P xs → P y → AllByRecursion P (xs ++ y ∷ [])

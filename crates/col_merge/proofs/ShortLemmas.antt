@@ -12,6 +12,7 @@ use Rattle.col_column.specs.Columns.{row_count}
 use Rattle.col_dynamic.specs.Dynamic.{dynamic_shape, value_count}
 use Rattle.col_dynamic.specs.declared.dynamic_column.DynamicColumn.{DynamicColumn}
 use Rattle.col_file.specs.Readers.{SeenReader, IsRead}
+use Rattle.col_merge.proofs.EndLemmas.{told-each}
 use Rattle.col_merge.proofs.LackLemmas.{part-at, parts-lack}
 use Rattle.col_merge.proofs.OpenTurnLemmas.{zip-length}
 use Rattle.col_merge.proofs.PartLemmas.{ArePartsOf, parts-told, counts-told}
@@ -53,15 +54,7 @@ pub record IsShortSoFar (slot : Slot) (rs : List SeenReader) (n : ℕ) (counts :
   pub fit : AllZip HasRows counts columns
   pub told : IfSome (told_parts rs) (λ parts. LookShort slot (take n parts) counts columns)
 
--- what is so of the parts, where they are told
-if-told : {P : List Part → Type 0} (rs : List SeenReader) → ((parts : List Part) → told_parts rs ≡ Some parts → P parts)
-    → IfSome (told_parts rs) P
-if-told {P} rs f = by (told_parts rs) refl
-  where
-    by : (o : Option (List Part)) → told_parts rs ≡ o → IfSome o P
-    by None t = tt
-    by (Some parts) t = f parts t
-
+-- what is so where the parts are told is so of them
 pub at-told : (P : List Part → Type 0) (rs : List SeenReader) (parts : List Part) → told_parts rs ≡ Some parts
     → IfSome (told_parts rs) P → P parts
 at-told P rs parts t h = subst (λ o. IfSome o P) t h
@@ -138,7 +131,7 @@ pub short-none : (slot : Slot) (rs : List SeenReader) → IsShortSoFar slot rs 0
 short-none slot rs = record {
   rows = refl;
   fit = tt;
-  told = if-told rs (λ parts t. record { short = []; counted = refl; seen = tt; alike = alike-self slot [] });
+  told = told-each rs (λ parts t. record { short = []; counted = refl; seen = tt; alike = alike-self slot [] });
 }
 
 module _ (slot : Slot) (rs : List SeenReader) (read : AllByRecursion IsRead rs) (a : ℕ) (counts : List ℕ)
@@ -151,7 +144,7 @@ module _ (slot : Slot) (rs : List SeenReader) (read : AllByRecursion IsRead rs) 
     rows =
         sum_by-append (λ k. k) counts (gap_counts rows) ∙ ap₂ (λ m n. m + n) was.rows (gap-rows rows) ∙ sym more;
     fit = zip-append HasRows counts (gap_counts rows) columns (gap_columns rows) was.fit (gap-fit rows);
-    told = if-told rs (λ parts t. looks parts t (at-told _ rs parts t was.told));
+    told = told-each rs (λ parts t. looks parts t (at-told _ rs parts t was.told));
   }
     where
       looks : (parts : List Part) → told_parts rs ≡ Some parts → LookShort slot (take a parts) counts columns
@@ -192,7 +185,7 @@ module _ (slot : Slot) (rs : List SeenReader) (read : AllByRecursion IsRead rs) 
         ∙ omega arith
         ∙ sym (start-next (counts_read rs) a r.keys.row_count (count-at rs a is));
     fit = zip-append HasRows counts (r.keys.row_count ∷ []) columns (o ∷ []) was.fit (opened.rows, tt);
-    told = if-told rs (λ parts t. looks parts t (at-told _ rs parts t was.told));
+    told = told-each rs (λ parts t. looks parts t (at-told _ rs parts t was.told));
   }
     where
       count-at : (rs : List SeenReader) (a : ℕ) → slice_get rs a ≡ Some r → slice_get (counts_read rs) a ≡ Some r.keys.row_count
@@ -243,7 +236,7 @@ short-all slot rs n counts columns all read was = record {
     segments = sym (zip-length HasRows counts columns was.fit);
     rows = λ k c e. rows-at counts columns k c was.fit e;
   };
-  told = if-told rs (λ parts t. stands parts (parts-told rs parts read t) (at-told _ rs parts t was.told));
+  told = told-each rs (λ parts t. stands parts (parts-told rs parts read t) (at-told _ rs parts t was.told));
 }
   where
     stands : (parts : List Part) → ArePartsOf rs parts → LookShort slot (take n parts) counts columns

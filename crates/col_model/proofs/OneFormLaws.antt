@@ -123,7 +123,8 @@ same_stats-equal a b e =
       count = eqb-true a.count b.count d.1 i;
     }
 
-divisor-positive : (xs : List ℕ) → 0 < (stats_of xs).divisor
+-- the divisor of statistics is none that divides nothing
+pub divisor-positive : (xs : List ℕ) → 0 < (stats_of xs).divisor
 unfolding stats_of
 divisor-positive xs = omega arith
 

@@ -1,5 +1,5 @@
 -- Ids that stand apart, under the terms that they are of.
-use Rattle.std.proofs.Common.{◌≡◌, ◌≢◌, ℕ, ◌<◌, true, [], Some, None, length, get_or, sym, ◌∙◌, ap, subst}
+use Rattle.std.proofs.Common.{◌≡◌, ◌≢◌, ℕ, ◌<◌, true, [], Some, length, get_or, sym, ◌∙◌, ap, subst}
 use Rattle.std.specs.BTreeMap.{Updates}
 use Rattle.std.specs.Cmp.Lexicographic.{slice_cmp}
 use Rattle.std.specs.Map.{KeepsOthers}
@@ -12,10 +12,6 @@ use Rattle.std.proofs.lemmas.Cmp.{nat_list_cmp_total, eq_by_cmp_equiv}
 use Rattle.std.proofs.lemmas.Map.Lookups.{exact_bytes}
 use Rattle.col_model.proofs.OrderingLaws.{equal_of}
 use Rattle.col_terms.specs.Hashing.{IdsApart, id_apart, IsNotApart, KeepsOtherIds}
-
--- where nothing stands under a term, its id doesn't
-pub not_apart-none : (ts : List (List ℕ)) (m : IdsApart) (t : List ℕ) → None ≡ id_apart m t → IsNotApart ts m t
-not_apart-none ts m t none id below there = absurd (let e = none ∙ there in cc)
 
 -- where an id stands under a term that has another term or none, neither does the term's own
 pub not_apart-other : (ts : List (List ℕ)) (m : IdsApart) (t : List ℕ) (found : ℕ) → Some found ≡ id_apart m t

@@ -61,16 +61,6 @@ placed-none m empty = record {
   placed = λ name. subst (IsPlaceOf [] name) (sym (ap (lookup (is_at (λ k. slice_cmp nat_cmp name (string_bytes k)))) empty)) refl;
 }
 
--- a map with the same entries has the same places
-pub placed-kept : (ns os : List (List ℕ)) (m n : BTreeMap (String Global) ℕ) → ArePlaced ns m → os ≡ ns
-    → n.entries ≡ m.entries → ArePlaced os n
-placed-kept ns os m n a same kept =
-    subst (λ us. ArePlaced us n) (sym same) (record {
-      differ = a.differ;
-      placed = λ name. subst (IsPlaceOf ns name)
-          (sym (ap (lookup (is_at (λ k. slice_cmp nat_cmp name (string_bytes k)))) kept)) (a.placed name);
-    })
-
 -- a name more leaves the places of the others
 place-kept : (ns : List (List ℕ)) (new name : List ℕ) (at : Option ℕ) → bytes_eq new name ≡ false → IsPlaceOf ns name at
     → IsPlaceOf (ns ++ new ∷ []) name at

@@ -193,11 +193,6 @@ pub if_ok-is : {E : Type 0} (cs : List ℕ) (result : Result Index E) (i : Index
 if_ok-is cs (Ok r) i e h = subst (CountsRows cs) (sym e) h
 if_ok-is cs (Err e) i f h = tt
 
--- an answer that counts some rows counts equal ones
-pub if_ok-as : {E : Type 0} (result : Result Index E) (cs ds : List ℕ) → cs ≡ ds
-    → IfOk result (λ r. CountsRows cs r) → IfOk result (λ r. CountsRows ds r)
-if_ok-as result cs ds e h = subst (λ xs. IfOk result (λ r. CountsRows xs r)) e h
-
 -- ---- what is written behind an index
 
 -- an index that counts the rows has as many values as their counts sum up to

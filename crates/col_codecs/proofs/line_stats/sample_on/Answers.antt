@@ -2,7 +2,8 @@ use Rattle.std.proofs.Common.{◌≡◌, ◌<◌, ◌≤◌, ◌++◌, ◌∷◌
 use Rattle.std.proofs.lemmas.List.FromFn.{length-map-range_with_len}
 use Rattle.col_codecs.specs.OnLine.{on_line, values_on}
 use Rattle.col_codecs.proofs.BoundsLemmas.{stats_of-least, stats_of-greatest}
-use Rattle.col_codecs.proofs.LineStatsLemmas.{count-more, sample, sample-top, divisor-positive}
+use Rattle.col_model.proofs.OneFormLaws.{divisor-positive}
+use Rattle.col_codecs.proofs.LineStatsLemmas.{count-more, sample, sample-top}
 use Rattle.col_codecs.proofs.StatsLemmas.{collected-count}
 use Rattle.col_codecs.proofs.line_stats.sample_on.Goals as goal
 
