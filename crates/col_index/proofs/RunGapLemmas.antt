@@ -1,7 +1,7 @@
 -- Ranks by how far rows in runs are above them.
 use Rattle.std.proofs.Common.{◌≡◌, ℕ, ◌+◌, ◌-◌, ◌<◌, ◌≤◌, nat_lt, min, List, [], ◌∷◌, ◌++◌, length, get_or, refl, sym, ap, subst, ◌∙◌, inl, inr, arith}
 use Rattle.std.proofs.lemmas.Bool.{cases_lt, lt-ltb, le-ltb}
-use Rattle.std.proofs.lemmas.List.{get_or_append_left, get_or_at, get_or_read, length_push}
+use Rattle.std.proofs.lemmas.List.{get_or_append_left, get_or_at, length_push}
 use Rattle.col_common.specs.Ascending.{differences}
 use Rattle.col_model.specs.Index.{RowSet, run_rows}
 use Rattle.col_model.specs.Positions.{rank}
