@@ -12,7 +12,7 @@ use Rattle.col_common.specs.Ascending.{is_rising, are_below}
 use Rattle.col_model.specs.Dictionary.{cut}
 use Rattle.col_model.specs.Index.{Shape, empty_shape, full_shape, optional_shape, multivalued_shape}
 use Rattle.col_model.specs.Positions.{start_of, start_in, is_in_row, rows_at, rows_in}
-use Rattle.col_index.specs.Offsets.{AreInside}
+use Rattle.col_indexer.specs.Offsets.{AreInside}
 use Rattle.col_values.specs.Values.{passes, hits, span}
 use Rattle.col_values.proofs.HitLemmas.{front_value}
 use Rattle.col_model.proofs.ListLaws.{filter-none}

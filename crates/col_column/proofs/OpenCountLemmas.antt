@@ -4,8 +4,8 @@ use Rattle.std.proofs.lemmas.Bool.{and_parts, eqb-true, eq-eqb}
 use Rattle.std.proofs.lemmas.List.Folds.{sum_by-replicate}
 use Rattle.col_common.specs.Reading.{◌>>=◌, only_if}
 use Rattle.col_model.specs.Index.{Counts, RowSet, Shape, empty_shape, full_shape, optional_shape, multivalued_shape, set_counts}
-use Rattle.col_index.specs.Sets.{AreRows}
-use Rattle.col_index.proofs.CountLaws.{length-set_counts, sum-set_counts}
+use Rattle.col_indexer.specs.Sets.{AreRows}
+use Rattle.col_indexer.proofs.CountLaws.{length-set_counts, sum-set_counts}
 use Rattle.col_column.specs.Columns.{IsCounted, counts_seen, row_count}
 use Rattle.col_column.specs.Opened.{counts_exactly}
 

@@ -6,7 +6,7 @@ use Rattle.std.proofs.lemmas.List.Sums.{sum_by-take-le}
 use Rattle.col_model.specs.Dictionary.{cut}
 use Rattle.col_model.specs.Index.{Shape, empty_shape, full_shape, optional_shape, multivalued_shape}
 use Rattle.col_model.specs.Positions.{start_of, count_in, positions_in, index_range}
-use Rattle.col_index.specs.Offsets.{positions_if_any}
+use Rattle.col_indexer.specs.Offsets.{positions_if_any}
 use Rattle.col_model.proofs.ListLaws.{sum-cons}
 use Rattle.col_column.specs.Columns.{Seen, row_count, num_docs_in, IsCounted, rows_by, rows_of_values, row_at, AreOf}
 

@@ -3,7 +3,7 @@ use Rattle.std.specs.Prelude.{◌≡◌, ℕ, ◌≤◌, List, [], map, length, 
 use Rattle.col_model.specs.Dictionary.{cut}
 use Rattle.col_model.specs.Index.{Counts, Shape, empty_shape, full_shape, optional_shape, multivalued_shape}
 use Rattle.col_model.specs.Table.{Cell, Content}
-use Rattle.col_index.specs.Offsets.{cardinality_in}
+use Rattle.col_indexer.specs.Offsets.{cardinality_in}
 
 -- the shape of a column's index, and its values
 pub record Seen (V : Type 0) : Type 0 where

@@ -5,10 +5,10 @@ ghost use Rattle.std.specs.Range.{range_inclusive_start, range_inclusive_end};
 ghost use Rattle.col_common.specs.Ascending.{AreBelow, is_rising};
 ghost use Rattle.col_common.specs.Replacing.{Replaces};
 ghost use Rattle.col_common.specs.declared.error.ColumnarError.TheVariants as refusals;
-ghost use Rattle.col_index.specs.Appending.{AppendsBoth};
-ghost use Rattle.col_index.specs.Indexes.{shape_of};
-ghost use Rattle.col_index.specs.Offsets.{cardinality_in, positions_of_rows, found_rows, positions_of};
-ghost use Rattle.col_index.specs.Versions.{cardinality_of};
+ghost use Rattle.col_indexer.specs.Appending.{AppendsBoth};
+ghost use Rattle.col_indexer.specs.Indexes.{shape_of};
+ghost use Rattle.col_indexer.specs.Offsets.{cardinality_in, positions_of_rows, found_rows, positions_of};
+ghost use Rattle.col_indexer.specs.Versions.{cardinality_of};
 ghost use Rattle.col_model.specs.Index.{empty_shape};
 ghost use Rattle.col_values.specs.Values.{IsAtMost, is_between};
 ghost use Rattle.col_column.specs.Columns.{IsCounted, AreOf, rows_by, rows_of_values, num_docs_in, row_at, first_at, firsts_or};
@@ -17,7 +17,7 @@ ghost use Rattle.col_column.specs.Lookups.{docs_passing};
 use crate::doc_values::DocValues;
 use crate::first_value_with_default::FirstValueWithDefault;
 use col_common::{ColumnarError, DocId, RowId};
-use col_index::{Cardinality, ColumnIndex};
+use col_indexer::{Cardinality, ColumnIndex};
 use col_numbers::NumValues;
 use col_values::{
     ColumnValues, EmptyColumnValues, MonotonicColumn, MonotonicallyMappableToU64,
@@ -47,7 +47,7 @@ where
     V: ColumnValues<T>,
 {
     ghost use Rattle.std.specs.Prelude.{length};
-    ghost use Rattle.col_index.specs.Indexes.{shape_of};
+    ghost use Rattle.col_indexer.specs.Indexes.{shape_of};
     ghost use Rattle.col_column.specs.Columns.{Seen, IsCounted};
 
     ghost Value = { Seen V };

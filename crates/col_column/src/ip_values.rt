@@ -6,7 +6,7 @@ ghost use Rattle.col_column.specs.IpValues.{ip_values_of};
 use crate::column::Column;
 use col_common::{ColumnarError, Ipv6Addr, Iterable, RowId, Walk};
 use col_compact::U128View;
-use col_index::ColumnIndex;
+use col_indexer::ColumnIndex;
 use col_values::{ColumnValues, EmptyColumnValues};
 use std::ops::Range;
 

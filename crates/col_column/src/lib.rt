@@ -11,6 +11,10 @@ mod laws;
 mod open;
 mod serialize;
 
+pub use col_indexer::{
+    Cardinality, ColumnIndex, RowIds, SerializableColumnIndex, StartOffsets, Version,
+};
+pub use col_numbers::{MapI64ToU64, MapU64ToI64, NumValues, coerce_to_i64, coerce_to_u64};
 pub use column::{Column, NumColumn};
 pub use doc_values::DocValues;
 pub use first_value_with_default::FirstValueWithDefault;

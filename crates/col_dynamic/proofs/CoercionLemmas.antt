@@ -13,15 +13,15 @@ use Rattle.col_model.specs.Dictionary.{cut}
 use Rattle.col_model.specs.Index.{Shape, empty_shape, full_shape, optional_shape, multivalued_shape}
 use Rattle.col_model.specs.ColumnType as types
 use Rattle.col_model.specs.Table.{Cell, Content, number}
-use Rattle.col_index.specs.Offsets.{cardinality_in}
+use Rattle.col_text.specs.Offsets.{cardinality_in}
 use Rattle.col_common.specs.Reading.{only_if}
 use Rattle.col_values.specs.Monotonic.{Passes}
 use Rattle.col_values.specs.Codes.{is_i64, is_below}
-use Rattle.col_numbers.specs.Coercions.{fits_i64, is_not_negative}
+use Rattle.col_text.specs.Coercions.{fits_i64, is_not_negative}
 use Rattle.col_types.specs.Cells.{unsigned_cell}
-use Rattle.col_column.specs.Columns.{IsCounted, counts_by, rows_by, content_seen}
-use Rattle.col_column.proofs.CellLemmas.{cut-map}
-use Rattle.col_column.proofs.OpenCountLemmas.{is_some-only_if}
+use Rattle.col_text.specs.Columns.{IsCounted, counts_by, rows_by, content_seen}
+use Rattle.col_text.proofs.CellLemmas.{cut-map}
+use Rattle.col_text.proofs.OpenCountLemmas.{is_some-only_if}
 use Rattle.col_dynamic.specs.Dynamic.{is_of, fits_type}
 
 all-append : {A : Type 0} (p : A → Bool) (xs ys : List A) → list_all p (xs ++ ys) ≡ (list_all p xs && list_all p ys)

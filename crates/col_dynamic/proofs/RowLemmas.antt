@@ -5,10 +5,10 @@ use Rattle.col_model.specs.Index.{Shape}
 use Rattle.col_model.specs.Table.{Cell, number}
 use Rattle.col_model.specs.Column.{term_cell}
 use Rattle.col_types.specs.Cells.{unsigned_cell, bool_cell}
-use Rattle.col_numbers.specs.NumValues.{num_values_of}
-use Rattle.col_column.specs.Columns.{row_count, rows_by}
-use Rattle.col_column.proofs.FirstLemmas.{length-rows}
-use Rattle.col_column.specs.IpValues.{ip_values_of}
+use Rattle.col_text.specs.NumValues.{num_values_of}
+use Rattle.col_text.specs.Columns.{row_count, rows_by}
+use Rattle.col_text.proofs.FirstLemmas.{length-rows}
+use Rattle.col_text.specs.IpValues.{ip_values_of}
 use Rattle.col_dynamic.specs.Dynamic.{content_of, dynamic_shape, value_count}
 use Rattle.col_dynamic.specs.declared.dynamic_column.DynamicColumn.{DynamicColumn}
 use Rattle.col_dynamic.specs.declared.dynamic_column.DynamicColumn.TheVariants as columns

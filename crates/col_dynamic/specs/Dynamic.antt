@@ -6,11 +6,11 @@ use Rattle.col_model.specs.ColumnType as types
 use Rattle.col_model.specs.Index.{Shape}
 use Rattle.col_model.specs.Table.{Cell, number, text, Content}
 use Rattle.col_types.specs.Cells.{unsigned_cell, bool_cell}
-use Rattle.col_numbers.specs.NumValues.{num_values_of}
-use Rattle.col_numbers.specs.declared.num_values.NumValues.{NumValues}
-use Rattle.col_column.specs.Columns.{Seen, content_seen}
-use Rattle.col_column.specs.IpValues.{ip_values_of}
-use Rattle.col_column.specs.declared.ip_values.IpValues.{IpValues}
+use Rattle.col_text.specs.NumValues.{num_values_of}
+use Rattle.col_text.specs.NumValuesType.{NumValues}
+use Rattle.col_text.specs.Columns.{Seen, content_seen}
+use Rattle.col_text.specs.IpValues.{ip_values_of}
+use Rattle.col_text.specs.IpValuesType.{IpValues}
 use Rattle.col_text.specs.Texts.{Texts, texts_content}
 use Rattle.col_dynamic.specs.declared.dynamic_column.DynamicColumn.{DynamicColumn}
 use Rattle.col_dynamic.specs.declared.dynamic_column.DynamicColumn.TheVariants as columns

@@ -1,23 +1,23 @@
 //! Columns whose type is known when they are opened.
 ghost use Rattle.std.specs.Prelude.{◌≡◌, [], true, length, is_some, IfSome, None, option_map};
-ghost use Rattle.col_index.specs.Indexes.{shape_of};
-ghost use Rattle.col_index.specs.Offsets.{cardinality_in};
-ghost use Rattle.col_index.specs.Versions.{cardinality_of};
+ghost use Rattle.col_text.specs.Indexes.{shape_of};
+ghost use Rattle.col_text.specs.Offsets.{cardinality_in};
+ghost use Rattle.col_text.specs.Versions.{cardinality_of};
 ghost use Rattle.col_model.specs.ColumnType.{is_numerical, same_type};
 ghost use Rattle.col_model.specs.ColumnType as types;
 ghost use Rattle.col_model.specs.Table.{number};
-ghost use Rattle.col_numbers.specs.NumValues.{num_values_of};
+ghost use Rattle.col_text.specs.NumValues.{num_values_of};
 ghost use Rattle.col_types.specs.Cells.{unsigned_cell};
-ghost use Rattle.col_column.specs.Columns.{IsCounted, content_seen};
+ghost use Rattle.col_text.specs.Columns.{IsCounted, content_seen};
 ghost use Rattle.col_types.specs.Kinds.{kind_of, numerical_kind_of};
 ghost use Rattle.col_dynamic.specs.declared.dynamic_column.DynamicColumn.TheVariants as columns;
 ghost use Rattle.col_dynamic.specs.Dynamic.{type_of, content_of, dynamic_shape, value_count, fits_type};
 
-use col_column::{Column, IpColumn, NumColumn};
 use col_common::{DateTime, RowId};
-use col_index::{Cardinality, ColumnIndex};
-use col_numbers::{NumValues, coerce_to_i64, coerce_to_u64};
-use col_text::{BytesColumn, StrColumn};
+use col_text::{
+    BytesColumn, Cardinality, Column, ColumnIndex, IpColumn, NumColumn, NumValues, StrColumn,
+    coerce_to_i64, coerce_to_u64,
+};
 use col_types::{ColumnType, NumericalType};
 use col_values::ColumnValues;
 

@@ -5,14 +5,14 @@
 
 mod dynamic_column;
 
-pub use col_column::{
-    Column, DocValues, FirstValueWithDefault, IpColumn, IpValues, NumColumn,
-    lookups_are_those_of_cells, open_column_u64, open_column_u128, open_column_u128_as_compact_u64,
-    open_term_ords, serialize_column_mappable_to_u64, serialize_column_mappable_to_u128,
+pub use col_text::{
+    BytesColumn, Column, DocValues, FirstValueWithDefault, IpColumn, IpValues, MapI64ToU64,
+    MapU64ToI64, NumColumn, NumValues, StrColumn, Version, cut_dictionary,
+    lookups_are_those_of_cells, open_column_bytes, open_column_str, open_column_u64,
+    open_column_u128, open_column_u128_as_compact_u64, open_term_ords,
+    serialize_column_mappable_to_u64, serialize_column_mappable_to_u128,
     serialize_generated_tie_breaker_column,
 };
-pub use col_numbers::{MapI64ToU64, MapU64ToI64};
-pub use col_text::{BytesColumn, StrColumn, open_column_bytes, open_column_str};
 pub use col_types::{
     Coerce, ColumnSpaceUsage, ColumnType, HasAssociatedColumnType, NumericalType, NumericalValue,
     StoredAsU64, StoredAsU128, TermBytes, accepted_numbers_fit,

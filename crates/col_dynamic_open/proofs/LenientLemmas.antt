@@ -10,10 +10,10 @@ use Rattle.col_common.specs.Decoding.{Refuses, Decodes}
 use Rattle.col_common.specs.Reading.{◌>>=◌, only_if, parts_by_first}
 use Rattle.col_common.specs.declared.error.ColumnarError.{ColumnarError}
 use Rattle.col_common.proofs.DecodingLemmas.{refuses-as}
-use Rattle.col_column.specs.Columns.{Seen, IsCounted, counts_by, rows_by, content_seen}
-use Rattle.col_column.specs.Opened.{counted_rows, codes_behind}
+use Rattle.col_dynamic.specs.Columns.{Seen, IsCounted, counts_by, rows_by, content_seen}
+use Rattle.col_dynamic.specs.Opened.{counted_rows, codes_behind}
 use Rattle.col_compact.specs.Coded.{Coded, numbers_of}
-use Rattle.col_index.specs.Offsets.{cardinality_in}
+use Rattle.col_dynamic.specs.Offsets.{cardinality_in}
 use Rattle.col_common.specs.Ascending.{are_below}
 use Rattle.col_model.specs.AddressList.{coded_number}
 use Rattle.col_model.specs.Column.{number_rows, term_column, number_cell, cut_content, column}
@@ -24,13 +24,13 @@ use Rattle.col_model.specs.Images.{is_image_of_bool}
 use Rattle.col_model.specs.Index.{Counts, Shape, counts}
 use Rattle.col_model.specs.Table.{Content}
 use Rattle.col_model.specs.U64List.{values64}
-use Rattle.col_numbers.specs.NumValues.{num_values_of}
-use Rattle.col_numbers.specs.declared.num_values.NumValues.{NumValues}
-use Rattle.col_text.specs.Texts.{texts_content}
-use Rattle.col_column.proofs.CellLemmas.{cut-map}
-use Rattle.col_column.proofs.OpenSeenLemmas.{all-pass}
-use Rattle.col_text.proofs.OpenTextLemmas.{all-cut, all-rows, texts-as-bytes, ordinals-below}
-use Rattle.col_text.proofs.OpenTextLemmas as opened
+use Rattle.col_dynamic.specs.NumValues.{num_values_of}
+use Rattle.col_dynamic.specs.NumValuesType.{NumValues}
+use Rattle.col_dynamic.specs.Texts.{texts_content}
+use Rattle.col_dynamic.proofs.CellLemmas.{cut-map}
+use Rattle.col_dynamic.proofs.OpenSeenLemmas.{all-pass}
+use Rattle.col_dynamic.proofs.OpenTextLemmas.{all-cut, all-rows, texts-as-bytes, ordinals-below}
+use Rattle.col_dynamic.proofs.OpenTextLemmas as opened
 use Rattle.col_dynamic.proofs.CoercionLemmas.{maps}
 use Rattle.col_dynamic_open.specs.Contents.{DecodesTo}
 use Rattle.col_dynamic_open.specs.Lenient.{IsInPlaceOf, codes_spelled, seen_as}

@@ -1,2 +1,3 @@
+pub use Rattle.col_dynamic.proofs.RowLemmas
 mod LenientLemmas
 mod DecodesLemmas

@@ -4,11 +4,11 @@ use Rattle.col_common.specs.Ascending.{AreBelow}
 use Rattle.col_model.specs.ColumnType.{ColumnType, has_terms, same_type}
 use Rattle.col_model.specs.ColumnType as types
 use Rattle.col_model.specs.Table.{Content}
-use Rattle.col_column.specs.Columns.{Seen, content_seen}
-use Rattle.col_column.specs.Opened.{codes_behind}
+use Rattle.col_dynamic.specs.Columns.{Seen, content_seen}
+use Rattle.col_dynamic.specs.Opened.{codes_behind}
 use Rattle.col_compact.specs.Coded.{Coded}
 use Rattle.col_dynamic_open.specs.LenientValues.{lenient_values_of, are_codes, lenient_cell}
-use Rattle.col_numbers.specs.declared.num_values.NumValues.{NumValues}
+use Rattle.col_dynamic.specs.NumValuesType.{NumValues}
 use Rattle.col_dynamic_open.specs.declared.lenient.LenientValues.{LenientValues}
 use Rattle.col_dynamic_open.specs.declared.lenient.LenientValues.TheVariants.{Num}
 

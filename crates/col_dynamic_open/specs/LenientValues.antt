@@ -7,8 +7,8 @@ use Rattle.col_model.specs.ColumnType.{ColumnType}
 use Rattle.col_model.specs.ColumnType as types
 use Rattle.col_model.specs.Stats.{least_of, greatest_of}
 use Rattle.col_model.specs.Table.{Cell}
-use Rattle.col_numbers.specs.NumValues.{num_values_of}
-use Rattle.col_numbers.specs.NumValues as numbers
+use Rattle.col_dynamic.specs.NumValues.{num_values_of}
+use Rattle.col_dynamic.specs.NumValues as numbers
 use Rattle.col_values.specs.Codes.{number_cmp}
 use Rattle.col_dynamic_open.specs.declared.lenient.LenientValues.{LenientValues}
 use Rattle.col_dynamic_open.specs.declared.lenient.LenientValues.TheVariants.{Num, Compact}

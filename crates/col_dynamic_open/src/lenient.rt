@@ -1,10 +1,9 @@
 //! Lists of numbers in place of values of any type.
 ghost use Rattle.std.specs.Prelude.{◌≤◌, length, drop};
 
-use col_column::Column;
 use col_common::{ColumnarError, Iterable, RowId, Walk};
 use col_compact::CompactSpaceU64Accessor;
-use col_numbers::NumValues;
+use col_dynamic::{Column, NumValues};
 use col_values::ColumnValues;
 use std::ops::Range;
 

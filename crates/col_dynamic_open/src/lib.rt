@@ -7,6 +7,7 @@ mod open;
 mod open_lenient;
 mod usage;
 
+pub use col_dynamic::{ColumnSpaceUsage, ColumnType, DynamicColumn, Version};
 pub use lenient::{LenientColumn, LenientValues};
 pub use open::open_column;
 pub use open_lenient::open_column_u64_lenient;

@@ -2,17 +2,16 @@
 ghost use Rattle.std.specs.Prelude.{◌≡◌, IfOk};
 ghost use Rattle.col_common.specs.Decoding.{Decodes};
 ghost use Rattle.col_dynamic.specs.Dynamic.{type_of, content_of};
-ghost use Rattle.col_index.specs.Versions.{version_number};
+ghost use Rattle.col_dynamic.specs.Versions.{version_number};
 ghost use Rattle.col_model.specs.Column.{column};
 ghost use Rattle.col_types.specs.Kinds.{kind_of};
 
 use bytes::Bytes;
 use col_common::{ColumnarError, DateTime, RowId};
 use col_dynamic::{
-    ColumnType, DynamicColumn, open_column_bytes, open_column_str, open_column_u64,
+    ColumnType, DynamicColumn, Version, open_column_bytes, open_column_str, open_column_u64,
     open_column_u128,
 };
-use col_index::Version;
 use std::alloc::Global;
 
 /// Reads a column of so many rows of a type. It answers InvalidData exactly where the bytes are no

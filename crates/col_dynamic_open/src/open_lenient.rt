@@ -2,14 +2,14 @@
 ghost use Rattle.std.specs.Prelude.{◌≡◌, length, option_map, IfOk};
 ghost use Rattle.col_common.specs.Decoding.{Decodes};
 ghost use Rattle.col_common.specs.Reading.{only_if};
-ghost use Rattle.col_column.specs.Columns.{IsCounted};
-ghost use Rattle.col_column.specs.Opened.{codes_behind};
-ghost use Rattle.col_index.specs.Versions.{version_number};
+ghost use Rattle.col_dynamic.specs.Columns.{IsCounted};
+ghost use Rattle.col_dynamic.specs.Opened.{codes_behind};
+ghost use Rattle.col_dynamic.specs.Versions.{version_number};
 ghost use Rattle.col_model.specs.Column.{column};
 ghost use Rattle.col_model.specs.ColumnType as types;
 ghost use Rattle.col_common.specs.Ascending.{are_below};
 ghost use Rattle.col_model.specs.Dictionary.{terms};
-ghost use Rattle.col_numbers.specs.NumValues.{num_values_of};
+ghost use Rattle.col_dynamic.specs.NumValues.{num_values_of};
 ghost use Rattle.col_types.specs.Kinds.{kind_of};
 ghost use Rattle.col_dynamic_open.specs.Contents.{DecodesTo};
 ghost use Rattle.col_dynamic_open.specs.Lenient.{IsInPlaceOf, codes_spelled, seen_as};
@@ -17,13 +17,12 @@ ghost use Rattle.col_dynamic_open.specs.LenientValues.{codes_of};
 
 use crate::lenient::{LenientColumn, LenientValues};
 use bytes::Bytes;
-use col_column::{Column, NumColumn, open_term_ords};
 use col_common::{ColumnarError, RowId};
-use col_dynamic::{ColumnType, open_column_u128_as_compact_u64};
-use col_index::Version;
-use col_numbers::NumValues;
+use col_dynamic::{
+    Column, ColumnType, NumColumn, NumValues, Version, cut_dictionary,
+    open_column_u128_as_compact_u64, open_term_ords,
+};
 use col_terms::Dictionary;
-use col_text::cut_dictionary;
 use col_values::ColumnValues;
 use std::alloc::Global;
 

@@ -8,9 +8,9 @@ use Rattle.col_common.specs.Decoding.{Decodes}
 use Rattle.col_common.specs.Reading.{◌>>=◌, only_if, parts_by_first}
 use Rattle.col_common.specs.declared.error.ColumnarError.{ColumnarError}
 use Rattle.col_common.specs.declared.error.ColumnarError.TheVariants.{OutOfMemory, InvalidData}
-use Rattle.col_column.specs.Columns.{Seen, row_count}
-use Rattle.col_dynamic.specs.Dynamic.{type_of, content_of, dynamic_shape, value_count}
-use Rattle.col_dynamic.specs.declared.dynamic_column.DynamicColumn.{DynamicColumn}
+use Rattle.col_dynamic_open.specs.Columns.{Seen, row_count}
+use Rattle.col_dynamic_open.specs.Dynamic.{type_of, content_of, dynamic_shape, value_count}
+use Rattle.col_dynamic_open.specs.DynamicColumnType.{DynamicColumn}
 use Rattle.col_common.specs.Ascending.{are_below}
 use Rattle.col_model.specs.Column.{number_cell, term_cell, number_rows, cut_content as content_from, term_column, column}
 use Rattle.col_model.specs.ColumnType.{ColumnType, has_terms}
@@ -29,7 +29,7 @@ use Rattle.col_file.specs.Columns.{IsTyped, HasContent, HasCodesSpelled, bytes_a
 use Rattle.col_common.specs.Outside.{SeenFile}
 use Rattle.col_file.specs.Files.{IsExpected, AnswersForHandle}
 use Rattle.col_file.specs.Handles.{Handle}
-use Rattle.col_dynamic.proofs.RowLemmas.{seen-rows}
+use Rattle.col_dynamic_open.proofs.RowLemmas.{seen-rows}
 
 -- rows that are read are as many as are told
 read-rows : (bytes : List ℕ) (t : ColumnType) (version n : ℕ) (p : Counts × List (List ℕ)) (cell : ℕ → Cell)

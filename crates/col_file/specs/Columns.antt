@@ -1,9 +1,9 @@
 -- Columns that are opened by their handles.
 use Rattle.std.specs.Prelude.{◌≡◌, ◌-◌, ℕ, List, Option, IfSome, slice_range}
 use Rattle.col_common.specs.Reading.{◌>>=◌, only_if}
-use Rattle.col_column.specs.Columns.{row_count}
-use Rattle.col_dynamic.specs.Dynamic.{type_of, content_of, dynamic_shape, value_count}
-use Rattle.col_dynamic.specs.declared.dynamic_column.DynamicColumn.{DynamicColumn}
+use Rattle.col_dynamic_open.specs.Columns.{row_count}
+use Rattle.col_dynamic_open.specs.Dynamic.{type_of, content_of, dynamic_shape, value_count}
+use Rattle.col_dynamic_open.specs.DynamicColumnType.{DynamicColumn}
 use Rattle.col_model.specs.Column.{column}
 use Rattle.col_model.specs.ColumnType.{ColumnType}
 use Rattle.col_model.specs.Keys.{FileKeys}

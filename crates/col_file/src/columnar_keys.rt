@@ -1,7 +1,7 @@
 //! What the end of a file says, and its columns by their names.
 ghost use Rattle.std.specs.Prelude.{◌≡◌, ◌<◌, ◌≤◌, ◌^◌, Some, true, length, map, option_and_then, option_map, slice_get, slice_range, string_bytes, bytes_eq, nat_eq, IfOk, is_some};
 ghost use Rattle.std.specs.List.{list_any, starts_with};
-ghost use Rattle.col_index.specs.Versions.{version_number};
+ghost use Rattle.col_dynamic_open.specs.Versions.{version_number};
 ghost use Rattle.col_keys.specs.KeyTables.{all_keyed, keys_seen};
 ghost use Rattle.col_model.specs.Keys.{entries_from, total_length, are_keys};
 ghost use Rattle.col_file.specs.Entries.{entry_of};
@@ -14,8 +14,7 @@ use crate::column_entry::ColumnEntry;
 use crate::dynamic_column_handle::DynamicColumnHandle;
 use crate::entries::entries_of;
 use col_common::RowId;
-use col_dynamic::ColumnType;
-use col_index::Version;
+use col_dynamic_open::{ColumnType, Version};
 use col_keys::KeyedLength;
 use std::alloc::{AllocError, Global};
 use std::marker::Model;
@@ -31,7 +30,7 @@ pub(crate) struct ColumnarKeys {
 
 impl Model for ColumnarKeys {
     ghost use Rattle.std.specs.Prelude.{◌≡◌, true, map};
-    ghost use Rattle.col_index.specs.Versions.{version_number};
+    ghost use Rattle.col_dynamic_open.specs.Versions.{version_number};
     ghost use Rattle.col_model.specs.Keys.{FileKeys, are_keys};
     ghost use Rattle.col_file.specs.Entries.{entries_seen};
 

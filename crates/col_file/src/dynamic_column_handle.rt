@@ -6,7 +6,7 @@ ghost use Rattle.col_file.specs.Handles.{handle_of, is_at};
 
 use crate::column_entry::ColumnEntry;
 use col_common::ByteCount;
-use col_dynamic::ColumnType;
+use col_dynamic_open::ColumnType;
 use std::alloc::AllocError;
 use std::marker::Model;
 

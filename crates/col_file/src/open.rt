@@ -1,6 +1,6 @@
 //! Opens the columns of handles.
 ghost use Rattle.std.specs.Prelude.{◌≡◌, false, Err, IfOk};
-ghost use Rattle.col_dynamic.specs.Dynamic.{type_of, content_of};
+ghost use Rattle.col_dynamic_open.specs.Dynamic.{type_of, content_of};
 ghost use Rattle.col_dynamic_open.specs.Contents.{usage_of};
 ghost use Rattle.col_dynamic_open.specs.Lenient.{IsInPlaceOf};
 ghost use Rattle.col_file.specs.Columns.{content_at, HasCodesSpelled, HasContent, IsTyped};
@@ -12,8 +12,10 @@ ghost use Rattle.col_file.specs.Usages.{TellsUsage};
 use crate::dynamic_column_handle::DynamicColumnHandle;
 use crate::reader::ColumnarReader;
 use col_common::{ColumnarError, FileHandle};
-use col_dynamic::{ColumnSpaceUsage, DynamicColumn};
-use col_dynamic_open::{LenientColumn, open_column, open_column_u64_lenient, space_usage_of};
+use col_dynamic_open::{
+    ColumnSpaceUsage, DynamicColumn, LenientColumn, open_column, open_column_u64_lenient,
+    space_usage_of,
+};
 use std::alloc::Global;
 
 impl DynamicColumnHandle {

@@ -1,7 +1,7 @@
 //! Open files.
 ghost use Rattle.std.specs.Prelude.{◌≡◌, ◌<◌, false, length, map, option_and_then, option_map, is_some, slice_get, string_bytes, Some, Err, IfOk, IfErr};
 ghost use Rattle.std.specs.List.{AllByRecursion};
-ghost use Rattle.col_index.specs.Versions.{version_number};
+ghost use Rattle.col_dynamic_open.specs.Versions.{version_number};
 ghost use Rattle.col_file.specs.Columns.{bytes_at};
 ghost use Rattle.col_file.specs.Files.{AnswersForHandle};
 ghost use Rattle.col_file.specs.Handles.{handle_of, listed, is_entry, entry_typed, entries_named, entries_below};
@@ -15,8 +15,7 @@ use crate::path::front_of_path;
 use crate::reading::{read_keys, read_part};
 use bytes::Bytes;
 use col_common::{ColumnarError, FileHandle, RowId};
-use col_dynamic::ColumnType;
-use col_index::Version;
+use col_dynamic_open::{ColumnType, Version};
 use std::alloc::Global;
 use std::fmt;
 use std::marker::Model;

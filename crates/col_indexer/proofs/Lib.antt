@@ -1,3 +1,7 @@
+pub use Rattle.col_index.proofs.CountLaws
+pub use Rattle.col_index.proofs.IndexedLaws
+pub use Rattle.col_index.proofs.RowsLaws
+pub use Rattle.col_index.proofs.RankLaws
 pub mod CountedLemmas
 pub mod SegmentCountLemmas
 pub mod SegmentLemmas

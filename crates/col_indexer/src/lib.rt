@@ -18,6 +18,7 @@ mod start_offsets;
 mod value_index;
 mod writing_laws;
 
+pub use col_index::{Cardinality, ColumnIndex, Version, open_column_index};
 pub use merge::{merge_column_index, merge_column_index_shuffled, merge_column_index_stacked};
 pub use row_ids::RowIds;
 pub use serialize::{

@@ -1,3 +1,4 @@
+pub use Rattle.col_merge_slot.proofs.SlotLemmas
 mod StackLemmas
 pub mod JoinedLemmas
 mod EachLemmas

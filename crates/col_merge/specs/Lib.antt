@@ -1,3 +1,5 @@
+pub use Rattle.col_merge_slot.specs.JoinedSlots
+pub use Rattle.col_merge_slot.specs.Segments
 pub mod Parts
 pub mod Readings
 pub mod Opened

@@ -1,3 +1,4 @@
+pub use Rattle.col_merge_values.proofs.MergedRowLemmas
 mod CountLemmas
 mod SingleLemmas
 mod LimitLemmas

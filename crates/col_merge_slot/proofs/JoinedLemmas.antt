@@ -24,8 +24,8 @@ use Rattle.col_column.specs.Columns.{content_seen}
 use Rattle.col_types.specs.Kinds.{kind_of}
 use Rattle.col_types.specs.declared.column_type.ColumnType.{ColumnType}
 use Rattle.col_dynamic.specs.declared.dynamic_column.DynamicColumn.{DynamicColumn}
-use Rattle.col_merge_values.proofs.MergedRowLemmas.{picks-there}
-use Rattle.col_merge_values.specs.Merges.{SegmentColumns, segment_shape, segment_values, merge_of}
+use Rattle.col_merge_column.proofs.MergedRowLemmas.{picks-there}
+use Rattle.col_merge_column.specs.Merges.{SegmentColumns, segment_shape, segment_values, merge_of}
 use Rattle.col_merge_column.specs.Joins.{picked_content, JoinsColumn}
 use Rattle.col_merge_column.specs.Slots.{AreNoTexts, IsKeptAs, AreKeptAs, PickedContentIsJoined}
 use Rattle.col_common.proofs.OnOkLemmas.{same-error}

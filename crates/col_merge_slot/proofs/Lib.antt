@@ -1,3 +1,4 @@
+pub use Rattle.col_merge_column.proofs.SlotLemmas
 pub mod SegmentLemmas
 mod CauseLemmas
 mod TakenLemmas

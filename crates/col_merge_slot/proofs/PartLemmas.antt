@@ -28,8 +28,8 @@ use Rattle.col_column.proofs.CellLemmas.{row-map}
 use Rattle.col_dynamic.specs.Dynamic.{content_of, dynamic_shape, value_count}
 use Rattle.col_dynamic.specs.declared.dynamic_column.DynamicColumn.{DynamicColumn}
 use Rattle.col_dynamic.specs.declared.dynamic_column.DynamicColumn.TheVariants as columns
-use Rattle.col_merge_values.proofs.MergedRowLemmas.{row-length}
-use Rattle.col_merge_values.specs.Merges.{FitsShape}
+use Rattle.col_merge_column.proofs.MergedRowLemmas.{row-length}
+use Rattle.col_merge_column.specs.Merges.{FitsShape}
 use Rattle.col_merge_slot.specs.JoinedSlots.{part_seen, AreOpened, AreKept}
 use Rattle.col_merge_slot.specs.Kept.{has_value, keeps, kept_flags, IsCountedBy, IsCountedIn}
 use Rattle.col_merge_slot.specs.Segments.{where_set, kept_of, column_seen, IsOfCategory, HaveRows}

@@ -17,7 +17,7 @@ use Rattle.col_column.specs.Columns.{row_count, content_seen}
 use Rattle.col_dynamic.specs.Dynamic.{type_of, content_of, dynamic_shape, value_count}
 use Rattle.col_dynamic.specs.declared.dynamic_column.DynamicColumn.{DynamicColumn}
 use Rattle.col_values.specs.Values.{passes}
-use Rattle.col_merge_values.specs.Merges.{columns_by}
+use Rattle.col_merge_column.specs.Merges.{columns_by}
 use Rattle.col_merge_slot.specs.Segments.{where_set, column_seen, IsOfCategory, HaveRows, same_category, is_read_as, is_none_or, IsPart, AreParts, AreSegmentColumns}
 
 -- ---- what is kept

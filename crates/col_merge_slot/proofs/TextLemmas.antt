@@ -36,11 +36,11 @@ use Rattle.col_column.specs.Columns.{rows_by, row_at, num_docs_in}
 use Rattle.col_column.proofs.CellLemmas.{row-map}
 use Rattle.col_text.specs.Texts.{Texts, texts_content}
 use Rattle.col_dynamic.specs.declared.dynamic_column.DynamicColumn.{DynamicColumn}
-use Rattle.col_merge_texts.specs.Items.{terms_of}
-use Rattle.col_merge_values.proofs.MergedRowLemmas.{picks-there, slice_get-first}
-use Rattle.col_merge_values.specs.Merges.{FitsShape}
+use Rattle.col_merge_column.specs.Items.{terms_of}
+use Rattle.col_merge_column.proofs.MergedRowLemmas.{picks-there, slice_get-first}
+use Rattle.col_merge_column.specs.Merges.{FitsShape}
 use Rattle.col_merge_column.specs.Joins.{JoinsColumn}
-use Rattle.col_merge_texts.specs.Merged.{shapes_of, picked_cells, merged_content}
+use Rattle.col_merge_column.specs.Merged.{shapes_of, picked_cells, merged_content}
 use Rattle.col_merge_column.proofs.SlotLemmas.{any-none}
 use Rattle.col_merge_slot.specs.JoinedSlots.{AreKept, IsJoinedContent, WritesSlot}
 use Rattle.col_merge_slot.specs.Segments.{column_seen}

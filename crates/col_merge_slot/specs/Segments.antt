@@ -12,7 +12,7 @@ use Rattle.col_model.specs.U64List.{joined_lists}
 use Rattle.col_column.specs.Columns.{IsCounted, row_count, content_seen}
 use Rattle.col_dynamic.specs.Dynamic.{type_of, content_of, dynamic_shape, value_count}
 use Rattle.col_dynamic.specs.declared.dynamic_column.DynamicColumn.{DynamicColumn}
-use Rattle.col_merge_values.specs.Merges.{SegmentColumns, segment_shape, segment_values, AreColumns}
+use Rattle.col_merge_column.specs.Merges.{SegmentColumns, segment_shape, segment_values, AreColumns}
 
 -- what is there, and has its flag set
 abbrev pub where_set : {A : Type 0} → List (Option A) → List Bool → List (Option A)

@@ -10,7 +10,7 @@ ghost use Rattle.col_column.specs.Columns.{row_count, content_seen};
 ghost use Rattle.col_column.specs.IpValues.{ip_values_of};
 ghost use Rattle.col_dynamic.specs.Dynamic.{content_of, dynamic_shape, value_count};
 ghost use Rattle.col_dynamic.specs.declared.dynamic_column.DynamicColumn.TheVariants as columns;
-ghost use Rattle.col_merge_values.specs.Merges.{columns_by};
+ghost use Rattle.col_merge_column.specs.Merges.{columns_by};
 ghost use Rattle.col_merge_slot.specs.Segments.{where_set, kept_of, HaveRows, is_read_as, IsPart, AreSegmentColumns, IsRefusedFor};
 ghost use Rattle.col_merge_slot.specs.Taken.{TakesKept};
 

@@ -1,3 +1,4 @@
+pub use Rattle.col_codecs.proofs.BlockReaderLemmas
 pub mod ChoiceLemmas
 pub mod CoercionLemmas
 pub mod CollectingLemmas

@@ -21,7 +21,7 @@ use Rattle.col_model.proofs.RefusalLaws.{bind-ok, refuse_if-ok, same_Ok}
 use Rattle.col_model.proofs.SeenLaws.{not-zero}
 use Rattle.col_model.proofs.SharedTypes.{some≢none, same-some}
 use Rattle.col_model.proofs.SlotLaws.{slots_total}
-use Rattle.col_merge_column.proofs.SlotLemmas.{any-none}
+use Rattle.col_merge.proofs.SlotLemmas.{any-none}
 
 -- sums with nothing and with one
 pub add_none : (n : ℕ) → n + 0 ≡ n

@@ -6,8 +6,8 @@ use Rattle.col_dynamic.specs.Dynamic.{type_of, content_of}
 use Rattle.col_dynamic.specs.declared.dynamic_column.DynamicColumn.{DynamicColumn}
 use Rattle.col_file.specs.Readers.{SeenReader}
 use Rattle.col_merge.specs.Opened.{AllOpenedAs, IsOpenedAs}
-use Rattle.col_merge_slot.specs.JoinedSlots.{part_seen}
-use Rattle.col_merge_slot.specs.Segments.{column_seen}
+use Rattle.col_merge.specs.JoinedSlots.{part_seen}
+use Rattle.col_merge.specs.Segments.{column_seen}
 use Rattle.col_model.specs.Category.{Slot, slot_of, category_of, same_slot}
 use Rattle.col_model.specs.ColumnType.{ColumnType}
 use Rattle.col_model.specs.File.{whole_column}

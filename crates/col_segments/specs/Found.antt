@@ -2,7 +2,7 @@
 use Rattle.std.specs.Prelude.{◌≡◌, ℕ, Bool, true, List, Option, find, length, option_map, IfSome}
 use Rattle.col_dynamic.specs.Dynamic.{type_of, content_of}
 use Rattle.col_dynamic.specs.declared.dynamic_column.DynamicColumn.{DynamicColumn}
-use Rattle.col_merge_slot.specs.Segments.{column_seen}
+use Rattle.col_merge.specs.Segments.{column_seen}
 use Rattle.col_model.specs.Category.{Slot, slot_of, same_slot}
 use Rattle.col_model.specs.ColumnType.{ColumnType}
 use Rattle.col_model.specs.Table.{Table}

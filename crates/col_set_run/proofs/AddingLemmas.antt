@@ -6,7 +6,7 @@ use Rattle.col_model.specs.Refusal.{Refusal, ◌>>=◌, refuse_if, or_refuse, in
 use Rattle.col_model.specs.Table.{Table}
 use Rattle.col_program.specs.Outcome.{segment_table}
 use Rattle.col_program.specs.Script.{Segment}
-use Rattle.col_segments.specs.Segments.{HeldTable, added_file, alive_count, all_alive, appended, with_more}
+use Rattle.col_set.specs.Segments.{HeldTable, added_file, alive_count, all_alive, appended, with_more}
 use Rattle.col_set_run.specs.Outcome.{with_segment, with_table}
 
 -- a file that stands for a table is added as the table is

@@ -8,9 +8,9 @@ use Rattle.col_model.specs.Refusal.{Refusal, status_of, bad_order, too_large}
 use Rattle.col_program.specs.Outcome.{segment_table}
 use Rattle.col_program.specs.Script.{Segment}
 use Rattle.col_script.proofs.RefusalLemmas.{Allows, AllowsSegments, allows-then, allows-test, allows-segment}
-use Rattle.col_segments.specs.Compaction.{CompactsOrConflicts, IsCompactRefusal}
-use Rattle.col_segments.specs.Live.{compacted}
-use Rattle.col_segments.specs.Segments.{HeldTable, alive_count, all_alive, are_places, without}
+use Rattle.col_set.specs.Compaction.{CompactsOrConflicts, IsCompactRefusal}
+use Rattle.col_set.specs.Live.{compacted}
+use Rattle.col_set.specs.Segments.{HeldTable, alive_count, all_alive, are_places, without}
 use Rattle.col_set_run.specs.Outcome.{after_step, with_segment, with_table}
 use Rattle.col_set_run.specs.Running.{step_refusals, step_statuses}
 use Rattle.col_set_script.specs.SetScripts.{SetStep, add, drop_rows, merge_all, find_rows}

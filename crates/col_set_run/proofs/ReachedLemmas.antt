@@ -2,7 +2,7 @@
 use Rattle.std.proofs.Common.{◌≡◌, ◌∙◌, List, [], ◌∷◌, ◌++◌, Result, Ok, Err, refl, sym, ap, append_assoc}
 use Rattle.col_model.specs.Refusal.{Refusal, ◌>>=◌}
 use Rattle.col_model.proofs.RefusalLaws.{same_Ok, err_not_ok}
-use Rattle.col_segments.specs.Segments.{HeldTable}
+use Rattle.col_set.specs.Segments.{HeldTable}
 use Rattle.col_set_run.specs.Outcome.{after_step, found_lines, held_before, of_tables, reached, step_lines}
 use Rattle.col_set_script.specs.SetScripts.{SetStep}
 

@@ -7,7 +7,7 @@ use Rattle.col_common.proofs.OnOkLemmas.{same-error}
 use Rattle.col_disk.specs.Disks.{SeenDisk}
 use Rattle.col_disk.proofs.Moments.{started}
 use Rattle.col_model.specs.Refusal.{Refusal, invalid_data, bad_order, bad_name, required_conflict, cannot_coerce, numerical_conflict, too_large, forced_type, doc_order, doc_out_of_range, tie_breaker_start}
-use Rattle.col_segments.specs.Segments.{HeldTable}
+use Rattle.col_set.specs.Segments.{HeldTable}
 use Rattle.col_set.specs.Sets.{SeenSet, ChangesSet, EachStands, IsBeforeOrGiven}
 use Rattle.col_set.proofs.LeaveLemmas.{if_told}
 use Rattle.col_writer_columns.specs.Answers.{answer_of, MayRefuse}

@@ -12,7 +12,7 @@ use Rattle.col_disk.proofs.Moments.{started, joins}
 use Rattle.col_model.specs.Refusal.{Refusal, ◌>>=◌}
 use Rattle.col_program.specs.Report.{Prints}
 use Rattle.col_program.proofs.ReportLaws.{Prints-none, Prints-then}
-use Rattle.col_segments.specs.Segments.{HeldTable}
+use Rattle.col_set.specs.Segments.{HeldTable}
 use Rattle.col_set.specs.Held.{held_by}
 use Rattle.col_set.specs.Sets.{SeenSet, EachStands, IsBeforeOrGiven, ChangesSet}
 use Rattle.col_set.proofs.LeaveLemmas.{if_told, retold}

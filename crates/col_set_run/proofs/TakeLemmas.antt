@@ -9,9 +9,9 @@ use Rattle.col_program.specs.Report.{Prints}
 use Rattle.col_program.proofs.ReportLaws.{Prints-none}
 use Rattle.col_program.specs.Script.{Segment}
 use Rattle.col_script.specs.Segments.{Filled, filled}
-use Rattle.col_segments.specs.Compaction.{CompactsOrConflicts}
-use Rattle.col_segments.specs.Live.{compacted}
-use Rattle.col_segments.specs.Segments.{HeldTable, dropped}
+use Rattle.col_set.specs.Compaction.{CompactsOrConflicts}
+use Rattle.col_set.specs.Live.{compacted}
+use Rattle.col_set.specs.Segments.{HeldTable, dropped}
 use Rattle.col_set.specs.Sets.{SeenSet, ChangesSet, EachStands}
 use Rattle.col_set_run.specs.Outcome.{after_step, line_of, step_lines, with_segment}
 use Rattle.col_set_run.specs.Running.{IsStepAnswer, TakesStep}

@@ -8,9 +8,9 @@ use Rattle.col_program.specs.Outcome.{segment_table}
 use Rattle.col_program.specs.Queries.{end_of_cell}
 use Rattle.col_program.specs.Report.{list_data, count_data}
 use Rattle.col_program.specs.Script.{Segment}
-use Rattle.col_segments.specs.Found.{places_between}
-use Rattle.col_segments.specs.Live.{compacted, live, merged_alive}
-use Rattle.col_segments.specs.Segments.{HeldTable, alive_count, all_alive, dropped}
+use Rattle.col_set.specs.Found.{places_between}
+use Rattle.col_set.specs.Live.{compacted, live, merged_alive}
+use Rattle.col_set.specs.Segments.{HeldTable, alive_count, all_alive, dropped}
 use Rattle.col_set_script.specs.SetScripts.{Lookup, SetStep, add, drop_rows, merge_all, find_rows}
 
 -- the tables with one more behind them, all of whose rows are alive

@@ -8,7 +8,7 @@ use Rattle.col_disk.specs.Crash.{LeavesOnly}
 use Rattle.col_disk.specs.Disks.{SeenDisk, TellsAlike}
 use Rattle.col_model.specs.Refusal.{Refusal}
 use Rattle.col_program.specs.Report.{Prints}
-use Rattle.col_segments.specs.Segments.{HeldTable}
+use Rattle.col_set.specs.Segments.{HeldTable}
 use Rattle.col_set.specs.Held.{held_by}
 use Rattle.col_set.specs.Sets.{SeenSet, ChangesSet, EachStands}
 use Rattle.col_set_run.specs.Outcome.{after_step, found_lines, held_before, reached, step_lines}

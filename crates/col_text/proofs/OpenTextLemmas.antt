@@ -15,8 +15,8 @@ use Rattle.col_model.specs.Column.{number_rows, term_column, column}
 use Rattle.col_model.specs.ColumnType as types
 use Rattle.col_model.specs.Dictionary.{cut, terms}
 use Rattle.col_model.specs.Index.{Shape}
-use Rattle.col_numbers.specs.NumValues.{num_values_of}
-use Rattle.col_numbers.specs.declared.num_values.NumValues.{NumValues}
+use Rattle.col_column.specs.NumValues.{num_values_of}
+use Rattle.col_column.specs.NumValuesType.{NumValues}
 use Rattle.col_terms.proofs.TableLemmas.{table_ascending, table_counted}
 use Rattle.col_terms.specs.TermTable.{terms_of}
 use Rattle.col_values.specs.Codes.{number_cmp}

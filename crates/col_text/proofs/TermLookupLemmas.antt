@@ -14,7 +14,7 @@ use Rattle.col_model.specs.Index.{Shape}
 use Rattle.col_model.specs.Lookup as lookup
 use Rattle.col_model.specs.Positions.{start_of}
 use Rattle.col_model.specs.Table.{Cell, text}
-use Rattle.col_numbers.specs.NumValues.{num_values_of}
+use Rattle.col_column.specs.NumValues.{num_values_of}
 use Rattle.col_values.specs.Codes.{number_cmp}
 use Rattle.col_values.specs.Values as values
 use Rattle.col_model.proofs.ListLaws.{filter-none}

@@ -9,8 +9,8 @@ use Rattle.col_model.specs.Column.{term_cell}
 use Rattle.col_model.specs.Lookup.{is_at_most}
 use Rattle.col_model.specs.Table.{Content, text}
 use Rattle.col_column.specs.Columns.{Seen, content_seen}
-use Rattle.col_numbers.specs.NumValues.{num_values_of}
-use Rattle.col_numbers.specs.declared.num_values.NumValues.{NumValues}
+use Rattle.col_column.specs.NumValues.{num_values_of}
+use Rattle.col_column.specs.NumValuesType.{NumValues}
 
 -- the terms, and the column of their ordinals
 pub record Texts : Type 0 where

@@ -7,12 +7,11 @@ ghost use Rattle.col_model.specs.Index.{empty_shape};
 ghost use Rattle.col_model.specs.Lookup.{docs_between};
 ghost use Rattle.col_model.specs.Table.{text};
 ghost use Rattle.col_column.specs.Columns.{IsCounted, rows_of_values, num_docs_in, row_at};
-ghost use Rattle.col_numbers.specs.NumValues.{num_values_of};
+ghost use Rattle.col_column.specs.NumValues.{num_values_of};
 ghost use Rattle.col_text.specs.Texts.{AreOrdinals, StartAt, EndAt, texts_content};
 
-use col_column::{Column, DocValues, NumColumn};
+use col_column::{Column, DocValues, NumColumn, NumValues};
 use col_common::{ColumnarError, DocId, RowId};
-use col_numbers::NumValues;
 use col_terms::{Dictionary, TermOrdHit};
 use std::marker::Model;
 use std::ops::Range;

@@ -17,8 +17,8 @@ use Rattle.col_model.specs.Dictionary.{cut}
 use Rattle.col_model.specs.Limits.{tightest}
 use Rattle.col_model.specs.U64List.{joined_lists}
 use Rattle.col_model.specs.Version.{current_version}
-use Rattle.col_indexer.specs.Counted.{tightest_of}
-use Rattle.col_indexer.proofs.TightestLemmas.{tightest-counts}
+use Rattle.col_column.specs.Counted.{tightest_of}
+use Rattle.col_column.proofs.TightestLemmas.{tightest-counts}
 use Rattle.col_column.specs.Written.{Stores64}
 use Rattle.col_model.proofs.CutLaws.{lengths-map, cut-joined}
 use Rattle.col_writer_rows.specs.Counted.{counts_of_rows, SerializesCounted, SerializesColumn}

@@ -17,20 +17,20 @@ use Rattle.col_model.specs.Dictionary.{cut}
 use Rattle.col_model.specs.Positions.{rows_with_value, starts_of}
 use Rattle.col_model.specs.Table as tables
 use Rattle.col_model.specs.Version.{current_version}
-use Rattle.col_index.specs.declared.cardinality.Cardinality.{Cardinality}
-use Rattle.col_index.specs.declared.cardinality.Cardinality.TheVariants.{Full, Optional, Multivalued}
-use Rattle.col_index.specs.Versions.{cardinality_of}
-use Rattle.col_index.proofs.RowsLaws.{rows_from, rows_with_value-from}
-use Rattle.col_index.proofs.IndexedLaws.{counts-are_rows, counts-are_set_counts, counts-are_offsets, counts-are_offset_counts}
-use Rattle.col_indexer.specs.Counted.{tightest_of}
-use Rattle.col_indexer.specs.Spelling.{Index, full_index, optional_index, multivalued_index, index_shape}
-use Rattle.col_indexer.proofs.CountedLemmas.{rows_from-some}
-use Rattle.col_indexer.proofs.MergeLemmas.{all_ones}
+use Rattle.col_column.specs.CardinalityType.{Cardinality}
+use Rattle.col_column.specs.CardinalityVariants.{Full, Optional, Multivalued}
+use Rattle.col_column.specs.Versions.{cardinality_of}
+use Rattle.col_column.proofs.RowsLaws.{rows_from, rows_with_value-from}
+use Rattle.col_column.proofs.IndexedLaws.{counts-are_rows, counts-are_set_counts, counts-are_offsets, counts-are_offset_counts}
+use Rattle.col_column.specs.Counted.{tightest_of}
+use Rattle.col_column.specs.Spelling.{Index, full_index, optional_index, multivalued_index, index_shape}
+use Rattle.col_column.proofs.CountedLemmas.{rows_from-some}
+use Rattle.col_column.proofs.MergeLemmas.{all_ones}
 use Rattle.col_column.specs.Columns.{row_count, counts_by, IsCounted, rows_by}
 use Rattle.col_column.specs.Opened.{counted_rows}
 use Rattle.col_column.specs.Written.{number_column_bytes, column_codecs, StandForRows, Stores64, SerializesRows}
 use Rattle.col_writer_rows.specs.Counted.{counts_of_rows, CountsRows, SerializesCounted}
-use Rattle.col_indexer.specs.Written.{index_by}
+use Rattle.col_column.specs.IndexerWritten.{index_by}
 use Rattle.col_writer_rows.proofs.RepeatedLemmas.{many-counted}
 use Rattle.col_writer_rows.proofs.RowLemmas.{sum-counts}
 use Rattle.col_writer_rows.proofs.ShapeLemmas.{counts-all, counts-rising, few-ones}

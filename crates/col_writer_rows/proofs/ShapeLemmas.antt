@@ -9,9 +9,9 @@ use Rattle.std.proofs.lemmas.List.FromFn.{length-map-range_with_len, get_or-map-
 use Rattle.std.proofs.lemmas.Grind.{same_number_lists}
 use Rattle.col_common.specs.Ascending.{is_rising}
 use Rattle.col_model.specs.Index.{RowSet, set_counts}
-use Rattle.col_index.specs.Sets.{AreRows, holds}
-use Rattle.col_index.proofs.CountLaws.{set_counts-at, length-set_counts}
-use Rattle.col_index.proofs.RankLaws.{tail_rises}
+use Rattle.col_column.specs.Sets.{AreRows, holds}
+use Rattle.col_column.proofs.CountLaws.{set_counts-at, length-set_counts}
+use Rattle.col_column.proofs.RankLaws.{tail_rises}
 use Rattle.col_writer_rows.specs.Counted.{counts_of_rows}
 
 pub lower : (x y : ℕ) (ys : List ℕ) → x ≤ y → list_all (λ z. nat_lt y z) ys ≡ true → list_all (λ z. nat_lt x z) ys ≡ true

@@ -31,13 +31,13 @@ use Rattle.col_model.specs.U64List.{joined_lists}
 use Rattle.col_model.specs.Version.{current_version}
 use Rattle.col_model.proofs.ListLaws.{item-at}
 use Rattle.col_model.proofs.ReadingLaws.{front-append, back-append}
-use Rattle.col_indexer.specs.Counted.{tightest_of}
+use Rattle.col_column.specs.Counted.{tightest_of}
 use Rattle.col_column.specs.Written.{Stores64}
 use Rattle.col_terms.specs.Building.{ordered, ordinals, is_too_long, counted_bytes, SerializesWithin}
 use Rattle.col_terms.specs.Laws.{OrdinalsAreInOrder, DictionariesAreReadBack, TermsAreThoseGiven}
 use Rattle.col_terms.specs.TermTable.{dictionary_bytes}
 use Rattle.col_terms.proofs.OrderedLemmas.{permutation-ordered}
-use Rattle.col_indexer.proofs.TightestLemmas.{tightest-counts}
+use Rattle.col_column.proofs.TightestLemmas.{tightest-counts}
 use Rattle.col_model.proofs.CutLaws.{lengths-map, cut-joined}
 use Rattle.col_writer_rows.specs.Counted.{SerializesCounted, SerializesColumn}
 use Rattle.col_writer_rows.specs.Rows.{values_at, picked_rows, numbers_in_order, ord_rows, cells_in_order, cell_rows}

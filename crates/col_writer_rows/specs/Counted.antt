@@ -10,9 +10,9 @@ use Rattle.col_model.specs.Dictionary.{cut}
 use Rattle.col_model.specs.Positions.{rows_with_value, starts_of}
 use Rattle.col_model.specs.Table.{Content}
 use Rattle.col_model.specs.Version.{current_version}
-use Rattle.col_index.specs.Offsets.{cardinality_in}
-use Rattle.col_indexer.specs.Counted.{tightest_of}
-use Rattle.col_indexer.specs.Spelling.{Index, IsIndex, index_shape, is_past_limit}
+use Rattle.col_column.specs.Offsets.{cardinality_in}
+use Rattle.col_column.specs.Counted.{tightest_of}
+use Rattle.col_column.specs.Spelling.{Index, IsIndex, index_shape, is_past_limit}
 use Rattle.col_column.specs.Columns.{row_count, counts_by}
 
 -- how many of the documents each of n rows is

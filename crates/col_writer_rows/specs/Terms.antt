@@ -11,7 +11,7 @@ use Rattle.col_model.specs.ColumnType.{ColumnType}
 use Rattle.col_model.specs.Dictionary.{cut}
 use Rattle.col_model.specs.Table.{Cell, Content}
 use Rattle.col_model.specs.Version.{current_version}
-use Rattle.col_indexer.specs.Counted.{tightest_of}
+use Rattle.col_column.specs.Counted.{tightest_of}
 use Rattle.col_terms.specs.Building.{ordered, is_too_long}
 use Rattle.col_writer_rows.specs.Rows.{rows_content}
 

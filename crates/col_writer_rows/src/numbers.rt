@@ -4,7 +4,7 @@ ghost use Rattle.col_common.specs.Ascending.{are_below};
 ghost use Rattle.col_model.specs.ColumnType.{ColumnType, has_terms};
 ghost use Rattle.col_model.specs.Dictionary.{cut};
 ghost use Rattle.col_model.specs.U64List.{joined_lists};
-ghost use Rattle.col_indexer.specs.Spelling.{IsIndex, index_shape, is_past_limit};
+ghost use Rattle.col_column.specs.Spelling.{IsIndex, index_shape, is_past_limit};
 ghost use Rattle.col_column.specs.Columns.{IsCounted};
 ghost use Rattle.col_column.specs.Written.{Stores64, SerializesRows};
 ghost use Rattle.col_writer_rows.specs.RowOrders.{AreRowDocs};

@@ -1,16 +1,15 @@
 //! Indexes of rows, on their way into a column.
 ghost use Rattle.std.specs.Prelude.{◌≡◌, ◌<◌, ◌^◌, true, false, sum, length, IfOk};
 ghost use Rattle.col_common.specs.Ascending.{are_below, is_rising};
-ghost use Rattle.col_indexer.specs.Spelling as spelled;
-ghost use Rattle.col_indexer.specs.Written.{index_of};
+ghost use Rattle.col_column.specs.Spelling as spelled;
+ghost use Rattle.col_column.specs.IndexerWritten.{index_of};
 ghost use Rattle.col_writer_rows.specs.Counted.{counts_of_rows, CountsRows};
 
 use crate::DocList;
 use crate::doc_rows::rows_of_docs;
 use crate::row_counts::{row_starts, tightest_cardinality};
+use col_column::{Cardinality, RowIds, SerializableColumnIndex, StartOffsets};
 use col_common::RowId;
-use col_index::Cardinality;
-use col_indexer::{RowIds, SerializableColumnIndex, StartOffsets};
 use std::alloc::{AllocError, Global};
 use std::marker::Model;
 
@@ -24,8 +23,8 @@ pub(crate) struct RowIndex {
 }
 
 impl Model for RowIndex {
-    ghost use Rattle.col_indexer.specs.Spelling.{Index};
-    ghost use Rattle.col_indexer.specs.Written.{index_by};
+    ghost use Rattle.col_column.specs.Spelling.{Index};
+    ghost use Rattle.col_column.specs.IndexerWritten.{index_by};
 
     ghost Value = { Index };
 

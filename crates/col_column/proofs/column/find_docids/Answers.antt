@@ -1,5 +1,5 @@
 use Rattle.std.proofs.Common.{◌≡◌, ◌∙◌}
-use Rattle.col_index.specs.Indexes.{shape_of}
+use Rattle.col_indexer.specs.Indexes.{shape_of}
 use Rattle.col_model.specs.Positions.{rows_in}
 use Rattle.col_values.specs.Values.{is_between}
 use Rattle.col_column.specs.Columns.{rows_by}

@@ -5,7 +5,7 @@ use Rattle.std.specs.Int.{w64}
 use Rattle.col_common.specs.Reading.{◌>>=◌, parts_by_first}
 use Rattle.col_common.proofs.DecodingLemmas.{refuses-as}
 use Rattle.col_compact.specs.Coded.{numbers_of, headed_list}
-use Rattle.col_index.specs.Versions.{version_number}
+use Rattle.col_indexer.specs.Versions.{version_number}
 use Rattle.col_model.specs.AddressList.{values128, coded_number}
 use Rattle.col_model.specs.Column.{number_rows}
 use Rattle.col_model.specs.ColumnType as types

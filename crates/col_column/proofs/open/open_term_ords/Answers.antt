@@ -3,7 +3,7 @@ use Rattle.std.proofs.lemmas.Result.{err_from_is_err_and}
 use Rattle.std.specs.Int.{w64}
 use Rattle.col_common.specs.Reading.{parts_by_first}
 use Rattle.col_common.proofs.DecodingLemmas.{refuses-as}
-use Rattle.col_index.specs.Versions.{version_number}
+use Rattle.col_indexer.specs.Versions.{version_number}
 use Rattle.col_model.specs.Column.{number_rows}
 use Rattle.col_model.specs.ColumnType as types
 use Rattle.col_model.specs.Images.{images64}

@@ -1,8 +1,8 @@
 use Rattle.std.proofs.Common.{[], sym, ◌∙◌}
-use Rattle.col_index.specs.Indexes.{shape_of}
+use Rattle.col_text.specs.Indexes.{shape_of}
 use Rattle.col_model.specs.Table.{number}
-use Rattle.col_numbers.specs.NumValues.{num_values_of}
-use Rattle.col_column.specs.Columns.{content_seen}
+use Rattle.col_text.specs.NumValues.{num_values_of}
+use Rattle.col_text.specs.Columns.{content_seen}
 use Rattle.col_dynamic.specs.Dynamic.{content_of}
 use Rattle.col_dynamic.proofs.CoercionLemmas.{there, other_i64, as_signed}
 use Rattle.col_dynamic.proofs.dynamic_column.i64_column_of.Goals as goal

@@ -1,5 +1,5 @@
-use Rattle.col_numbers.specs.NumValues.{num_values_of}
-use Rattle.col_index.specs.Indexes.{shape_of}
+use Rattle.col_text.specs.NumValues.{num_values_of}
+use Rattle.col_text.specs.Indexes.{shape_of}
 use Rattle.col_dynamic.proofs.CoercionLemmas.{own_u64}
 use Rattle.col_dynamic.proofs.dynamic_column.u64_column.Goals as goal
 

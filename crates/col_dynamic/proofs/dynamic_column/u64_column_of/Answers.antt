@@ -1,10 +1,10 @@
 use Rattle.std.proofs.Common.{[], sym, nat_abs, refl, ◌∙◌}
 use Rattle.std.specs.List.{list_all}
-use Rattle.col_index.specs.Indexes.{shape_of}
+use Rattle.col_text.specs.Indexes.{shape_of}
 use Rattle.col_types.specs.Cells.{unsigned_cell}
-use Rattle.col_numbers.specs.Coercions.{is_not_negative}
-use Rattle.col_numbers.specs.NumValues.{num_values_of}
-use Rattle.col_column.specs.Columns.{content_seen}
+use Rattle.col_text.specs.Coercions.{is_not_negative}
+use Rattle.col_text.specs.NumValues.{num_values_of}
+use Rattle.col_text.specs.Columns.{content_seen}
 use Rattle.col_dynamic.specs.Dynamic.{content_of}
 use Rattle.col_dynamic.proofs.CoercionLemmas.{there, other_u64, as_unsigned, still_counted}
 use Rattle.col_dynamic.proofs.dynamic_column.u64_column_of.Goals as goal

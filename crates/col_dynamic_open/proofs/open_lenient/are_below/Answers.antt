@@ -1,7 +1,7 @@
 use Rattle.std.proofs.Common.{length, nat_lt, arith, ap}
-use Rattle.col_numbers.proofs.CoercionLemmas.{bound_tells}
-use Rattle.col_numbers.specs.NumValues.{num_values_of}
-use Rattle.col_text.proofs.OpenTextLemmas.{below_greatest}
+use Rattle.col_dynamic.proofs.NumbersCoercionLemmas.{bound_tells}
+use Rattle.col_dynamic.specs.NumValues.{num_values_of}
+use Rattle.col_dynamic.proofs.OpenTextLemmas.{below_greatest}
 use Rattle.col_dynamic_open.proofs.open_lenient.are_below.Goals as goal
 
 pub returns-else-num_vals-eq0 : goal.returns-else-num_vals-eq0

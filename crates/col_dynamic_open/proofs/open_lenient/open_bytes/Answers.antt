@@ -3,11 +3,11 @@ use Rattle.std.proofs.lemmas.Result.{err_from_is_err_and}
 use Rattle.std.specs.Int.{w32}
 use Rattle.col_common.proofs.DecodingLemmas.{refuses-as}
 use Rattle.col_common.specs.Reading.{parts_by_first}
-use Rattle.col_index.specs.Versions.{version_number}
+use Rattle.col_dynamic.specs.Versions.{version_number}
 use Rattle.col_model.specs.Column.{column}
 use Rattle.col_model.specs.ColumnType as types
 use Rattle.col_model.specs.Dictionary.{terms}
-use Rattle.col_text.proofs.OpenTextLemmas.{uncut}
+use Rattle.col_dynamic.proofs.OpenTextLemmas.{uncut}
 use Rattle.col_dynamic_open.proofs.LenientLemmas.{without_terms, ordinals-refused, ordinals-opened}
 use Rattle.col_dynamic_open.proofs.open_lenient.open_bytes.Goals as goal
 

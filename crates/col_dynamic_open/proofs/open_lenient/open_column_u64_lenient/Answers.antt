@@ -1,5 +1,5 @@
 use Rattle.std.proofs.Common.{refl}
-use Rattle.col_index.specs.Versions.{version_number}
+use Rattle.col_dynamic.specs.Versions.{version_number}
 use Rattle.col_model.specs.Column.{column}
 use Rattle.col_model.specs.ColumnType as types
 use Rattle.col_dynamic_open.proofs.LenientLemmas.{no_codes}

@@ -1,7 +1,7 @@
 use Rattle.std.proofs.Common.{Ok, sym, ap, ◌∙◌, subst}
 use Rattle.std.proofs.lemmas.Result.{err_from_is_err_and}
-use Rattle.col_column.specs.Columns.{Seen}
-use Rattle.col_index.specs.Versions.{version_number}
+use Rattle.col_dynamic.specs.Columns.{Seen}
+use Rattle.col_dynamic.specs.Versions.{version_number}
 use Rattle.col_model.specs.Column.{column}
 use Rattle.col_model.specs.ColumnType as types
 use Rattle.col_dynamic_open.specs.Contents.{DecodesTo}

@@ -1,4 +1,4 @@
-use Rattle.col_index.specs.Versions.{version_number}
+use Rattle.col_dynamic.specs.Versions.{version_number}
 use Rattle.col_dynamic_open.proofs.LenientLemmas.{texts-opened}
 use Rattle.col_dynamic_open.proofs.open_lenient.open_str.Goals as goal
 

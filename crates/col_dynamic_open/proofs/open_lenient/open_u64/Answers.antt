@@ -1,5 +1,5 @@
 use Rattle.std.proofs.lemmas.Result.{err_from_is_err_and}
-use Rattle.col_index.specs.Versions.{version_number}
+use Rattle.col_dynamic.specs.Versions.{version_number}
 use Rattle.col_model.specs.ColumnType as types
 use Rattle.col_dynamic_open.proofs.LenientLemmas.{plain-u64, plain-opened, plain-refused}
 use Rattle.col_dynamic_open.proofs.open_lenient.open_u64.Goals as goal

@@ -3,7 +3,7 @@ use Rattle.std.proofs.lemmas.Result.{err_from_is_err_and}
 use Rattle.col_common.specs.Reading.{only_if}
 use Rattle.col_model.specs.Index.{RowSet, row_set, shape, optional_shape, full_shape, set_counts}
 use Rattle.col_model.specs.Table.{cardinality_code}
-use Rattle.col_codecs.proofs.BlockReaderLemmas.{refuses-list}
+use Rattle.col_numbers.proofs.BlockReaderLemmas.{refuses-list}
 use Rattle.col_index.specs.Opening.{multivalued_at}
 use Rattle.col_index.specs.Versions.{version_number, cardinality_of}
 use Rattle.col_index.proofs.ShapeLemmas.{shape-full, shape-optional, shape-multivalued}

@@ -4,7 +4,7 @@ use Rattle.std.proofs.lemmas.Result.{err_from_is_err_and}
 use Rattle.col_model.specs.Index.{RowSet, listed_set}
 use Rattle.col_model.specs.U64List.{values64}
 use Rattle.col_numbers.specs.Readers.{list_of}
-use Rattle.col_codecs.proofs.BlockReaderLemmas.{refuses-list}
+use Rattle.col_numbers.proofs.BlockReaderLemmas.{refuses-list}
 use Rattle.col_index.proofs.OpeningLemmas.{listed_set-uncounted, listed_set-unread, listed_set-read}
 use Rattle.col_index.proofs.open.open_listed.Goals as goal
 

@@ -5,7 +5,7 @@ use Rattle.col_common.specs.Reading.{parts_by_first}
 use Rattle.col_model.specs.Index.{row_set, row_offsets}
 use Rattle.col_model.specs.U64List.{values64}
 use Rattle.col_numbers.specs.Readers.{list_of}
-use Rattle.col_codecs.proofs.BlockReaderLemmas.{refuses-list}
+use Rattle.col_numbers.proofs.BlockReaderLemmas.{refuses-list}
 use Rattle.col_index.specs.Versions.{version_number}
 use Rattle.col_index.proofs.OpeningLemmas.{row_offsets-unparted, row_offsets-unset, row_offsets-unread, row_offsets-read}
 use Rattle.col_index.proofs.open.open_offsets.Goals as goal

@@ -4,7 +4,7 @@ use Rattle.col_common.specs.Ascending.{differences}
 use Rattle.col_model.specs.Index.{offset_counts_v1}
 use Rattle.col_model.specs.U64List.{values64}
 use Rattle.col_numbers.specs.Readers.{list_of}
-use Rattle.col_codecs.proofs.BlockReaderLemmas.{refuses-list}
+use Rattle.col_numbers.proofs.BlockReaderLemmas.{refuses-list}
 use Rattle.col_index.proofs.OpeningLemmas.{offset_counts_v1-unread, offset_counts_v1-read}
 use Rattle.col_index.proofs.open.open_old_offsets.Goals as goal
 

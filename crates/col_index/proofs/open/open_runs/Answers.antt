@@ -6,7 +6,7 @@ use Rattle.std.proofs.lemmas.Result.{err_from_is_err_and}
 use Rattle.col_model.specs.Index.{RowSet, run_set}
 use Rattle.col_model.specs.U64List.{values64}
 use Rattle.col_numbers.specs.Readers.{list_of}
-use Rattle.col_codecs.proofs.BlockReaderLemmas.{refuses-list}
+use Rattle.col_numbers.proofs.BlockReaderLemmas.{refuses-list}
 use Rattle.col_index.proofs.RunOpeningLemmas.{run_set-uncounted, run_set-unparted, run_set-unstarted, run_set-unread, run_set-read}
 use Rattle.col_index.proofs.open.open_runs.Goals as goal
 

@@ -4,7 +4,7 @@ use Rattle.col_order.specs.RowOrders.{order_of}
 use Rattle.col_index.specs.Indexes.{shape_of}
 use Rattle.col_column.specs.IpValues.{ip_values_of}
 use Rattle.col_types.specs.Cells.{unsigned_cell}
-use Rattle.col_merge_values.specs.Merges.{columns_by}
+use Rattle.col_merge_column.specs.Merges.{columns_by}
 use Rattle.col_merge_slot.specs.Segments.{where_set}
 use Rattle.col_merge_slot.proofs.TakenLemmas.{takes-still, takes-joined}
 use Rattle.col_merge_slot.proofs.JoinedLemmas.{numbers-written}

@@ -1,7 +1,7 @@
 use Rattle.std.proofs.Common.{ℕ, length, nat_lt, Bool, ap, ◌∙◌, arith}
 use Rattle.std.specs.List.{list_all}
-use Rattle.col_numbers.proofs.CoercionLemmas.{bound_tells}
-use Rattle.col_numbers.specs.NumValues.{num_values_of}
+use Rattle.col_column.proofs.CoercionLemmas.{bound_tells}
+use Rattle.col_column.specs.NumValues.{num_values_of}
 use Rattle.col_text.proofs.OpenTextLemmas.{below_greatest}
 use Rattle.col_text.proofs.open.are_ordinals.Goals as goal
 

@@ -3,11 +3,11 @@ use Rattle.std.proofs.lemmas.Result.{err_from_is_err_and}
 use Rattle.std.specs.Int.{w32}
 use Rattle.col_common.proofs.DecodingLemmas.{refuses-as}
 use Rattle.col_common.specs.Reading.{parts_by_first}
-use Rattle.col_index.specs.Versions.{version_number}
+use Rattle.col_column.specs.Versions.{version_number}
 use Rattle.col_model.specs.Column.{column, number_rows}
 use Rattle.col_model.specs.ColumnType as types
 use Rattle.col_model.specs.Dictionary.{terms}
-use Rattle.col_numbers.specs.NumValues.{num_values_of}
+use Rattle.col_column.specs.NumValues.{num_values_of}
 use Rattle.col_text.specs.Texts.{texts_content}
 use Rattle.col_text.proofs.OpenTextLemmas.{uncut, without_terms, without_rows, with_rows, terms-ascend, ordinals-below}
 use Rattle.col_text.proofs.open.open_column_bytes.Goals as goal

@@ -1,7 +1,7 @@
 use Rattle.std.proofs.Common.{Some, ap, sym, ◌∙◌}
 use Rattle.std.proofs.lemmas.Result.{err_from_is_err_and}
 use Rattle.col_common.proofs.DecodingLemmas.{refuses-as}
-use Rattle.col_index.specs.Versions.{version_number}
+use Rattle.col_column.specs.Versions.{version_number}
 use Rattle.col_model.specs.Column.{column}
 use Rattle.col_model.specs.ColumnType as types
 use Rattle.col_text.specs.Texts.{texts_content}

@@ -1,5 +1,5 @@
 use Rattle.std.proofs.Common.{◌∙◌, ap}
-use Rattle.col_index.specs.Indexes.{shape_of}
+use Rattle.col_indexer.specs.Indexes.{shape_of}
 use Rattle.col_column.proofs.FirstLemmas.{full_firsts}
 use Rattle.col_column.proofs.column.Column.first_vals.Goals as goal
 

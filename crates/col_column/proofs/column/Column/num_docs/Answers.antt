@@ -1,5 +1,5 @@
 use Rattle.std.proofs.Common.{sym, ◌∙◌}
-use Rattle.col_index.proofs.CountLaws.{length-set_counts}
+use Rattle.col_indexer.proofs.CountLaws.{length-set_counts}
 use Rattle.col_column.proofs.column.Column.num_docs.Goals as goal
 
 pub returns-in-Optional : goal.returns-in-Optional

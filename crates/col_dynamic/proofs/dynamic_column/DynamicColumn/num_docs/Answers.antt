@@ -1,6 +1,6 @@
 use Rattle.std.proofs.Common.{◌∙◌, ap}
-use Rattle.col_column.specs.Columns.{num_docs_in}
-use Rattle.col_numbers.specs.NumValues.{num_values_of}
+use Rattle.col_text.specs.Columns.{num_docs_in}
+use Rattle.col_text.specs.NumValues.{num_values_of}
 use Rattle.col_dynamic.specs.declared.dynamic_column.DynamicColumn.TheVariants as columns
 use Rattle.col_dynamic.proofs.dynamic_column.DynamicColumn.num_docs.Goals as goal
 use Rattle.col_dynamic.proofs.RowLemmas.{rows-counted}

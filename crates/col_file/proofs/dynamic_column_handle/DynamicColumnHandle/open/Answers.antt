@@ -1,5 +1,5 @@
 use Rattle.std.proofs.Common.{ap, ◌∙◌}
-use Rattle.col_index.specs.Versions.{version_number}
+use Rattle.col_dynamic_open.specs.Versions.{version_number}
 use Rattle.col_types.specs.Kinds.{kind_of}
 use Rattle.col_file.specs.Columns.{HasContent}
 use Rattle.col_file.proofs.OpenedLemmas.{answers-opened, has-content, opened-typed}

@@ -1,6 +1,6 @@
 use Rattle.std.proofs.Common.{sym, subst}
 use Rattle.std.proofs.lemmas.Result.{err_from_is_err_and}
-use Rattle.col_codecs.proofs.BlockReaderLemmas.{refuses-list}
+use Rattle.col_numbers.proofs.BlockReaderLemmas.{refuses-list}
 use Rattle.col_common.specs.Decoding.{Decodes}
 use Rattle.col_model.specs.Index.{RowSet}
 use Rattle.col_numbers.specs.Readers.{list_of}

@@ -1,7 +1,7 @@
 use Rattle.std.proofs.Common.{Some, subst, sym, ap, ◌∙◌}
 use Rattle.std.proofs.lemmas.Option.{same_Some}
 use Rattle.std.proofs.lemmas.Result.{err_from_is_err_and}
-use Rattle.col_codecs.proofs.BlockReaderLemmas.{refuses-list}
+use Rattle.col_numbers.proofs.BlockReaderLemmas.{refuses-list}
 use Rattle.col_model.specs.Index.{RowSet}
 use Rattle.col_numbers.specs.Readers.{list_of}
 use Rattle.col_index.specs.Runs.{AreRunTables, rows_of_runs}

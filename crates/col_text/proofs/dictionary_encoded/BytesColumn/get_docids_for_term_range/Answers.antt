@@ -2,7 +2,7 @@ use Rattle.std.proofs.Common.{sym, ◌∙◌, subst}
 use Rattle.col_column.specs.Columns.{rows_of_values}
 use Rattle.col_column.specs.Lookups.{docs_passing}
 use Rattle.col_common.specs.Replacing.{Replaces}
-use Rattle.col_numbers.specs.NumValues.{num_values_of}
+use Rattle.col_column.specs.NumValues.{num_values_of}
 use Rattle.col_values.specs.Codes.{number_cmp}
 use Rattle.col_values.specs.Values.{is_between}
 use Rattle.col_text.specs.Texts.{Texts, AreOrdinals}
