@@ -10,6 +10,7 @@ use crate::optional_index::OptionalIndex;
 use crate::set::Set;
 use col_common::{DocId, RowId};
 use std::alloc::AllocError;
+use std::fmt;
 
 impl OptionalIndex {
     /// How many values stand before a row.
@@ -51,5 +52,14 @@ impl OptionalIndex {
     {
         self.rows_rise();
         self.select_batch(rank_ids);
+    }
+}
+
+impl fmt::Debug for OptionalIndex {
+    fn fmt<W: fmt::Write>(&self, f: &mut fmt::Formatter<W>) -> fmt::Result {
+        f.debug_struct("OptionalIndex")
+            .field("num_docs", &self.num_docs())
+            .field("num_non_null_docs", &self.num_non_nulls())
+            .finish_non_exhaustive()
     }
 }

@@ -28,7 +28,6 @@ use crate::set::Set;
 use col_common::{ColumnarError, DocId, RowId, Steps};
 use col_numbers::{CodecType, U64Values, serialize_and_load_u64_values};
 use std::alloc::{AllocError, Global};
-use std::fmt;
 use std::marker::Model;
 use std::ops::Range;
 use std::sync::ledger::Ledger;
@@ -276,17 +275,9 @@ impl Set<RowId> for OptionalIndex {
     }
 }
 
-impl fmt::Debug for OptionalIndex {
-    fn fmt<W: fmt::Write>(&self, f: &mut fmt::Formatter<W>) -> fmt::Result {
-        f.debug_struct("OptionalIndex")
-            .field("num_docs", &self.num_docs())
-            .field("num_non_null_docs", &self.num_non_nulls())
-            .finish_non_exhaustive()
-    }
-}
-
 impl OptionalIndex {
     ghost use Rattle.col_index.specs.RowsNear.{rows_near};
+    ghost use Rattle.col_common.specs.Reading.{only_if};
     ghost use Rattle.col_index.specs.RunPlaces.{IsRunOf};
 
     /// How many rows before a row have a value, and whether it has one itself.
@@ -299,6 +290,20 @@ impl OptionalIndex {
             return (self.bits.rank(row_id), self.bits.holds(row_id));
         }
         self.held.rank_and_contains(row_id)
+    }
+
+    /// The rank of a row that has a value, where most rows that are asked have a bit.
+    #[inline(always)]
+    pub(crate) fn rank_by_bits(&self, row_id: RowId) -> Option<RowId>
+        ensures { result ≡ only_if (holds self.now.rows row_id) (rank self.now.rows row_id) }
+    {
+        if self.bits.reaches(row_id) {
+            if self.bits.holds(row_id) {
+                return Some(self.bits.rank(row_id));
+            }
+            return None;
+        }
+        self.held.far_rank_if_exists(row_id)
     }
 
     /// The row with a rank, by the run that the one before was found in.
@@ -356,7 +361,7 @@ impl OptionalIndex {
         self.rows_rise();
         // That rows are below a count of 32 bits is known of the count.
         let _num_docs = self.num_docs();
-        match self.rank_if_exists(doc_id) {
+        match self.rank_by_bits(doc_id) {
             Some(rank) => rank..rank + 1,
             None => 0..0,
         }

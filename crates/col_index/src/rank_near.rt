@@ -9,7 +9,6 @@ use crate::optional_index::OptionalIndex;
 use crate::row_runs::RowRuns;
 use crate::run_places::RunPlace;
 use crate::search::Place;
-use crate::set::Set;
 use col_common::{DocId, RowId};
 
 /// Rows with a value, each asked from where the one before was found.
@@ -79,7 +78,7 @@ impl RankNear for Ranked<'_> {
 
     #[inline(always)]
     fn rank_near(&self, _place: &mut (), doc_id: DocId) -> Option<RowId> {
-        self.index.rank_if_exists(doc_id)
+        self.index.rank_by_bits(doc_id)
     }
 }
 
