@@ -3,8 +3,15 @@ use Rattle.std.proofs.lemmas.Result.{err_from_is_err_and}
 use Rattle.col_program.specs.Report.{Prints, rows_line}
 use Rattle.col_set.specs.Sets.{WritesBytes}
 use Rattle.col_set_run.specs.Running.{RunsSteps}
+use Rattle.col_set_tool.proofs.WholeLemmas.{rows-stop}
 use Rattle.col_set_tool.proofs.WroteLemmas.{write-done, write-stop}
 use Rattle.col_set_tool.proofs.whole.run_whole.Goals as goal
+
+pub returns-in_err-push_rows : goal.returns-in_err-push_rows
+returns-in_err-push_rows g c = λ xs fits.
+    let p = err_from_is_err_and c.from_residual-in_err-push_rows.result c.from_residual-in_err-push_rows.ensures.1 in
+    rw (p.1, p.2) (rows-stop g.D.Disk.seen c.args.set.now c.run_steps.new.set xs c.new-lines.result.items c.run_steps.new.out.items
+    (c.in_ok-run_steps.ensures.runs xs fits) (g.K.Sink.seen c.args.output.now) (g.R.Sink.seen c.args.report.now))
 
 pub returns-in_err-write : goal.returns-in_err-write
 returns-in_err-write g c = λ xs fits.
