@@ -65,6 +65,14 @@ impl HeldRows {
         }
     }
 
+    /// Whether a row has a value, out of line.
+    #[inline(never)]
+    pub fn far_contains(&self, row_id: RowId) -> bool
+        ensures { result ≡ holds (set_held self.now).rows row_id }
+    {
+        self.contains(row_id)
+    }
+
     /// How many rows before a row have a value, out of line.
     #[inline(never)]
     pub fn far_rank(&self, row_id: RowId) -> RowId

@@ -233,7 +233,7 @@ impl Set<RowId> for OptionalIndex {
         if self.bits.reaches(row_id) {
             return self.bits.holds(row_id);
         }
-        self.held.contains(row_id)
+        self.held.far_contains(row_id)
     }
 
     // Whether there are bits is asked first, of all rows at once in a loop.
