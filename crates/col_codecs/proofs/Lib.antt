@@ -16,6 +16,7 @@ pub mod BoundsLemmas
 pub mod EstimateLemmas
 pub mod HeaderLemmas
 pub mod LineLemmas
+pub mod LineOrderLemmas
 pub mod ListLemmas
 pub mod LinearLemmas
 pub mod LinearReaderLemmas

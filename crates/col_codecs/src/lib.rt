@@ -11,6 +11,7 @@ mod counted_codes;
 mod header;
 mod laws;
 mod line;
+mod line_order;
 mod line_stats;
 mod linear;
 mod linear_params;

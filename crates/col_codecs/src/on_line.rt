@@ -22,8 +22,8 @@ const HALF: u64 = 1 << 31;
 /// The upper halves of products are below this.
 pub const HALVES: u64 = 1 << 32;
 
-// Products are kept modulo this.
-const PRODUCTS: u128 = 1 << 64;
+/// Products are kept modulo this.
+pub const PRODUCTS: u128 = 1 << 64;
 
 impl BoundedItems for Line {
     ghost use Rattle.std.specs.Prelude.{◌^◌};

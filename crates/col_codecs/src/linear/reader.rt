@@ -17,6 +17,7 @@ use crate::block_bounds::Bounds;
 use crate::bounded_items::{BoundedItems, find_ids, read_bounds};
 use crate::column_stats::ColumnStats;
 use crate::line::Line;
+use crate::line_order::{never_falls_on, rises_on};
 use crate::line_stats::stats_on;
 use crate::linear_params::LinearParams;
 use crate::on_line::find_on_line;
@@ -88,6 +89,31 @@ impl LinearReader {
             stats: self.stats,
             bounds: self.bounds.clone()?,
         })
+    }
+}
+
+impl LinearReader {
+    ghost use Rattle.col_common.specs.Ascending.{is_rising, is_never_falling};
+
+    /// Whether each value is below the next, where that is known without a walk: the values of a
+    /// list of width 0 stand on the line.
+    pub fn rises(&self) -> Option<bool>
+        ensures { IfSome result (λ answer. answer ≡ is_rising self.now) }
+    {
+        if self.bit_unpacker.bit_width() != 0 {
+            return None;
+        }
+        Some(rises_on(self.line.slope, self.line.intercept, self.stats.num_rows))
+    }
+
+    /// Whether no value is above the next, where that is known without a walk.
+    pub fn never_falls(&self) -> Option<bool>
+        ensures { IfSome result (λ answer. answer ≡ is_never_falling self.now) }
+    {
+        if self.bit_unpacker.bit_width() != 0 {
+            return None;
+        }
+        never_falls_on(self.line.slope, self.line.intercept, self.stats.num_rows)
     }
 }
 
