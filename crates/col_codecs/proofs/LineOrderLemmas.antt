@@ -104,7 +104,8 @@ module _ (l : Line) (steep : l.slope < 2 ^ 64) (fits : l.intercept < 2 ^ 64) whe
       let here = unturned n i short (omega arith) in
       let next = unturned n (i + 1) short h in
       let up : half l i ≤ half l (i + 1) = omega (arith, here, next) in
-      le-leb _ _ (omega (arith, value-at i, value-at (i + 1), lifted-rises l.intercept (half l i) (half l (i + 1)) fits up (half-small (i + 1)))))
+      let above = lifted-rises l.intercept (half l i) (half l (i + 1)) fits up (half-small (i + 1)) in
+      le-leb _ _ (omega (arith, value-at i, value-at (i + 1), above)))
 
   -- and rise by whole steps
   pub rises-unturned : (n : ℕ) → 2 ^ 32 ≤ l.slope → l.slope * (n - 1) + moved l < 2 ^ 64 → is_rising (values_on l 0 n) ≡ true
@@ -112,7 +113,8 @@ module _ (l : Line) (steep : l.slope < 2 ^ 64) (fits : l.intercept < 2 ^ 64) whe
       let here = unturned n i short (omega arith) in
       let next = unturned n (i + 1) short h in
       let up : half l i < half l (i + 1) = omega (arith, here, next, whole) in
-      lt-ltb _ _ (omega (arith, value-at i, value-at (i + 1), lifted-above l.intercept (half l i) (half l (i + 1)) fits up (half-small (i + 1)))))
+      let above = lifted-above l.intercept (half l i) (half l (i + 1)) fits up (half-small (i + 1)) in
+      lt-ltb _ _ (omega (arith, value-at i, value-at (i + 1), above)))
 
   -- by less than a whole step the second value isn't above the first
   pub rises-flat : (n : ℕ) → 1 < n → l.slope < 2 ^ 32 → is_rising (values_on l 0 n) ≡ false

@@ -2,6 +2,7 @@ pub use Rattle.col_codecs.proofs.BlockReaderLemmas
 pub mod ChoiceLemmas
 pub mod CoercionLemmas
 pub mod CollectingLemmas
+pub mod EqualLemmas
 pub mod ImageLemmas
 pub mod PlaceLemmas
 pub mod ViewLemmas

@@ -1,6 +1,7 @@
 //! A list of u64 under any codec.
 ghost use Rattle.std.specs.Prelude.{◌≡◌, ◌≤◌, ◌<◌, ◌+◌, drop, length, slice_get, Some};
-ghost use Rattle.std.specs.Prelude.{IfOk};
+ghost use Rattle.std.specs.Prelude.{IfOk, IfSome};
+ghost use Rattle.col_common.specs.Ascending.{is_rising, is_never_falling};
 ghost use Rattle.col_model.specs.Stats.{least_of, greatest_of};
 
 use col_codecs::{BitpackedReader, BlockwiseLinearReader, LinearReader};
@@ -29,6 +30,29 @@ impl U64Values {
             U64Values::BlockwiseLinear(values) => {
                 Ok(U64Values::BlockwiseLinear(values.try_clone(alloc)?))
             }
+        }
+    }
+
+    /// Whether each number is below the next, where that is known without a walk.
+    pub fn rises(&self) -> Option<bool>
+        ensures { IfSome result (λ answer. answer ≡ is_rising (list_of self.now)) }
+    {
+        match self {
+            U64Values::Linear(values) => values.rises(),
+            U64Values::Bitpacked(_) | U64Values::BlockwiseLinear(_) => None,
+        }
+    }
+
+    /// Whether no number is above the next, where that is known without a walk.
+    pub fn never_falls(&self) -> Option<bool>
+        ensures { IfSome result (λ answer. answer ≡ is_never_falling (list_of self.now)) }
+    {
+        if self.min_value() == self.max_value() {
+            return Some(true);
+        }
+        match self {
+            U64Values::Linear(values) => values.never_falls(),
+            U64Values::Bitpacked(_) | U64Values::BlockwiseLinear(_) => None,
         }
     }
 
