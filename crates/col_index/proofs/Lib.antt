@@ -13,6 +13,7 @@ mod ShapeLemmas
 mod HalvingLemmas
 mod SearchLemmas
 mod LoadLemmas
+mod BoundLemmas
 mod SetLemmas
 mod RowRangeLemmas
 mod SelectLemmas

@@ -12,6 +12,8 @@ ghost use Rattle.col_index.specs.Walked.{IsHint32};
 
 use crate::appending::push_run;
 use crate::non_null_docs::NonNullDocs;
+use crate::rising::stay_below;
+use crate::start_offsets::OFFSETS;
 use col_common::{DocId, RowId};
 use col_numbers::U64Values;
 use col_values::ColumnValues;
@@ -289,7 +291,8 @@ impl MultiValueIndexV1 {
     }
 }
 
-// Whether offsets begin with 0, never fall and are numbers of 32 bits.
+// Whether offsets begin with 0, never fall and are numbers of 32 bits: they are walked where the
+// list doesn't know whether it falls.
 fn are_old_offsets(starts: &U64Values) -> bool
     ensures { result ≡ (are_offsets (list_of starts.now) && is_never_falling (list_of starts.now)) }
 {
@@ -299,6 +302,9 @@ fn are_old_offsets(starts: &U64Values) -> bool
     }
     if starts.get_val(0) != 0 {
         return false;
+    }
+    if let Some(stays) = starts.never_falls() {
+        return stays && stay_below(OFFSETS, starts);
     }
     let mut last = 0;
     for at in 1..count {

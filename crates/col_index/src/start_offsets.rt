@@ -5,12 +5,17 @@ ghost use Rattle.col_model.specs.Positions.{rows_with_value, starts_of};
 ghost use Rattle.col_numbers.specs.Readers.{list_of};
 ghost use Rattle.col_index.specs.Offsets.{AreOldOffsets, is_start_list};
 
+use crate::rising::stay_below;
 use col_common::RowId;
 use col_numbers::U64Values;
 use col_values::ColumnValues;
 use std::alloc::AllocError;
 
-/// Whether numbers are start offsets of so many rows.
+/// The numbers of 32 bits are below this.
+pub(crate) const OFFSETS: u64 = 1 << 32;
+
+/// Whether numbers are start offsets of so many rows: they are walked where the list doesn't know
+/// whether it rises.
 pub(crate) fn are_starts(num_rows: RowId, starts: &U64Values) -> bool
     ensures { result ≡ is_start_list num_rows (list_of starts.now) }
 {
@@ -20,6 +25,9 @@ pub(crate) fn are_starts(num_rows: RowId, starts: &U64Values) -> bool
     }
     if starts.get_val(0) != 0 {
         return false;
+    }
+    if let Some(rising) = starts.rises() {
+        return rising && stay_below(OFFSETS, starts);
     }
     let mut last = 0;
     for at in 1..count {

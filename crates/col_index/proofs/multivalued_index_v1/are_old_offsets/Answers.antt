@@ -1,5 +1,7 @@
-use Rattle.std.proofs.Common.{sym, ◌∙◌, arith}
+use Rattle.std.proofs.Common.{◌≡◌, false, refl, sym, ◌∙◌, arith}
+use Rattle.std.proofs.Math.Bool.{and-false}
 use Rattle.std.proofs.lemmas.Option.{get_or_from_slice_get}
+use Rattle.col_common.specs.Ascending.{is_never_falling}
 use Rattle.col_numbers.specs.Readers.{list_of}
 use Rattle.col_index.proofs.OldTestLemmas.{stays-none, stays-other, stays-first, stays-fallen, stays-large, stays-more}
 use Rattle.col_index.proofs.multivalued_index_v1.are_old_offsets.Goals as goal
@@ -11,6 +13,13 @@ pub returns-then-get_val-ne0 : goal.returns-then-get_val-ne0
 returns-then-get_val-ne0 c =
     sym (stays-other (list_of c.args.starts.now) (λ e. c.if-get_val-ne0.true (
     sym (get_or_from_slice_get (list_of c.args.starts.now) 0 c.get_val.result 0 c.get_val.ensures) ∙ e)))
+
+pub returns-else-stays : goal.returns-else-stays
+returns-else-stays c =
+    let starts = list_of c.args.starts.now in
+    let falls : c.in-Some.stays ≡ false = c.if-stays.false in
+    let known : is_never_falling starts ≡ false = sym c.in-Some.ensures ∙ falls in
+    falls ∙ sym (rw (known, and-false) refl)
 
 pub loop-at-init : goal.loop-at-init
 loop-at-init c =

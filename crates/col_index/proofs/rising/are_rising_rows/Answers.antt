@@ -9,5 +9,6 @@ loop-at-init c = record { rest = rises_first c.args.num_rows (list_of c.args.row
 pub loop-at-preserved : goal.loop-at-preserved
 loop-at-preserved c =
     let rows = list_of c.args.rows.now in
-    let taken = rises_taken c.args.num_rows c.loop-at.next rows c.loop-at.at (omega arith) c.in-Some.row c.in-Some.ensures in
+    let row = c.in-Some-rising_row in
+    let taken = rises_taken c.args.num_rows c.loop-at.next rows c.loop-at.at (omega arith) row.row row.ensures in
     record { rest = c.loop-at.invariant.rest ∙ taken.rest }
