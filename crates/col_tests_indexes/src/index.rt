@@ -1,3 +1,4 @@
 //! Indexes by examples.
+mod claims;
 mod kinds;
 mod readings;
