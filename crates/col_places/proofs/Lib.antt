@@ -1,4 +1,7 @@
 mod AllLemmas
+mod BitLemmas
+mod ClearLemmas
+mod DropLemmas
 pub mod KindLemmas
 mod ListedLemmas
 mod RangeLemmas

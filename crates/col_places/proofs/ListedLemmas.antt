@@ -7,7 +7,7 @@ use Rattle.col_places.specs.Places.{are_places, is_listed, places_of}
 use Rattle.col_places.proofs.WalkLemmas.{listed-below, listed-later, places-agree, places-lower}
 
 -- they ascend
-range-places : (p : ℕ → Bool) (k n end_ : ℕ) → k + n ≤ end_ → are_places k end_ (filter p (range_with_len k n)) ≡ true
+pub range-places : (p : ℕ → Bool) (k n end_ : ℕ) → k + n ≤ end_ → are_places k end_ (filter p (range_with_len k n)) ≡ true
 range-places p k zero end_ le = refl
 range-places p k (suc n) end_ le = by (p k) (range-places p (k + 1) n end_ (omega (arith, le)))
   where

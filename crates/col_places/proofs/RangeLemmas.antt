@@ -1,12 +1,12 @@
 -- Rows of a range, by ends that are moved to where the values of a type begin and end.
-use Rattle.std.proofs.Common.{◌≡◌, ℕ, zero, suc, ◌+◌, ◌<◌, ◌≤◌, ◌&&◌, ◌||◌, ◌^◌, Bool, IsTrue, true, false, cond, ℤ, pos, negsuc, ◌-◌, int_le, int_lt, nat_le, nat_lt, List, [], ◌∷◌, length, filter, refl, sym, ap, ◌∙◌, arith}
-use Rattle.std.specs.List.{list_all, list_any, range_with_len}
-use Rattle.std.proofs.lemmas.Bool.{and_parts, and_from, lt-ltb, le-leb}
+use Rattle.std.proofs.Common.{◌≡◌, ℕ, zero, suc, ◌&&◌, ◌||◌, ◌^◌, Bool, IsTrue, true, false, ℤ, pos, negsuc, ◌-◌, int_le, int_lt, List, [], ◌∷◌, refl, sym, ap, ◌∙◌, arith}
+use Rattle.std.specs.List.{list_all, list_any}
+use Rattle.std.proofs.lemmas.Bool.{and_parts, and_from}
 use Rattle.std.proofs.lemmas.Int.{ints}
 use Rattle.col_model.specs.ColumnType.{ColumnType}
 use Rattle.col_model.specs.ColumnType as types
 use Rattle.col_model.specs.Limits.{is_of_type}
-use Rattle.col_model.specs.Lookup.{docs_between, is_between, row_of}
+use Rattle.col_model.specs.Lookup.{is_between, row_of}
 use Rattle.col_model.specs.Table.{Cell, Content}
 use Rattle.col_model.specs.Table as cells
 use Rattle.col_places.specs.Ranges.{are_cells_of, greatest_of, least_of, rows_between}

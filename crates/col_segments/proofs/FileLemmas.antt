@@ -1,7 +1,6 @@
 -- Files in memory that are opened.
-use Rattle.std.proofs.Common.{◌≡◌, inl, inr, ℕ, ◌+◌, ◌<◌, ◌^◌, ◌&&◌, Bool, true, false, List, [], ◌∷◌, ◌++◌, map, length, Option, Some, None, is_some, unwrap_or, option_and_then, Ok, Err, IfSome, refl, sym, ap, ◌∙◌, subst, arith}
-use Rattle.std.specs.List.{list_all, range_with_len}
-use Rattle.std.proofs.lemmas.List.FromFn.{length-range_with_len}
+use Rattle.std.proofs.Common.{◌≡◌, inl, inr, ℕ, ◌&&◌, Bool, true, false, List, [], ◌∷◌, map, Option, Some, None, is_some, unwrap_or, option_and_then, Ok, Err, IfSome, refl, sym, ap, ◌∙◌, arith}
+use Rattle.std.specs.List.{list_all}
 use Rattle.std.proofs.lemmas.Option.{same_Some}
 use Rattle.col_common.specs.Causes.{Rose}
 use Rattle.col_common.specs.Outside.{SeenFile}
@@ -10,15 +9,13 @@ use Rattle.col_common.specs.declared.error.ColumnarError.TheVariants.{OutOfMemor
 use Rattle.col_file.specs.Checks.{is_column}
 use Rattle.col_file.specs.Files.{RefusesFile}
 use Rattle.col_file.specs.Readers.{SeenReader}
-use Rattle.col_model.specs.File.{Part, PartColumn, parts_of, part_column, part_of_table, table_of, table_of_part, whole_column, for_each}
+use Rattle.col_model.specs.File.{PartColumn, parts_of, part_column, table_of, table_of_part, whole_column, for_each}
 use Rattle.col_model.specs.Keys.{Entry, FileKeys, keys}
 use Rattle.col_model.specs.Refusal.{◌>>=◌, or_refuse, invalid_data}
 use Rattle.col_model.specs.Table.{Column, Content, Table}
-use Rattle.col_model.proofs.ListLaws.{range-more}
-use Rattle.col_model.proofs.PartLaws.{whole-table, whole-part}
-use Rattle.col_segments.specs.Files.{no_table, table_in, IsTableFile, IsWhole, ReadsTable, OpensBytes}
-use Rattle.col_segments.specs.Segments.{all_alive, are_places, whole_file}
-use Rattle.col_segments.proofs.PlaceLemmas.{places-range}
+use Rattle.col_model.proofs.PartLaws.{whole-part}
+use Rattle.col_segments.specs.Files.{no_table, table_in, IsTableFile, ReadsTable, OpensBytes}
+use Rattle.col_segments.specs.Segments.{all_alive, whole_file}
 use Rattle.col_writer_columns.specs.Answers.{MayRefuse}
 
 -- ---- the end of a file
@@ -124,29 +121,10 @@ reader-of bytes r is told read = record {
   rows = keys-rows bytes r.keys (table_in bytes) (rw told at read) is;
 }
 
--- ---- all rows
-
--- one row more
-pub range-from : (n : ℕ) → range_with_len 0 (n + 1) ≡ range_with_len 0 n ++ n ∷ []
-range-from n = range-more 0 n ∙ ap (λ m. range_with_len 0 n ++ m ∷ []) (omega arith)
-
--- the rows of a file, all of which are alive
-module _ (bytes : List ℕ) (r : SeenReader) (rows : List ℕ) (n : ℕ) (is : IsTableFile bytes) (reads : ReadsTable (table_in bytes) r)
-    (counted : n ≡ r.keys.row_count) (all : rows ≡ range_with_len 0 n) where
-  as_many : n ≡ (table_in bytes).row_count
-  as_many = counted ∙ reads.rows
-
-  pub rows-whole : n < 2 ^ 32 → IsWhole bytes rows
-  rows-whole fits = record {
-    table = is;
-    rows =
-        subst (λ (rows : List ℕ). are_places 0 (table_in bytes).row_count rows ≡ true) (sym all)
-        (places-range 0 n (table_in bytes).row_count (omega (arith, as_many)));
-    few = omega (arith, ap length all, length-range_with_len 0 n, fits);
-  }
-
-  pub rows-are : rows ≡ range_with_len 0 (table_in bytes).row_count
-  rows-are = all ∙ ap (range_with_len 0) as_many
+-- the rows of an open file are those of its table
+pub as-many : (bytes : List ℕ) (r : SeenReader) (n : ℕ) → ReadsTable (table_in bytes) r → n ≡ r.keys.row_count
+    → n ≡ (table_in bytes).row_count
+as-many bytes r n reads counted = counted ∙ reads.rows
 
 -- ---- answers
 

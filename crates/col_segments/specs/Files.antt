@@ -1,5 +1,5 @@
 -- Files in memory, and the tables that they stand for.
-use Rattle.std.specs.Prelude.{◌≡◌, ◌⊎◌, ◌<◌, ◌^◌, ℕ, List, [], length, map, unwrap_or, true, Some, None, Result, Ok, Err}
+use Rattle.std.specs.Prelude.{◌≡◌, ◌⊎◌, ◌<◌, ◌^◌, ℕ, List, [], map, unwrap_or, Some, None, Result, Ok, Err}
 use Rattle.std.specs.List.{AllZip}
 use Rattle.col_common.specs.declared.error.ColumnarError.{ColumnarError}
 use Rattle.col_common.specs.declared.error.ColumnarError.TheVariants.{OutOfMemory, InvalidData}
@@ -8,8 +8,9 @@ use Rattle.col_merge.specs.Parts.{told_part}
 use Rattle.col_model.specs.File.{part_of_table, table_of}
 use Rattle.col_model.specs.Keys.{keys}
 use Rattle.col_model.specs.Table.{Table}
+use Rattle.col_places.specs.Places.{AliveRows}
 use Rattle.col_segments.specs.Live.{with_alive}
-use Rattle.col_segments.specs.Segments.{HeldTable, alive_count, are_places}
+use Rattle.col_segments.specs.Segments.{HeldTable, alive_count}
 
 -- a table without rows and columns
 abbrev pub no_table : Table
@@ -23,12 +24,10 @@ table_in bytes = unwrap_or (table_of bytes) no_table
 abbrev pub IsTableFile : List ℕ → Type 0
 IsTableFile bytes = table_of bytes ≡ Some (table_in bytes)
 
--- The bytes stand for a table; the rows that are alive ascend, are rows of it, and few enough to be
--- counted by 32 bits.
-pub record IsWhole (bytes alive : List ℕ) : Type 0 where
+-- The bytes stand for a table, of whose rows some are alive.
+pub record IsWhole (bytes : List ℕ) (alive : AliveRows) : Type 0 where
   pub table : IsTableFile bytes
-  pub rows : are_places 0 (table_in bytes).row_count alive ≡ true
-  pub few : length alive < 2 ^ 32
+  pub count : alive.count ≡ (table_in bytes).row_count
 
 -- an open file of a table
 pub record ReadsTable (t : Table) (r : SeenReader) : Type 0 where

@@ -1,11 +1,11 @@
 -- Segments: tables with the rows that are alive in each, and what each change makes of them. States
 -- docs/RULES.md, Sets of segments.
-use Rattle.std.specs.Prelude.{ℕ, ◌<◌, ◌≤◌, ◌+◌, ◌^◌, ◌==◌, not, nat_le, slice_index, List, [], ◌∷◌, ◌++◌, length, sum_by, if◌then◌else◌, Result, Ok, Err}
+use Rattle.std.specs.Prelude.{ℕ, ◌+◌, ◌^◌, ◌==◌, not, nat_le, List, [], ◌∷◌, ◌++◌, length, sum_by, if◌then◌else◌, Result, Ok, Err}
 use Rattle.std.specs.List.{range_with_len}
 use Rattle.col_model.specs.File.{table_of}
 use Rattle.col_model.specs.Refusal.{Refusal, ◌>>=◌, or_refuse, refuse_if, invalid_data, bad_order, too_large}
 use Rattle.col_model.specs.Table.{Table}
-pub use Rattle.col_places.specs.Places.{are_places, is_listed}
+pub use Rattle.col_places.specs.Places.{Ascends, are_places, is_listed, rows_without}
 use Rattle.col_segments.specs.RowIds.{row_ids}
 
 -- a table, and the rows of it that are alive, ascending
@@ -41,18 +41,8 @@ with_more hs h = Ok (hs ++ h ∷ [])
 abbrev pub appended : List ℕ → List HeldTable → Result (List HeldTable) Refusal
 appended bytes hs = added_file bytes hs >>= with_more hs
 
--- no number is above a later one
-abbrev pub Ascends : List ℕ → Type 0
-Ascends ids = (i j : ℕ) → i ≤ j → j < length ids → slice_index ids i ≤ slice_index ids j
-
--- the rows, counted from a place on, but for those at the places that are named
-abbrev pub rows_without : List ℕ → ℕ → List ℕ → List ℕ
-rows_without ids place [] = []
-rows_without ids place (row ∷ rows) =
-    if is_listed ids place then rows_without ids (place + 1) rows
-    else row ∷ rows_without ids (place + 1) rows
-
--- the same of all tables, whose rows are counted one after another
+-- The tables without the rows at the places that are named; the rows of all are counted one after
+-- another.
 abbrev pub without : List ℕ → ℕ → List HeldTable → List HeldTable
 without ids place [] = []
 without ids place (h ∷ hs) =

@@ -50,11 +50,25 @@ fn alive_rows(alloc: Global, held: &[Segment]) -> Result<Vec<RowAddr>, AllocErro
     for place in 0..held.len() {
         let segment = &held[place];
         if segment.num_alive() > 0 {
-            push_rows(&mut rows, segment_ord, segment.alive())?;
+            push_segment(alloc, &mut rows, segment_ord, segment)?;
             segment_ord += 1;
         }
     }
     Ok(rows)
+}
+
+// Appends the addresses of the rows that are alive in a segment.
+fn push_segment(
+    alloc: Global,
+    rows: &mut Vec<RowAddr>,
+    segment_ord: u32,
+    segment: &Segment,
+) -> Result<(), AllocError>
+    ensures { OnOk result (map address_of rows.new.items
+        ≡ map address_of rows.old.items ++ map (λ r. (segment_ord, r)) segment.now.alive) }
+{
+    let alive = segment.alive().to_rows(alloc)?;
+    push_rows(rows, segment_ord, &alive)
 }
 
 // Appends the addresses of rows of a segment.

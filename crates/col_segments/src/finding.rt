@@ -11,6 +11,7 @@ ghost use Rattle.col_questions.specs.Steps.{end_of};
 ghost use Rattle.col_segments.specs.Files.{AreOpenBeside};
 ghost use Rattle.col_segments.specs.Found.{HasColumn, MayFit, has_value, places_between};
 ghost use Rattle.col_segments.specs.Live.{live, row_in, with_alive};
+ghost use Rattle.col_segments.specs.Segments.{alive_count};
 ghost use Rattle.col_types.specs.Kinds.{kind_of};
 
 use crate::Segment;
@@ -71,7 +72,7 @@ fn push_all(
     tables_are_sound(held);
     let slot = SlotKey::new(alloc, name, column_type)?;
     let columns = open_slot(alloc, readers, &slot)?;
-    push_found(alloc, held, readers, &columns, lo, hi, places)
+    push_found(alloc, held, &columns, lo, hi, places)
 }
 
 // Opens the columns of a slot.
@@ -94,13 +95,12 @@ fn open_slot(
 fn push_found(
     alloc: Global,
     held: &[Segment],
-    readers: &[Reader],
     columns: &[Option<DynamicColumn>],
     lo: &QueryValue,
     hi: &QueryValue,
     places: &mut Vec<RowId>,
 ) -> Result<(), AllocError>
-    requires open_ { AreOpenBeside held.now readers.now }
+    requires few { alive_count held.now < 2 ^ 32 }
     requires fits { AllZip MayFit (map (λ h. h.table) (with_alive held.now)) columns.now }
     ensures { (name : List ℕ) (t : types.ColumnType)
         → AllZip (HasColumn (slot_of name t)) (map (λ h. h.table) (with_alive held.now)) columns.now
@@ -112,17 +112,7 @@ fn push_found(
     for place in 0..held.len() {
         let segment = &held[place];
         if segment.num_alive() > 0 {
-            let num_rows = readers[next].num_docs();
-            push_in(
-                alloc,
-                segment,
-                &columns[next],
-                lo,
-                hi,
-                num_rows,
-                first,
-                places,
-            )?;
+            push_in(alloc, segment, &columns[next], lo, hi, first, places)?;
             first += segment.num_alive();
             next += 1;
         }
@@ -137,11 +127,9 @@ fn push_in(
     column: &Option<DynamicColumn>,
     lo: &QueryValue,
     hi: &QueryValue,
-    num_rows: RowId,
     first: RowId,
     places: &mut Vec<RowId>,
 ) -> Result<(), AllocError>
-    requires rows { segment.now.table.row_count ≡ num_rows }
     requires fits { MayFit segment.now.table column.now }
     requires room { first + length segment.now.alive < 2 ^ 32 }
     ensures { (name : List ℕ) (t : types.ColumnType)
@@ -153,15 +141,5 @@ fn push_in(
     let Some(column) = column else {
         return Ok(());
     };
-    segment.rows_rise();
-    push_places(
-        alloc,
-        column,
-        lo,
-        hi,
-        num_rows,
-        segment.alive(),
-        first,
-        places,
-    )
+    push_places(alloc, column, lo, hi, segment.alive(), first, places)
 }

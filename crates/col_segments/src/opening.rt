@@ -1,6 +1,6 @@
 //! Opens files in memory as segments.
 ghost use Rattle.std.specs.Prelude.{◌≡◌, map, Some, IfOk, IfSome};
-ghost use Rattle.std.specs.List.{list_all, range_with_len};
+ghost use Rattle.std.specs.List.{list_all};
 ghost use Rattle.col_file.specs.Checks.{is_column};
 ghost use Rattle.col_segments.specs.Files.{IsTableFile, OpensBytes, ReadsTable, table_in};
 ghost use Rattle.col_segments.specs.Segments.{all_alive, whole_file};
@@ -8,8 +8,9 @@ ghost use Rattle.col_writer_columns.specs.Answers.{Gives};
 
 use crate::Segment;
 use bytes::Bytes;
-use col_common::{ColumnarError, FileInMemory, RowId};
+use col_common::{ColumnarError, FileInMemory};
 use col_file::{ColumnarReader, check_columns};
+use col_places::Alive;
 use std::alloc::{AllocError, Global};
 
 /// A file in memory that is open.
@@ -88,18 +89,7 @@ fn opened_whole(alloc: Global, file: Bytes, reader: Reader) -> Result<Opened, Al
     ensures reader { IfOk result (λ o. ReadsTable o.segment.table o.reader) }
 {
     reader.file_is_whole();
-    let alive = all_rows(alloc, reader.num_docs())?;
+    let alive = Alive::all(alloc, reader.num_docs())?;
     let segment = Segment { file, alive };
     Ok(Opened { segment, reader })
-}
-
-// The rows from 0 on, as many as there are.
-fn all_rows(alloc: Global, num_rows: RowId) -> Result<Vec<RowId>, AllocError>
-    ensures { IfOk result (λ rows. rows.items ≡ range_with_len 0 num_rows) }
-{
-    let mut rows = Vec::with_capacity(alloc, num_rows as usize)?;
-    for row in 0..num_rows {
-        rows.push(row)?;
-    }
-    Ok(rows)
 }

@@ -1,10 +1,9 @@
 //! Row ids: as a journal has them, and as places of rows that are dropped.
-ghost use Rattle.std.specs.Prelude.{◌≡◌, ◌<◌, ◌+◌, ◌^◌, Some, IfOk, vec_len};
+ghost use Rattle.std.specs.Prelude.{◌≡◌, Some, IfOk};
 ghost use Rattle.col_model.specs.Refusal.{or_refuse, invalid_data};
 ghost use Rattle.col_writer_columns.specs.Answers.{Gives};
 ghost use Rattle.col_segments.specs.RowIds.{row_ids};
 ghost use Rattle.col_segments.specs.Segments as model;
-ghost use Rattle.col_segments.specs.Segments.{Ascends};
 
 use col_common::{ColumnarError, RowId};
 use std::alloc::{AllocError, Global};
@@ -51,29 +50,4 @@ pub(crate) fn are_places(ids: &[RowId], num_rows: RowId) -> bool
         next = u64::from(*id) + 1;
     }
     true
-}
-
-// Keeps the rows that aren't at the places named, which are counted from the first one's on.
-#[tactic(auto, using(crate::proofs::RowLemmas::keeps_none, crate::proofs::RowLemmas::keeps_all))]
-pub(crate) fn keep_rows(rows: &mut Vec<RowId>, ids: &[RowId], first: RowId)
-    requires room { first + vec_len rows.old < 2 ^ 32 }
-    requires places { Ascends ids.now }
-    ensures { rows.new.items ≡ model.rows_without ids.now first rows.old.items }
-{
-    let mut kept = 0;
-    for at in 0..rows.len() {
-        if !is_listed(ids, first + at as RowId) {
-            rows[kept] = rows[at];
-            kept += 1;
-        }
-    }
-    rows.truncate(kept);
-}
-
-// Whether a place is among those named.
-fn is_listed(ids: &[RowId], place: RowId) -> bool
-    requires { Ascends ids.now }
-    ensures { result ≡ model.is_listed ids.now place }
-{
-    ids.binary_search(&place).is_ok()
 }

@@ -1,13 +1,13 @@
 //! A file in memory, and the rows of it that are alive.
-ghost use Rattle.std.specs.Prelude.{◌≡◌, ◌<◌, ◌+◌, ◌^◌, length, true};
+ghost use Rattle.std.specs.Prelude.{◌≡◌, ◌<◌, ◌+◌, ◌^◌, length};
 ghost use Rattle.col_common.specs.Reading.{IsBytes};
 ghost use Rattle.col_model.specs.Sound.{IsSound};
 ghost use Rattle.col_segments.specs.Compaction.{HasItsRows};
-ghost use Rattle.col_segments.specs.Segments.{Ascends, are_places, rows_without};
+ghost use Rattle.col_segments.specs.Segments.{Ascends, rows_without};
 
-use crate::rows::keep_rows;
 use bytes::Bytes;
 use col_common::RowId;
+use col_places::Alive;
 use std::marker::Model;
 
 /// A file that stands for a table, and the rows of it that are alive, ascending. Contracts see the
@@ -15,7 +15,7 @@ use std::marker::Model;
 #[derive(Drop)]
 pub struct Segment {
     pub(crate) file: Bytes,
-    pub(crate) alive: Vec<RowId>,
+    pub(crate) alive: Alive,
 }
 
 impl Model for Segment {
@@ -24,15 +24,16 @@ impl Model for Segment {
 
     ghost Value = { HeldTable };
 
-    ghost view = { λ s. record { table = table_in s.file; alive = s.alive.items } };
+    ghost view = { λ s. record { table = table_in s.file; alive = s.alive.rows } };
 
-    ghost invariant = { λ s. IsWhole s.file s.alive.items };
+    ghost invariant = { λ s. IsWhole s.file s.alive };
 }
 
 impl Segment {
     /// The rows that are alive.
-    pub fn alive(&self) -> &[RowId]
-        ensures { result.now ≡ self.now.alive }
+    pub fn alive(&self) -> &Alive
+        ensures rows { result.now.rows ≡ self.now.alive }
+        ensures count { result.now.count ≡ self.now.table.row_count }
     {
         &self.alive
     }
@@ -41,21 +42,14 @@ impl Segment {
     pub fn num_alive(&self) -> RowId
         ensures { result ≡ length self.now.alive }
     {
-        self.alive.len() as RowId
+        self.alive.len()
     }
 
     /// That the rows that are alive are rows of the table.
     pub fn rows_are_there(&self)
         ensures { HasItsRows self.now }
     {
-        let _ = &self.file;
-    }
-
-    /// That these rows ascend.
-    pub fn rows_rise(&self)
-        ensures { are_places 0 self.now.table.row_count self.now.alive ≡ true }
-    {
-        let _ = &self.file;
+        self.alive.rise();
     }
 
     /// That the table is sound.
@@ -71,7 +65,7 @@ impl Segment {
         requires places { Ascends ids.now }
         ensures { self.new ≡ record self.old { alive = rows_without ids.now first self.old.alive } }
     {
-        keep_rows(&mut self.alive, ids, first);
+        self.alive.drop_places(ids, first);
     }
 }
 

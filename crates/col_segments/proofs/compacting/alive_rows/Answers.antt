@@ -3,7 +3,7 @@ use Rattle.col_segments.specs.Live.{addresses}
 use Rattle.col_segments.specs.Segments.{HeldTable}
 use Rattle.col_segments.proofs.KeptLemmas.{count-more, addresses-more, none-more, few-tables}
 use Rattle.col_segments.proofs.compacting.alive_rows.Goals as goal
-use Rattle.col_segments.proofs.compacting.alive_rows.Goals.{then-num_alive-gt0+in_ok-push_rows, else-num_alive-gt0}
+use Rattle.col_segments.proofs.compacting.alive_rows.Goals.{then-num_alive-gt0+in_ok-push_segment, else-num_alive-gt0}
 
 pub overflow_add-segment_ord : goal.overflow_add-segment_ord
 overflow_add-segment_ord c =
@@ -24,11 +24,11 @@ loop-place-preserved c =
     let within : i < length hs = omega (arith, c.loop-place-test.true) in
     let count = c.num_alive.ensures ∙ ap (λ (h : HeldTable). length h.alive) c.index-held-place.is in
     elim c.if-num_alive-gt0.branch [
-      | then-num_alive-gt0+in_ok-push_rows w ↦
+      | then-num_alive-gt0+in_ok-push_segment w ↦
           let some : 0 < length (get_or hs i d).alive = omega (arith, count, w.if-num_alive-gt0.true) in
-          let alive = w.alive.ensures ∙ ap (λ (h : HeldTable). h.alive) c.index-held-place.is in
+          let alive = ap (λ (h : HeldTable). h.alive) c.index-held-place.is in
           let named =
-          w.in_ok-push_rows.ensures ∙ (λ j. was.named j ++ map (λ (r : ℕ). (was.counted j, r)) (alive j))
+          w.in_ok-push_segment.ensures ∙ (λ j. was.named j ++ map (λ (r : ℕ). (was.counted j, r)) (alive j))
           ∙ sym (addresses-more hs i d within some) in
           record {
             named = rw w.rows-is named;

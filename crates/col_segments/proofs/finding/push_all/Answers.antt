@@ -8,10 +8,8 @@ use Rattle.col_segments.proofs.MergeLemmas.{all-read}
 use Rattle.col_segments.proofs.ReaderLemmas.{kept_tables}
 use Rattle.col_segments.proofs.finding.push_all.Goals as goal
 
-pub push_found-requires-clause-open_ : goal.push_found-requires-clause-open_
-push_found-requires-clause-open_ c =
-    all-read (slot_reads c.in_ok-slot.slot) c.args.held.now c.args.readers.now c.open_slot.new.readers c.requires
-    c.in_ok-columns.ensures.kept
+pub push_found-requires-clause-few : goal.push_found-requires-clause-few
+push_found-requires-clause-few c = c.requires.few
 
 pub push_found-requires-clause-fits : goal.push_found-requires-clause-fits
 push_found-requires-clause-fits c =

@@ -1,10 +1,8 @@
 use Rattle.std.proofs.Common.{rules, ◌<◌, ◌≤◌, ◌+◌, ◌*◌, ◌++◌, Option, length, get_or, map, sym, ap, ◌∙◌, subst, arith, Fits, w64}
 use Rattle.col_dynamic.specs.declared.dynamic_column.DynamicColumn.{DynamicColumn}
-use Rattle.col_file.specs.Readers.{SeenReader}
 use Rattle.col_model.specs.Category.{slot_of}
 use Rattle.col_places.specs.Places.{places_of}
 use Rattle.col_questions.specs.Steps.{end_of}
-use Rattle.col_segments.specs.Files.{ReadsTable}
 use Rattle.col_segments.specs.Found.{HasColumn, MayFit, has_value}
 use Rattle.col_segments.specs.Live.{row_in}
 use Rattle.col_segments.specs.Segments.{HeldTable}
@@ -12,29 +10,6 @@ use Rattle.col_segments.proofs.FindsLemmas.{beside-at, beside-within, found-next
 use Rattle.col_segments.proofs.KeptLemmas.{few-tables}
 use Rattle.col_segments.proofs.finding.push_found.Goals as goal
 use Rattle.col_segments.proofs.finding.push_found.Goals.{then-num_alive-gt0+in_ok-push_in, else-num_alive-gt0}
-
-pub offset_bounds-readers-next : goal.offset_bounds-readers-next
-offset_bounds-readers-next c =
-    let at = c.loop-place in
-    let hs = c.args.held.now in
-    let d = c.index-held-place.result in
-    let within : at.place < length hs = omega (arith, c.loop-place-test.true) in
-    let is = ap (λ (h : HeldTable). length h.alive) c.index-held-place.is in
-    let some : 0 < length (get_or hs at.place d).alive = omega (arith, is, c.num_alive.ensures, c.if-num_alive-gt0.true) in
-    let there = beside-within hs at.place at.first at.next d at.invariant.0 within ReadsTable c.args.readers.now c.requires.open_.open_ some
-    in
-    let few : Fits w64 (length c.args.readers.now * 80) = search rules in
-    omega (arith, few, there)
-
-pub bounds-readers-next : goal.bounds-readers-next
-bounds-readers-next c =
-    let at = c.loop-place in
-    let hs = c.args.held.now in
-    let d = c.index-held-place.result in
-    let within : at.place < length hs = omega (arith, c.loop-place-test.true) in
-    let is = ap (λ (h : HeldTable). length h.alive) c.index-held-place.is in
-    let some : 0 < length (get_or hs at.place d).alive = omega (arith, is, c.num_alive.ensures, c.if-num_alive-gt0.true) in
-    beside-within hs at.place at.first at.next d at.invariant.0 within ReadsTable c.args.readers.now c.requires.open_.open_ some
 
 pub offset_bounds-columns-next : goal.offset_bounds-columns-next
 offset_bounds-columns-next c =
@@ -58,21 +33,6 @@ bounds-columns-next c =
     let some : 0 < length (get_or hs at.place d).alive = omega (arith, is, c.num_alive.ensures, c.if-num_alive-gt0.true) in
     beside-within hs at.place at.first at.next d at.invariant.0 within MayFit c.args.columns.now c.requires.fits some
 
-pub push_in-requires-clause-rows : goal.push_in-requires-clause-rows
-push_in-requires-clause-rows c =
-    let at = c.loop-place in
-    let hs = c.args.held.now in
-    let d = c.index-held-place.result in
-    let within : at.place < length hs = omega (arith, c.loop-place-test.true) in
-    let is = c.index-held-place.is in
-    let alive = ap (λ (h : HeldTable). length h.alive) is in
-    let some : 0 < length (get_or hs at.place d).alive = omega (arith, alive, c.num_alive.ensures, c.if-num_alive-gt0.true) in
-    let reader = c.index-readers-next.result in
-    let reads = beside-at hs at.place at.first at.next d at.invariant.0 within ReadsTable c.args.readers.now reader c.requires.open_.open_
-    some in
-    ap (λ (h : HeldTable). h.table.row_count) is ∙ sym reads.rows
-    ∙ sym (c.num_docs-num_rows.ensures ∙ ap (λ (r : SeenReader). r.keys.row_count) c.index-readers-next.is)
-
 pub push_in-requires-clause-fits : goal.push_in-requires-clause-fits
 push_in-requires-clause-fits c =
     let at = c.loop-place in
@@ -90,7 +50,7 @@ push_in-requires-clause-fits c =
 pub overflow_add-next : goal.overflow_add-next
 overflow_add-next c =
     let at = c.loop-place in
-    omega (arith, at.invariant.0.next_is, few-tables c.args.held.now at.place, c.requires.open_.few)
+    omega (arith, at.invariant.0.next_is, few-tables c.args.held.now at.place, c.requires.few)
 
 pub loop-place-preserved : goal.loop-place-preserved
 loop-place-preserved c =

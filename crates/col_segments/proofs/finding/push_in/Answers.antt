@@ -27,5 +27,5 @@ returns c = λ name t has.
     let column = c.in-Some.column in
     let new = c.push_places.new.places.items in
     let by = found-with name t lo hi h.table c.args.first h.alive column (subst (HasColumn (slot_of name t) h.table) c.in-Some.is has) in
-    let asked = ap (places_of c.args.first (λ r. is_row_between (type_of column) lo hi (row_of (content_of column) r))) c.alive.ensures in
+    let asked = ap (places_of c.args.first (λ r. is_row_between (type_of column) lo hi (row_of (content_of column) r))) c.alive.ensures.rows in
     subst (λ (ps : List ℕ). OnOk c.push_places.result (new ≡ c.args.places.now.items ++ ps)) (asked ∙ sym by) c.push_places.ensures

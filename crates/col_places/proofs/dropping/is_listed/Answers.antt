@@ -1,7 +1,7 @@
 use Rattle.std.proofs.Common.{◌∙◌}
 use Rattle.std.proofs.lemmas.List.Sorted.{searched}
-use Rattle.col_segments.proofs.PlaceLemmas.{among-searched}
-use Rattle.col_segments.proofs.rows.is_listed.Goals as goal
+use Rattle.col_places.proofs.DropLemmas.{among-searched}
+use Rattle.col_places.proofs.dropping.is_listed.Goals as goal
 
 pub returns : goal.returns
 returns c =
