@@ -93,11 +93,12 @@ fn push_alive(readers: &mut Vec<Reader>, reader: Reader, num_alive: RowId) -> Re
     Ok(())
 }
 
-/// Lets the last segment go.
+/// Lets the last segment go, if there is one.
 pub fn pop_last(held: &mut Vec<Segment>, readers: &mut Vec<Reader>)
     requires { AreOpenBeside held.old.items readers.old.items }
     ensures last { (hs : List HeldTable) (h : HeldTable) → held.old.items ≡ hs ++ h ∷ []
         → held.new.items ≡ hs }
+    ensures none { held.old.items ≡ [] → held.new.items ≡ [] }
     ensures open_ { AreOpenBeside held.new.items readers.new.items }
 {
     let Some(segment) = held.pop() else {

@@ -126,9 +126,11 @@ impl Segments {
         Ok(())
     }
 
-    /// Lets the last file go.
+    /// Lets the last file go, if there is one.
     pub fn pop(&mut self)
-        ensures { (hs : List HeldTable) (h : HeldTable) → self.old ≡ hs ++ h ∷ [] → self.new ≡ hs }
+        ensures last { (hs : List HeldTable) (h : HeldTable) → self.old ≡ hs ++ h ∷ []
+            → self.new ≡ hs }
+        ensures none { self.old ≡ [] → self.new ≡ [] }
     {
         pop_last(&mut self.held, &mut self.readers);
     }

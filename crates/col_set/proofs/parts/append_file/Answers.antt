@@ -31,5 +31,5 @@ returns g c =
     let makes = ap (λ b. appended b hs) (c.deref.ensures ∙ c.in-Ok.ensures.ok.0) ∙ is in
     let last = appended-behind c.args.file.items hs after is in
     parts-err g.D.Disk.seen c.args.journal.now.disk new.disk new.gate hs after c.pop.new.self c.add_change.new.failed
-    (appended c.args.file.items hs) is c.in-Err-add_change.error (c.pop.ensures hs last.0 last.1)
+    (appended c.args.file.items hs) is c.in-Err-add_change.error (c.pop.ensures.last hs last.0 last.1)
     (c.in-Err-add_change.ensures hs after (c.requires.stands c.requires.works) makes)
