@@ -1,7 +1,7 @@
 //! Lists on a line, of a few bytes that claim more values than can be walked in a moment.
 
 use bytes::Bytes;
-use col_codecs::{ColumnCodec, Line, LinearCodec, LinearReader, StatsCollector};
+use col_codecs::{ColumnCodec, LinearCodec, LinearReader};
 use col_common::{ColumnarError, VInt, VecSink, serialize_bytes};
 use col_values::ColumnValues;
 use std::alloc::Global;
@@ -119,61 +119,6 @@ fn lists_on_a_line_tell_with_no_walk_whether_they_rise(rt: HostRuntime) -> Resul
         let (rises, never_falls) = ORDERS[at];
         assert_eq!(rt; list.rises(), Some(rises), "{what}");
         assert_eq!(rt; list.never_falls(), Some(never_falls), "{what}");
-    }
-    Ok(())
-}
-
-// Slopes and intercepts near those where values turn, begin to rise by whole steps, or fall by less.
-const EDGES: [u64; 14] = [
-    0,
-    1,
-    1 << 31,
-    (1 << 32) - 1,
-    1 << 32,
-    5 << 32 | 7,
-    1 << 61,
-    (1 << 63) - 1,
-    1 << 63,
-    0xffff_ffff << 32,
-    0xffff_ffff << 32 | 1,
-    0xffff_ffff << 32 | 1 << 31,
-    u64::MAX - 1,
-    u64::MAX,
-];
-
-// Whether the first values on a line rise, and whether they never fall, by a walk.
-fn walked(line: Line, count: u32) -> (bool, bool) {
-    let mut rises = true;
-    let mut never_falls = true;
-    for x in 1..count {
-        let (last, value) = (line.eval(x - 1), line.eval(x));
-        rises = rises && last < value;
-        never_falls = never_falls && last <= value;
-    }
-    (rises, never_falls)
-}
-
-#[test]
-fn short_lists_on_a_line_tell_what_a_walk_tells(rt: HostRuntime) -> Result<(), Fail> {
-    let alloc = rt.alloc();
-    for slope in EDGES {
-        for intercept in EDGES {
-            for count in [1, 2, 3, 9] {
-                let line = Line { slope, intercept };
-                let mut collector = StatsCollector::default();
-                for x in 0..count {
-                    collector.collect(line.eval(x));
-                }
-                let stats = collector.stats();
-                let steps = (stats.max_value - stats.min_value) / stats.gcd;
-                let told = (stats.min_value, stats.gcd, steps);
-                let list = opened(alloc, told, u64::from(count), (slope, intercept))?;
-                let (rises, never_falls) = walked(line, count);
-                assert_eq!(rt; list.rises(), Some(rises));
-                let answer = list.never_falls();
-                assert!(rt; answer == Some(never_falls) || answer.is_none() && slope > EDGES[9]);
-            }
-        }
     }
     Ok(())
 }
