@@ -29,7 +29,7 @@ fn push_line(
 // Appends the first rows of so many.
 fn push_rows(sink: &mut VecSink, num_rows: u64, count: u64) -> Result<(), ColumnarError> {
     VInt(num_rows).serialize(sink)?;
-    push_line(sink, STEP, count, count - 1)
+    push_line(sink, STEP, count, count.saturating_sub(1))
 }
 
 fn bytes_of(alloc: Global, sink: &VecSink) -> Result<Bytes, ColumnarError> {
