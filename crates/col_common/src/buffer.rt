@@ -1,4 +1,5 @@
 //! Bytes in memory as a sink that never fails.
+ghost use Rattle.std.specs.Prelude.{false};
 ghost use Rattle.col_common.specs.Outside.{in_memory};
 
 use crate::{HandleError, Sink};
@@ -47,6 +48,8 @@ impl Buffer {
 
 impl Sink for Buffer {
     ghost seen = { in_memory };
+
+    ghost in_parts = { false };
 
     fn write_all(&mut self, bytes: &[u8]) -> Result<(), HandleError> {
         Ok(self.bytes.extend_from_slice(bytes)?)

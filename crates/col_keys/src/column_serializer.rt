@@ -1,4 +1,5 @@
 //! Where the bytes of a column are put.
+ghost use Rattle.std.specs.Prelude.{false};
 ghost use Rattle.col_common.specs.Outside.{in_memory};
 ghost use Rattle.col_keys.specs.KeyTables.{key_at};
 ghost use Rattle.col_keys.specs.Put.{Puts};
@@ -36,6 +37,8 @@ impl ColumnSerializer<'_> {
 
 impl Sink for ColumnSerializer<'_> {
     ghost seen = { λ s. in_memory s.bytes };
+
+    ghost in_parts = { false };
 
     fn write_all(&mut self, bytes: &[u8]) -> Result<(), HandleError> {
         self.bytes.write_all(bytes)
