@@ -152,7 +152,7 @@ text-refused old new xs ys _ h = absurd h
 -- ---- the text and the report
 
 -- a text was made, and then a report
-pub both-made : (old mid new : SeenFile) (times : ℕ) (bytes : List ℕ) (report : Vec ℕ Global) → ReadsFile times old mid
+pub both-made : (old mid new : SeenFile) (times : ℕ) (bytes : List ℕ) (report : List ℕ) → ReadsFile times old mid
     → AnswersWithText IsText old mid (Ok bytes) → AnswersForHandle IsShortReport mid new (Ok report) table_of
     → AnswersWithText IsExport old new (Ok (record { bytes = bytes; report = report }))
 both-made old mid new times bytes report read text made =

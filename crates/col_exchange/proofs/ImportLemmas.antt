@@ -47,7 +47,7 @@ file-refused o xs ys LongCsv h = absurd (never o LongCsv (λ is. cc) h.0)
 file-refused o xs ys NotFlat h = absurd (never o NotFlat (λ is. cc) h.0)
 
 -- a file was made, and then a report on its table
-pub both-made : (o : Option Table) (bytes : List ℕ) (report : Vec ℕ Global) → IsExpected StandsFor bytes o
+pub both-made : (o : Option Table) (bytes : List ℕ) (report : List ℕ) → IsExpected StandsFor bytes o
     → ((t : Table) → table_of bytes ≡ Some t → IsShortReport t report)
     → IsExpected IsImport (record { bytes = bytes; report = report }) o
 both-made None bytes report h made = absurd h

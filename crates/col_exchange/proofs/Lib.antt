@@ -1,3 +1,2 @@
 mod ExportLemmas
 mod ImportLemmas
-mod ReportLemmas

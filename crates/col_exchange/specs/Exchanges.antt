@@ -17,8 +17,8 @@ use Rattle.col_model.specs.Table.{Table}
 use Rattle.col_program.specs.Report.{report_of}
 
 -- the short report on a table, without lookups
-abbrev pub IsShortReport : Table → Vec ℕ Global → Type 0
-IsShortReport t report = report.items ≡ report_of t [] true
+abbrev pub IsShortReport : Table → List ℕ → Type 0
+IsShortReport t report = report ≡ report_of t [] true
 
 -- ---- one input as a text
 

@@ -11,13 +11,14 @@ use col_common::{Buffer, FileHandle};
 use col_csv::CsvError;
 use col_csv_export::export_csv;
 use col_file::ColumnarReader;
+use col_report::Report;
 use std::alloc::Global;
 
 /// What goes to the output, and the report on its table.
 #[derive(Drop)]
 pub struct Exchanged {
     pub bytes: Bytes,
-    pub report: Vec<u8>,
+    pub report: Report,
 }
 
 /// Writes the table of the one input as CSV, and makes a short report on it. The input is handed

@@ -9,25 +9,23 @@ ghost use Rattle.col_model.specs.Table.{Table};
 use bytes::Bytes;
 use col_common::{ColumnarError, FileHandle, MemHandle};
 use col_file::ColumnarReader;
-use col_report::write_report;
+use col_report::{Report, open_report};
 use std::alloc::{AllocError, Global};
 
 // The short report on an open file, without questions.
 pub(crate) fn short_report<F: FileHandle>(
     alloc: Global,
     reader: &mut ColumnarReader<F>,
-) -> Result<Vec<u8>, ColumnarError>
+) -> Result<Report, ColumnarError>
     ensures answer { AnswersForHandle IsShortReport
         reader.old.file reader.new.file result table_of }
     ensures kept { Reads (length reader.old.keys.entries) reader.old reader.new }
 {
-    let mut report = Vec::new(alloc);
-    write_report(alloc, reader, &[], true, &mut report)?;
-    Ok(report)
+    open_report(alloc, reader, &[], true)
 }
 
 // The same on a file in memory that was made.
-pub(crate) fn report_on_made(alloc: Global, file: &Bytes) -> Result<Vec<u8>, AllocError>
+pub(crate) fn report_on_made(alloc: Global, file: &Bytes) -> Result<Report, AllocError>
     ensures { (t : Table) → table_of file.now ≡ Some t →
         IfOk result (λ report. IsShortReport t report) }
 {

@@ -69,7 +69,7 @@ module _ (required : List Required) (o : Option RowOrder) (rs ss : List SeenRead
     -- a merged file with the report of its table is what the merge comes to
     pub all-made : (short : Bool) (questions : List Question) (made : FileAndReport)
         → MergesReaders StandsFor column_reads ss us (Ok made.file) (λ parts. merged parts required (order_of taken))
-        → ((t : Table) → table_of made.file ≡ Some t → made.report.items ≡ report_of t questions short)
+        → ((t : Table) → table_of made.file ≡ Some t → made.report ≡ report_of t questions short)
         → MergesReaders (IsMade short questions) (merge_reads o) rs us (Ok made) (merged_over required o)
     all-made short questions made h reported = record {
       made = λ parts told. by parts told (h.made parts (still-told parts told)).ok;

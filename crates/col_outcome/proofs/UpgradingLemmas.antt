@@ -75,7 +75,7 @@ want-refuses old new e memory = subst (λ e. AnswersForHandle (IsMade true []) o
 -- the bytes that an upgrade wrote are the file, and the report is on its table
 pub upgrade-made : (old new : SeenFile) (xs ys : List ℕ) (done : Unit {0}) (made : FileAndReport) → xs ≡ [] → made.file ≡ ys
     → UpgradesFile old new (in_memory xs) (in_memory ys) (Ok done)
-    → ((t : Table) → table_of made.file ≡ Some t → made.report.items ≡ report_of t [] true)
+    → ((t : Table) → table_of made.file ≡ Some t → made.report ≡ report_of t [] true)
     → AnswersForHandle (IsMade true []) old new (Ok made) table_of
 upgrade-made old new xs ys done made none same h report = at old.told h
   where

@@ -61,7 +61,7 @@ AreReadersOf tables rs = AllZip IsReaderOf tables rs
 -- the file of a table, and its report with these questions, short or not
 abbrev pub IsMade : Bool → List Question → Table → FileAndReport → Type 0
 IsMade short questions t made =
-    StandsFor t made.file × (made.report.items ≡ report_of t questions short)
+    StandsFor t made.file × (made.report ≡ report_of t questions short)
 
 -- how often a file is read for its columns
 abbrev pub column_reads : FileKeys → ℕ

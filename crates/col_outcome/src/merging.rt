@@ -28,16 +28,16 @@ use col_lines::RowOrder;
 use col_merge::merge_columnar;
 use col_order::MergeRowOrder;
 use col_questions::Question;
-use col_report::write_report;
+use col_report::{Report, open_report};
 use col_script::Script;
 use col_types::ColumnType;
 use std::alloc::{AllocError, Global};
 
-/// A merged file, and the report on it.
+/// A merged file, and the open report on it.
 #[derive(Drop)]
 pub struct FileAndReport {
     pub file: Bytes,
-    pub report: Vec<u8>,
+    pub report: Report,
 }
 
 /// Merges inputs, and behind them the segments of a script, and reports on what the merged file
@@ -176,16 +176,15 @@ pub(crate) fn report_on(
     file: &Bytes,
     questions: &[Question],
     short: bool,
-) -> Result<Vec<u8>, AllocError>
+) -> Result<Report, AllocError>
     ensures { (t : Table) → table_of file.now ≡ Some t →
-        IfOk result (λ report. report.items ≡ report_of t (map question_of questions.now) short) }
+        IfOk result (λ report. report ≡ report_of t (map question_of questions.now) short) }
 {
     let Ok(mut reader) = open_file(alloc, file.clone()?) else {
         return Err(AllocError);
     };
-    let mut report = Vec::new(alloc);
-    match write_report(alloc, &mut reader, questions, short, &mut report) {
-        Ok(()) => Ok(report),
+    match open_report(alloc, &mut reader, questions, short) {
+        Ok(report) => Ok(report),
         // The columns of a file that was made are whole, so that memory alone is wanting.
         Err(_) => Err(AllocError),
     }

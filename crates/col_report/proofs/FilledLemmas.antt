@@ -13,9 +13,11 @@ use Rattle.col_model.specs.Table.{Cell}
 use Rattle.col_column.specs.Columns.{counts_by, rows_by}
 use Rattle.col_index.proofs.RowsLaws.{rows_from, rows_with_value-from}
 use Rattle.col_report.proofs.EndLemmas.{ends_from, Climb, ends-climb, row-step, ends-at}
-use Rattle.col_program.proofs.ReportLaws.{Prints-none, Prints-then}
+use Rattle.col_program.proofs.ReportLaws.{Prints-then}
 use Rattle.col_program.specs.Report.{lines_text, row_line, Prints}
-use Rattle.col_report.specs.Printed.{filled_lines}
+use Rattle.col_print.specs.Puts.{SeenOut}
+use Rattle.col_report.specs.Printed.{PutsLines, filled_lines}
+use Rattle.col_report.proofs.PutLemmas.{puts-no_lines}
 
 -- a line and those behind it
 lines-more : (a b : List ℕ) (d : Data) (ds : List Data) → Prints a b (d ∷ []) → b ++ lines_text ds ≡ a ++ lines_text (d ∷ ds)
@@ -81,6 +83,13 @@ module _ {T : Type 0} (t : ColumnType) (cell : T → Cell) (xs : List T) where
     text = ap (λ rows. a ++ lines_text (lines_by rows 0 (ends_from 0 cs))) (are ∙ rows_with_value-from cs)
         ∙ ap (λ ds. a ++ lines_text ds) (sym (lines-filled 0 0 cs (omega (arith, counted))));
   }
+
+  -- what was printed and the lines that are left are all lines
+  pub left-stopped : {cs b rows : List ℕ} {start place : ℕ} → AreLeft cs (all_behind cs []) b rows start place
+      → Prints [] (b ++ lines_text (lines_by rows start (drop place (ends_from 0 cs))))
+      (filled_lines t (enumerate_from 0 (map (map cell) (cut cs xs))))
+  unfolding Prints
+  left-stopped left = left.text
 
   -- where no row is left, all lines were printed
   pub left-no_row : (a : List ℕ) {cs b rows : List ℕ} {start place : ℕ} → rows ≡ [] → AreLeft cs (all_behind cs a) b rows start place
@@ -154,6 +163,6 @@ module _ {T : Type 0} (t : ColumnType) (cell : T → Cell) (xs : List T) where
   lines-none a zero = refl
   lines-none a (suc m) = lines-none (a + 1) m
 
-  -- so nothing is printed of them
-  pub none-printed : (m : ℕ) (a : List ℕ) → Prints a a (filled_lines t (enumerate_from 0 (map (map cell) (cut (replicate m 0) xs))))
-  none-printed m a = subst (Prints a a) (sym (lines-none 0 m)) (Prints-none a)
+  -- so nothing is put of them
+  pub none-put : (m : ℕ) (a : SeenOut) → PutsLines a a (filled_lines t (enumerate_from 0 (map (map cell) (cut (replicate m 0) xs))))
+  none-put m a = subst (PutsLines a a) (sym (lines-none 0 m)) (puts-no_lines a)

@@ -1,3 +1,4 @@
+mod PutLemmas
 mod TextLemmas
 mod RowLemmas
 mod EndLemmas

@@ -1,15 +1,24 @@
 -- The lines of columns.
-use Rattle.std.proofs.Common.{◌≡◌, ◌∙◌, ℕ, zero, suc, ◌+◌, ◌≤◌, min, Bool, true, false, List, [], ◌∷◌, map, length, sum, take, drop, replicate, refl, sym, ap, arith, length-take, length-drop}
+use Rattle.std.proofs.Common.{◌≡◌, ◌∙◌, ℕ, zero, suc, ◌+◌, ◌≤◌, min, Bool, true, false, List, [], ◌∷◌, ◌++◌, map, length, sum, take, drop, replicate, decimal, codes, refl, sym, ap, ap₂, append-nil, append_assoc, arith, length-take, length-drop}
 use Rattle.std.specs.List.{enumerate_from}
+use Rattle.json.specs.Print.{quoted, escape_byte}
 use Rattle.serde_json.specs.Data.{Data}
 use Rattle.col_model.specs.Dictionary.{cut}
 use Rattle.col_model.specs.Index.{Shape, empty_shape, full_shape, optional_shape, multivalued_shape}
 use Rattle.col_model.specs.Limits.{cell_count}
-use Rattle.col_program.specs.Report.{column_line, column_lines, row_lines, Prints}
-use Rattle.col_model.specs.Table.{Cell, Column}
+use Rattle.col_program.specs.Report.{column_line, column_lines, row_lines, lines_text, Prints}
+use Rattle.col_model.specs.ColumnType.{ColumnType, type_name}
+use Rattle.col_model.specs.Table.{Cell, Column, cardinality_name}
+use Rattle.col_print.specs.Puts.{SeenOut, Puts}
+use Rattle.col_print.proofs.PutsLemmas.{puts_as}
 use Rattle.col_model.proofs.ListLaws.{sum-cons, cell_count-cons}
 use Rattle.col_column.specs.Columns.{IsCounted, rows_by}
-use Rattle.col_report.specs.Printed.{filled_lines}
+use Rattle.col_report.specs.Printed.{PutsLines, filled_lines}
+use Rattle.col_report.specs.Reported.{name_text}
+use Rattle.col_index.specs.Offsets.{cardinality_in}
+use Rattle.col_dynamic.specs.Dynamic.{content_of, dynamic_shape}
+use Rattle.col_dynamic.specs.declared.dynamic_column.DynamicColumn.{DynamicColumn}
+use Rattle.col_dynamic.specs.declared.dynamic_column.DynamicColumn.TheVariants as columns
 use Rattle.col_program.proofs.ReportLaws.{Prints-then}
 
 length-cells : {T : Type 0} (cell : T → Cell) (xs : List T) → length (map cell xs) ≡ length xs
@@ -65,3 +74,44 @@ pub column-long : (a b d : List ℕ) (c : Column) (line : Data) (short : Bool) �
     → Prints a d (column_lines short c)
 unfolding filled_lines
 column-long a b d c line short is same printed rows = rw is (Prints-then a b d (column_line c ∷ []) (row_lines c) (rw same at printed) rows)
+
+-- ---- the line of a column
+
+regroup : (n w f d : List ℕ)
+    → ((n ++ 44 ∷ (w ++ 44 ∷ (f ++ 44 ∷ (d ++ 93 ∷ [])))) ++ 10 ∷ []) ++ []
+    ≡ (((n ++ 44 ∷ (w ++ 44 ∷ [])) ++ f) ++ 44 ∷ []) ++ (d ++ 93 ∷ 10 ∷ [])
+regroup n w f d = simp (append_assoc, append-nil)
+
+column-text : (c : Column) → lines_text (column_line c ∷ [])
+    ≡ codes "[\"column\"," ++ ((((name_text c.name c.column_type ++ quoted (cardinality_name c.content.cardinality)) ++ 44 ∷ [])
+    ++ (decimal (cell_count c.content.rows) ++ 93 ∷ 10 ∷ [])))
+unfolding name_text escape_byte
+column-text c =
+    ap (λ s. codes "[\"column\"," ++ s)
+    (regroup (quoted c.name) (quoted (type_name c.column_type)) (quoted (cardinality_name c.content.cardinality))
+    (decimal (cell_count c.content.rows)))
+
+-- the cardinality of an open column is that of its shape
+pub shape-cardinality : (c : DynamicColumn) → cardinality_in (dynamic_shape c) ≡ (content_of c).cardinality
+shape-cardinality (columns.Bool c) = refl
+shape-cardinality (columns.I64 c) = refl
+shape-cardinality (columns.U64 c) = refl
+shape-cardinality (columns.IpAddr c) = refl
+shape-cardinality (columns.DateTime c) = refl
+shape-cardinality (columns.Bytes c) = refl
+shape-cardinality (columns.Str c) = refl
+
+-- a name, a type, a cardinality and a count are the line of a column
+pub column-put : (a b : SeenOut) (c : Column) (u : ColumnType) (card : List ℕ) (n : ℕ) → u ≡ c.column_type
+    → card ≡ cardinality_name c.content.cardinality → n ≡ cell_count c.content.rows
+    → Puts a b (((((codes "[\"column\"," ++ name_text c.name u) ++ quoted card) ++ 44 ∷ []) ++ decimal n) ++ codes "]\n")
+    → PutsLines a b (column_line c ∷ [])
+unfolding PutsLines
+column-put a b c u card n typed carded counted put =
+    let front = codes "[\"column\"," in
+    let flat : ((((front ++ name_text c.name u) ++ quoted card) ++ 44 ∷ []) ++ decimal n) ++ codes "]\n"
+    ≡ front ++ (((name_text c.name u ++ quoted card) ++ 44 ∷ []) ++ (decimal n ++ 93 ∷ 10 ∷ [])) = simp append_assoc in
+    let same = ap₂ (λ u card. front ++ (((name_text c.name u ++ quoted card) ++ 44 ∷ []) ++ (decimal n ++ 93 ∷ 10 ∷ []))) typed carded
+    ∙ ap (λ n. front ++ (((name_text c.name c.column_type ++ quoted (cardinality_name c.content.cardinality)) ++ 44 ∷ [])
+    ++ (decimal n ++ 93 ∷ 10 ∷ []))) counted in
+    puts_as a b _ _ (flat ∙ same ∙ sym (column-text c)) put

@@ -1,9 +1,11 @@
 -- The report of open columns.
-use Rattle.std.proofs.Common.{◌≡◌, ◌∙◌, ℕ, ◌+◌, ◌<◌, ◌≤◌, Bool, List, [], ◌∷◌, ◌++◌, map, flat_map, length, take, get_or, Option, Some, None, IfSome, refl, sym, ap, ap₂, subst, append-nil}
+use Rattle.std.proofs.Common.{◌≡◌, ◌∙◌, ℕ, ◌+◌, ◌<◌, ◌≤◌, Bool, List, [], ◌∷◌, ◌++◌, map, flat_map, length, take, get_or, Option, Some, None, IfSome, decimal, codes, refl, sym, ap, ap₂, subst, append-nil, append_assoc}
 use Rattle.std.proofs.lemmas.Grind.{flat_map-append}
 use Rattle.std.proofs.lemmas.List.{map_more, take_more, take_all}
 use Rattle.std.proofs.lemmas.List.Folds.{flat_map-map}
+use Rattle.json.specs.Print.{escape_byte}
 use Rattle.serde_json.specs.Data.{Data}
+use Rattle.serde_json.specs.Written.{compact_text}
 use Rattle.col_model.specs.File.{table_of}
 use Rattle.col_model.specs.Keys.{FileKeys}
 use Rattle.col_model.specs.Table.{Table}
@@ -15,6 +17,10 @@ use Rattle.col_opened.specs.declared.open_columns.OpenColumn.{OpenColumn}
 use Rattle.col_opened.specs.declared.open_columns.OpenColumns.{OpenColumns}
 use Rattle.col_questions.specs.Questions.{question_of}
 use Rattle.col_questions.specs.declared.question.Question.{Question}
+use Rattle.col_print.specs.Puts.{SeenOut, Puts}
+use Rattle.col_print.proofs.PutsLemmas.{puts_as}
+use Rattle.col_report.specs.Open.{report_text}
+use Rattle.col_report.specs.Printed.{PutsLines}
 
 -- ---- lines of lists
 
@@ -74,20 +80,61 @@ report-printed a b c d k t open_columns cs qs short line are same is rows column
 
 -- ---- where the file may tell its bytes
 
--- what holds of the table of open columns holds of the file's table
-pub report-answered : (told : Option (List ℕ)) (k : FileKeys) (c : OpenColumns) (P : Table → Type 0)
-    → IfSome told (λ bytes. IsExpected (λ t columns. AreOpen k t columns) c (table_of bytes))
-    → ((t : Table) → AreOpen k t c → P t)
-    → IfSome told (λ bytes. IsExpected (λ t (u : Unit {0}). P t) tt (table_of bytes))
-report-answered None k c P are pushed = tt
-report-answered (Some bytes) k c P are pushed = by (table_of bytes) are
+-- what follows for each table from what was expected
+pub answered-as : {V W : Type 0} (told : Option (List ℕ)) (v : V) (w : W) (P : Table → V → Type 0) (Q : Table → W → Type 0)
+    → ((t : Table) → P t v → Q t w) → IfSome told (λ bytes. IsExpected P v (table_of bytes))
+    → IfSome told (λ bytes. IsExpected Q w (table_of bytes))
+answered-as None v w P Q f are = tt
+answered-as (Some bytes) v w P Q f are = by (table_of bytes) are
   where
-    by : (o : Option Table) → IsExpected (λ t columns. AreOpen k t columns) c o → IsExpected (λ t (u : Unit {0}). P t) tt o
+    by : (o : Option Table) → IsExpected P v o → IsExpected Q w o
     by None are = absurd are
-    by (Some t) are = pushed t are
+    by (Some t) are = f t are
 
--- a report that was made from nothing stands behind what was there
-pub report-appended : (old new made start text : List ℕ) → new ≡ old ++ made → made ≡ start ++ text → start ≡ []
-    → new ≡ old ++ text
-report-appended old new made start text appended is none =
-    appended ∙ ap (λ m. old ++ m) (is ∙ ap (λ s. s ++ text) none)
+-- what holds of the table of open columns holds of the file's table
+pub report-answered : {V : Type 0} (told : Option (List ℕ)) (k : FileKeys) (c : OpenColumns) (v : V) (P : Table → V → Type 0)
+    → IfSome told (λ bytes. IsExpected (λ t columns. AreOpen k t columns) c (table_of bytes))
+    → ((t : Table) → AreOpen k t c → P t v)
+    → IfSome told (λ bytes. IsExpected P v (table_of bytes))
+report-answered told k c v P are opened = answered-as told c v (λ t columns. AreOpen k t columns) P opened are
+
+-- ---- what is put
+
+rows-text : (n : ℕ) → lines_text (rows_line n ∷ []) ≡ codes "[\"rows\"," ++ (decimal n ++ 93 ∷ 10 ∷ [])
+unfolding escape_byte
+rows-text n =
+    let end : ((decimal n ++ 93 ∷ []) ++ 10 ∷ []) ++ [] ≡ decimal n ++ 93 ∷ 10 ∷ [] = simp (append_assoc, append-nil) in
+    ap (λ s. codes "[\"rows\"," ++ s) end
+
+-- the line of a row count
+pub rows-put : (a b : SeenOut) (n : ℕ) → Puts a b ((codes "[\"rows\"," ++ decimal n) ++ codes "]\n") → PutsLines a b (rows_line n ∷ [])
+unfolding PutsLines
+rows-put a b n put =
+    puts_as a b _ _ (append_assoc (codes "[\"rows\",") (decimal n) (codes "]\n") ∙ sym (rows-text n)) put
+
+-- the lines of a row count, those of columns and the text of answers, one behind another
+pub report-put : (a b : SeenOut) (n : ℕ) (open_columns : OpenColumns) (cs : List OpenColumn) (answers : List ℕ) (short : Bool)
+    → cs ≡ open_in open_columns
+    → Puts a b ((lines_text (rows_line n ∷ []) ++ lines_text (flat_map (λ c. column_lines short (column_of c)) cs)) ++ answers)
+    → Puts a b (report_text n short open_columns answers)
+unfolding report_text
+report-put a b n open_columns cs answers short same put =
+    let shown = flat_map (λ c. column_lines short (column_of c)) cs in
+    puts_as a b _ _ (ap (λ s. s ++ answers) (sym (flat_map-append (λ d. compact_text d ++ 10 ∷ []) (rows_line n ∷ []) shown))
+    ∙ ap (λ cs. lines_text (rows_line n ∷ flat_map (λ c. column_lines short (column_of c)) cs) ++ answers) same) put
+
+-- the text of an open report is the report of the table of its columns
+pub report-opened : (n : ℕ) (k : FileKeys) (t : Table) (open_columns : OpenColumns) (qs : List Question) (short : Bool)
+    (answers : List ℕ) → AreOpen k t open_columns → n ≡ k.row_count
+    → answers ≡ lines_text (map (λ q. question_line t short (question_of q)) qs)
+    → report_text n short open_columns answers ≡ report_of t (map question_of qs) short
+unfolding report_text Prints
+report-opened n k t open_columns qs short answers are count is =
+    let cs = open_in open_columns in
+    let shown = flat_map (λ c. column_lines short (column_of c)) cs in
+    let asked = map (λ q. question_line t short (question_of q)) qs in
+    let split = flat_map-append (λ d. compact_text d ++ 10 ∷ []) (rows_line n ∷ []) shown in
+    ap₂ (λ s u. s ++ u) split is
+    ∙ report-printed [] (lines_text (rows_line n ∷ [])) (lines_text (rows_line n ∷ []) ++ lines_text shown)
+    ((lines_text (rows_line n ∷ []) ++ lines_text shown) ++ lines_text asked) k t open_columns cs qs short (rows_line n) are refl
+    (ap rows_line count) refl refl refl

@@ -2,3 +2,4 @@ pub mod Printed
 pub mod Reported
 pub mod Counted
 pub mod Checked
+pub mod Open

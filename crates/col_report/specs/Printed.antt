@@ -4,12 +4,21 @@ use Rattle.hex.specs.Hex.{encode_lower}
 use Rattle.serde_json.specs.Data.{Data, string}
 use Rattle.serde_json.specs.Written.{compact_text}
 use Rattle.col_model.specs.ColumnType.{ColumnType}
-use Rattle.col_program.specs.Report.{list_data, row_line}
+use Rattle.col_print.specs.Puts.{SeenOut, Puts}
+use Rattle.col_program.specs.Report.{lines_text, list_data, row_line}
 use Rattle.col_model.specs.Table.{Cell}
 
 -- the bytes grew by the text of a value
 unfoldable pub Spells : List ℕ → List ℕ → Data → Type 0
 Spells old new d = new ≡ old ++ compact_text d
+
+-- the text of a value was put
+unfoldable pub PutsData : SeenOut → SeenOut → Data → Type 0
+PutsData old new d = Puts old new (compact_text d)
+
+-- the text of these lines was put
+unfoldable pub PutsLines : SeenOut → SeenOut → List Data → Type 0
+PutsLines old new lines = Puts old new (lines_text lines)
 
 -- bytes that aren't UTF-8, by their digits
 abbrev pub digits_data : List ℕ → Data

@@ -1,15 +1,13 @@
 //! What prints the values of columns of numbers, times, flags and addresses.
-ghost use Rattle.std.specs.Prelude.{OnOk};
 ghost use Rattle.col_model.specs.ColumnType.{ColumnType};
 ghost use Rattle.col_model.specs.ColumnType as types;
 ghost use Rattle.col_program.specs.Report.{cell_data};
 ghost use Rattle.col_model.specs.Table.{Cell, number};
 ghost use Rattle.col_types.specs.Cells.{unsigned_cell, bool_cell};
-ghost use Rattle.col_report.specs.Printed.{Spells};
+ghost use Rattle.col_report.specs.Printed.{PutsData};
 
-use crate::text::{push_hex, push_number, push_signed};
 use col_common::{DateTime, Ipv6Addr};
-use std::alloc::{AllocError, Global};
+use col_print::{Out, put_hex, put_number, put_signed};
 
 // Prints the values of a column.
 pub(crate) trait PrintCells<T> {
@@ -19,9 +17,9 @@ pub(crate) trait PrintCells<T> {
     /// The cell of a value.
     ghost cell: { Self → T → Cell };
 
-    fn push(&self, alloc: Global, value: T, out: &mut Vec<u8>) -> Result<(), AllocError>
-        ensures { OnOk result
-            (Spells out.old.items out.new.items (cell_data kind (cell self.now value))) };
+    fn put<O: Out>(&self, value: T, out: &mut O)
+        ensures { PutsData (O.seen out.old) (O.seen out.new)
+            (cell_data kind (cell self.now value)) };
 }
 
 // Prints values that need nothing beside them.
@@ -34,9 +32,9 @@ impl PrintCells<u64> for PlainCells {
     ghost cell = { λ _. unsigned_cell };
 
     #[inline]
-    #[tactic(auto, unfolding(crate::specs::Printed::Spells))]
-    fn push(&self, _alloc: Global, value: u64, out: &mut Vec<u8>) -> Result<(), AllocError> {
-        push_number(out, value)
+    #[tactic(auto, unfolding(crate::specs::Printed::PutsData))]
+    fn put<O: Out>(&self, value: u64, out: &mut O) {
+        put_number(out, value);
     }
 }
 
@@ -46,8 +44,9 @@ impl PrintCells<i64> for PlainCells {
     ghost cell = { λ _. number };
 
     #[inline]
-    fn push(&self, _alloc: Global, value: i64, out: &mut Vec<u8>) -> Result<(), AllocError> {
-        push_signed(out, value)
+    #[tactic(auto, using(crate::proofs::TextLemmas::integer_put))]
+    fn put<O: Out>(&self, value: i64, out: &mut O) {
+        put_signed(out, value);
     }
 }
 
@@ -57,8 +56,9 @@ impl PrintCells<DateTime> for PlainCells {
     ghost cell = { λ _. number };
 
     #[inline]
-    fn push(&self, _alloc: Global, value: DateTime, out: &mut Vec<u8>) -> Result<(), AllocError> {
-        push_signed(out, value.into_timestamp_nanos())
+    #[tactic(auto, using(crate::proofs::TextLemmas::integer_put))]
+    fn put<O: Out>(&self, value: DateTime, out: &mut O) {
+        put_signed(out, value.into_timestamp_nanos());
     }
 }
 
@@ -68,14 +68,13 @@ impl PrintCells<bool> for PlainCells {
     ghost cell = { λ _. bool_cell };
 
     #[inline]
-    #[tactic(auto, using(crate::proofs::TextLemmas::true_is, crate::proofs::TextLemmas::false_is))]
-    fn push(&self, _alloc: Global, value: bool, out: &mut Vec<u8>) -> Result<(), AllocError> {
+    #[tactic(auto, using(crate::proofs::TextLemmas::true_put, crate::proofs::TextLemmas::false_put))]
+    fn put<O: Out>(&self, value: bool, out: &mut O) {
         if value {
-            out.extend_from_slice(b"true")?;
+            out.put(b"true");
         } else {
-            out.extend_from_slice(b"false")?;
+            out.put(b"false");
         }
-        Ok(())
     }
 }
 
@@ -84,7 +83,7 @@ impl PrintCells<Ipv6Addr> for PlainCells {
 
     ghost cell = { λ _. unsigned_cell };
 
-    fn push(&self, alloc: Global, value: Ipv6Addr, out: &mut Vec<u8>) -> Result<(), AllocError> {
-        push_hex(alloc, out, &value.to_bits().to_be_bytes())
+    fn put<O: Out>(&self, value: Ipv6Addr, out: &mut O) {
+        put_hex(out, &value.to_bits().to_be_bytes());
     }
 }

@@ -1,5 +1,4 @@
-//! Prints the cells of facets.
-ghost use Rattle.std.specs.Prelude.{OnOk};
+//! Puts the cells of facets.
 ghost use Rattle.serde_json.specs.Data as values;
 ghost use Rattle.serde_json.specs.Find.{of_integer};
 ghost use Rattle.col_model.specs.ColumnType as types;
@@ -8,87 +7,73 @@ ghost use Rattle.col_program.specs.Report.{cell_data};
 ghost use Rattle.col_types.specs.Kinds.{kind_of};
 ghost use Rattle.col_facet.specs.declared.facet_cell.FacetCell.TheVariants as facets;
 ghost use Rattle.col_report.specs.Counted.{shown_cell};
-ghost use Rattle.col_report.specs.Printed.{Spells};
+ghost use Rattle.col_report.specs.Printed.{PutsData};
 
-use crate::term_cells::push_text;
-use crate::text::push_hex;
+use crate::term_cells::put_text;
 use col_facet::FacetCell;
+use col_print::{Out, put_hex, put_long};
 use col_types::ColumnType;
-use itoa::Buffer;
-use std::alloc::{AllocError, Global};
 
-// Appends a cell of a column of this type.
-pub(crate) fn push_cell(
-    alloc: Global,
-    cell: &FacetCell,
-    column_type: ColumnType,
-    out: &mut Vec<u8>,
-) -> Result<(), AllocError>
-    ensures { OnOk result (Spells out.old.items out.new.items
-        (shown_cell (kind_of column_type) cell.now)) }
+// Puts a cell of a column of this type.
+pub(crate) fn put_cell<O: Out>(cell: &FacetCell, column_type: ColumnType, out: &mut O)
+    ensures { PutsData (O.seen out.old) (O.seen out.new)
+        (shown_cell (kind_of column_type) cell.now) }
 {
     match cell {
-        FacetCell::Num(number) => push_num(*number, column_type, out),
-        FacetCell::Addr(address) => push_address(alloc, *address, out),
-        FacetCell::Term(term) => push_term(alloc, term.as_slice(), column_type, out),
+        FacetCell::Num(number) => put_num(*number, column_type, out),
+        FacetCell::Addr(address) => put_address(*address, out),
+        FacetCell::Term(term) => put_term(term.as_slice(), column_type, out),
     }
 }
 
-// Appends a number, or a flag.
-fn push_num(number: i128, column_type: ColumnType, out: &mut Vec<u8>) -> Result<(), AllocError>
-    ensures { OnOk result (Spells out.old.items out.new.items
-        (shown_cell (kind_of column_type) (facets.Num number))) }
+// Puts a number, or a flag.
+fn put_num<O: Out>(number: i128, column_type: ColumnType, out: &mut O)
+    ensures { PutsData (O.seen out.old) (O.seen out.new)
+        (shown_cell (kind_of column_type) (facets.Num number)) }
 {
     if column_type.to_code() == ColumnType::Bool.to_code() {
-        push_flag(number, out)
+        put_flag(number, out);
     } else {
-        push_integer(number, out)
+        put_integer(number, out);
     }
 }
 
-// Appends a flag, which is not set where the number is 0.
-fn push_flag(number: i128, out: &mut Vec<u8>) -> Result<(), AllocError>
-    ensures { OnOk result (Spells out.old.items out.new.items
-        (cell_data types.bool (cells.number number))) }
+// Puts a flag, which is not set where the number is 0.
+fn put_flag<O: Out>(number: i128, out: &mut O)
+    ensures { PutsData (O.seen out.old) (O.seen out.new)
+        (cell_data types.bool (cells.number number)) }
 {
     if number == 0 {
-        out.extend_from_slice(b"false")?;
+        out.put(b"false");
     } else {
-        out.extend_from_slice(b"true")?;
+        out.put(b"true");
     }
-    Ok(())
 }
 
-#[tactic(auto, using(crate::proofs::TextLemmas::integer_spelled))]
-fn push_integer(number: i128, out: &mut Vec<u8>) -> Result<(), AllocError>
-    ensures { OnOk result (Spells out.old.items out.new.items (values.number (of_integer number))) }
+#[tactic(auto, using(crate::proofs::TextLemmas::integer_put))]
+fn put_integer<O: Out>(number: i128, out: &mut O)
+    ensures { PutsData (O.seen out.old) (O.seen out.new) (values.number (of_integer number)) }
 {
-    let mut buffer = Buffer::new();
-    out.extend_from_slice(buffer.format(number).as_bytes())?;
-    Ok(())
+    put_long(out, number);
 }
 
-// Appends an address, by its octets.
-fn push_address(alloc: Global, address: u128, out: &mut Vec<u8>) -> Result<(), AllocError>
-    ensures { OnOk result (Spells out.old.items out.new.items
-        (shown_cell types.ip (facets.Addr address))) }
+// Puts an address, by its octets.
+fn put_address<O: Out>(address: u128, out: &mut O)
+    ensures { PutsData (O.seen out.old) (O.seen out.new)
+        (shown_cell types.ip (facets.Addr address)) }
 {
-    push_hex(alloc, out, &address.to_be_bytes())
+    put_hex(out, &address.to_be_bytes());
 }
 
-// Appends a text, or byte strings by their digits.
-fn push_term(
-    alloc: Global,
-    term: &[u8],
-    column_type: ColumnType,
-    out: &mut Vec<u8>,
-) -> Result<(), AllocError>
-    ensures { OnOk result (Spells out.old.items out.new.items
-        (shown_cell (kind_of column_type) (facets.Term term.now))) }
+// Puts a text, or byte strings by their digits.
+#[tactic(auto, unfolding(crate::specs::Printed::PutsData))]
+fn put_term<O: Out>(term: &[u8], column_type: ColumnType, out: &mut O)
+    ensures { PutsData (O.seen out.old) (O.seen out.new)
+        (shown_cell (kind_of column_type) (facets.Term term.now)) }
 {
     if column_type.to_code() == ColumnType::Bytes.to_code() {
-        push_hex(alloc, out, term)
+        put_hex(out, term);
     } else {
-        push_text(alloc, out, term)
+        put_text(out, term);
     }
 }

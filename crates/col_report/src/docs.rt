@@ -1,49 +1,44 @@
-//! Prints documents.
-ghost use Rattle.std.specs.Prelude.{◌≡◌, ◌++◌, map, OnOk};
+//! Puts documents.
+ghost use Rattle.std.specs.Prelude.{map};
+ghost use Rattle.col_print.specs.Puts.{Puts};
 ghost use Rattle.col_program.specs.Report.{count_data, docs_data, list_data};
-ghost use Rattle.col_report.specs.Printed.{Spells, more_text};
+ghost use Rattle.col_report.specs.Printed.{PutsData, more_text};
 
-use crate::text::push_number;
 use col_common::DocId;
-use std::alloc::AllocError;
+use col_print::{Out, put_number};
 
-// Appends documents, or their count in a short report.
-#[tactic(auto, unfolding(crate::specs::Printed::Spells))]
-pub(crate) fn push_docs(docs: &[DocId], short: bool, out: &mut Vec<u8>) -> Result<(), AllocError>
-    ensures { OnOk result (Spells out.old.items out.new.items (docs_data short docs.now)) }
+// Puts documents, or their count in a short report.
+#[tactic(auto, unfolding(crate::specs::Printed::PutsData))]
+pub(crate) fn put_docs<O: Out>(docs: &[DocId], short: bool, out: &mut O)
+    ensures { PutsData (O.seen out.old) (O.seen out.new) (docs_data short docs.now) }
 {
     if short {
-        push_number(out, docs.len() as u64)?;
+        put_number(out, docs.len() as u64);
     } else {
-        push_list(docs, out)?;
+        put_list(docs, out);
     }
-    Ok(())
 }
 
-// Appends an array of documents.
-fn push_list(docs: &[DocId], out: &mut Vec<u8>) -> Result<(), AllocError>
-    ensures { OnOk result (Spells out.old.items out.new.items
-        (list_data (map count_data docs.now))) }
+// Puts an array of documents.
+fn put_list<O: Out>(docs: &[DocId], out: &mut O)
+    ensures { PutsData (O.seen out.old) (O.seen out.new) (list_data (map count_data docs.now)) }
 {
     let [first, others @ ..] = docs else {
-        out.extend_from_slice(b"[]")?;
-        return Ok(());
+        out.put(b"[]");
+        return;
     };
-    out.push(b'[')?;
-    push_number(out, *first as u64)?;
-    push_others(others, out)?;
-    out.push(b']')?;
-    Ok(())
+    out.put(b"[");
+    put_number(out, *first as u64);
+    put_others(others, out);
+    out.put(b"]");
 }
 
-// Appends documents, each with a comma in front.
-fn push_others(docs: &[DocId], out: &mut Vec<u8>) -> Result<(), AllocError>
-    ensures { OnOk result (out.new.items
-        ≡ out.old.items ++ more_text (map count_data docs.now)) }
+// Puts documents, each with a comma in front.
+fn put_others<O: Out>(docs: &[DocId], out: &mut O)
+    ensures { Puts (O.seen out.old) (O.seen out.new) (more_text (map count_data docs.now)) }
 {
     for doc in docs {
-        out.push(b',')?;
-        push_number(out, *doc as u64)?;
+        out.put(b",");
+        put_number(out, *doc as u64);
     }
-    Ok(())
 }

@@ -17,8 +17,7 @@ mod report;
 mod row_ends;
 mod rows;
 mod term_cells;
-mod text;
 mod words;
 
 pub use check::report_on_check;
-pub use report::write_report;
+pub use report::{Report, open_report, write_report};

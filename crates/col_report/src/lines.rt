@@ -1,55 +1,50 @@
-//! Prints the lines of a column.
-ghost use Rattle.std.specs.Prelude.{◌≡◌, map, IfOk, OnOk};
+//! Puts the lines of a column.
+ghost use Rattle.std.specs.Prelude.{◌≡◌, ◌∷◌, [], map};
 ghost use Rattle.std.specs.List.{enumerate_from};
-ghost use Rattle.serde_json.specs.View.{view};
 ghost use Rattle.col_column.specs.Columns.{rows_of_values};
 ghost use Rattle.col_dynamic.specs.Dynamic.{type_of, content_of};
 ghost use Rattle.col_model.specs.ColumnType as types;
 ghost use Rattle.col_model.specs.Limits.{cell_count};
-ghost use Rattle.col_program.specs.Report.{column_line, column_lines, Prints};
+ghost use Rattle.col_program.specs.Report.{column_line, column_lines};
 ghost use Rattle.col_model.specs.Table.{Cell};
 ghost use Rattle.col_text.specs.Texts.{texts_content};
-ghost use Rattle.col_report.specs.Printed.{filled_lines};
+ghost use Rattle.col_report.specs.Printed.{PutsLines, filled_lines};
 ghost use Rattle.col_report.specs.Reported.{named_as};
 
 use crate::cells::PlainCells;
-use crate::rows::push_rows;
+use crate::names::put_name;
+use crate::rows::put_rows;
 use crate::term_cells::{BytesCells, TextCells};
 use crate::words::cardinality_word;
 use col_column::Column;
 use col_dynamic::DynamicColumn;
-use col_lines::push_line;
+use col_print::{Out, put_number, put_quoted};
 use col_text::{BytesColumn, StrColumn};
 use col_values::ColumnValues;
-use serde_json::{Value, json};
-use std::alloc::{AllocError, Global};
 
-// Appends the line of a column, and those of its rows unless the report is short.
-pub(crate) fn push_column(
-    alloc: Global,
-    name: &str,
-    column: &DynamicColumn,
-    short: bool,
-    out: &mut Vec<u8>,
-) -> Result<(), AllocError>
-    ensures { OnOk result (Prints out.old.items out.new.items
-        (column_lines short (named_as name.now column.now))) }
+// Puts the line of a column, and those of its rows unless the report is short.
+pub(crate) fn put_column<O: Out>(name: &str, column: &DynamicColumn, short: bool, out: &mut O)
+    ensures { PutsLines (O.seen out.old) (O.seen out.new)
+        (column_lines short (named_as name.now column.now)) }
 {
-    let value = column_value(alloc, name, column)?;
-    push_line(alloc, out, &value)?;
+    put_column_line(name, column, out);
     if short {
-        return Ok(());
+        return;
     }
-    push_row_lines(alloc, column, out)
+    put_row_lines(column, out);
 }
 
-fn column_value(alloc: Global, name: &str, column: &DynamicColumn) -> Result<Value, AllocError>
-    ensures { IfOk result (λ v. view v ≡ column_line (named_as name.now column.now)) }
+// Puts the line of a column.
+fn put_column_line<O: Out>(name: &str, column: &DynamicColumn, out: &mut O)
+    ensures { PutsLines (O.seen out.old) (O.seen out.new)
+        (column_line (named_as name.now column.now) ∷ []) }
 {
-    let kind = column.column_type().word();
-    let cardinality = cardinality_word(column.get_cardinality());
-    let count = cells_in(column);
-    json!(in alloc; ["column", name, kind, cardinality, count])
+    out.put(b"[\"column\",");
+    put_name(name, column.column_type(), out);
+    put_quoted(out, cardinality_word(column.get_cardinality()));
+    out.put(b",");
+    put_number(out, cells_in(column) as u64);
+    out.put(b"]\n");
 }
 
 // How many cells a column has.
@@ -79,44 +74,40 @@ where
     column.values().num_vals()
 }
 
-// Appends the lines of a column's rows.
-fn push_row_lines(
-    alloc: Global,
-    column: &DynamicColumn,
-    out: &mut Vec<u8>,
-) -> Result<(), AllocError>
-    ensures { OnOk result (Prints out.old.items out.new.items
-        (filled_lines (type_of column.now) (enumerate_from 0 (content_of column.now).rows))) }
+// Puts the lines of a column's rows.
+fn put_row_lines<O: Out>(column: &DynamicColumn, out: &mut O)
+    ensures { PutsLines (O.seen out.old) (O.seen out.new)
+        (filled_lines (type_of column.now) (enumerate_from 0 (content_of column.now).rows)) }
 {
     match column {
-        DynamicColumn::Bool(column) => push_rows(alloc, column, &PlainCells, out),
-        DynamicColumn::I64(column) => push_rows(alloc, column, &PlainCells, out),
-        DynamicColumn::U64(column) => push_rows(alloc, column, &PlainCells, out),
-        DynamicColumn::IpAddr(column) => push_rows(alloc, column, &PlainCells, out),
-        DynamicColumn::DateTime(column) => push_rows(alloc, column, &PlainCells, out),
-        DynamicColumn::Bytes(column) => push_bytes_rows(alloc, column, out),
-        DynamicColumn::Str(column) => push_text_rows(alloc, column, out),
+        DynamicColumn::Bool(column) => put_rows(column, &PlainCells, out),
+        DynamicColumn::I64(column) => put_rows(column, &PlainCells, out),
+        DynamicColumn::U64(column) => put_rows(column, &PlainCells, out),
+        DynamicColumn::IpAddr(column) => put_rows(column, &PlainCells, out),
+        DynamicColumn::DateTime(column) => put_rows(column, &PlainCells, out),
+        DynamicColumn::Bytes(column) => put_bytes_rows(column, out),
+        DynamicColumn::Str(column) => put_text_rows(column, out),
     }
 }
 
 // The same of a column of byte strings.
-fn push_bytes_rows(alloc: Global, column: &BytesColumn, out: &mut Vec<u8>) -> Result<(), AllocError>
-    ensures { OnOk result (Prints out.old.items out.new.items
-        (filled_lines types.bytes (enumerate_from 0 (texts_content column.now).rows))) }
+fn put_bytes_rows<O: Out>(column: &BytesColumn, out: &mut O)
+    ensures { PutsLines (O.seen out.old) (O.seen out.new)
+        (filled_lines types.bytes (enumerate_from 0 (texts_content column.now).rows)) }
 {
     let cells = BytesCells {
         dictionary: column.dictionary(),
     };
-    push_rows(alloc, column.ords(), &cells, out)
+    put_rows(column.ords(), &cells, out);
 }
 
 // The same of a column of texts.
-fn push_text_rows(alloc: Global, column: &StrColumn, out: &mut Vec<u8>) -> Result<(), AllocError>
-    ensures { OnOk result (Prints out.old.items out.new.items
-        (filled_lines types.str (enumerate_from 0 (texts_content column.now).rows))) }
+fn put_text_rows<O: Out>(column: &StrColumn, out: &mut O)
+    ensures { PutsLines (O.seen out.old) (O.seen out.new)
+        (filled_lines types.str (enumerate_from 0 (texts_content column.now).rows)) }
 {
     let cells = TextCells {
         dictionary: column.dictionary(),
     };
-    push_rows(alloc, column.bytes_column().ords(), &cells, out)
+    put_rows(column.bytes_column().ords(), &cells, out);
 }

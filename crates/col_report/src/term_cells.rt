@@ -1,14 +1,12 @@
 //! What prints the values of columns of terms, which are the ordinals of these.
-ghost use Rattle.std.specs.Prelude.{OnOk};
 ghost use Rattle.col_model.specs.Column.{term_cell};
 ghost use Rattle.col_model.specs.ColumnType as types;
 ghost use Rattle.col_program.specs.Report.{text_data};
-ghost use Rattle.col_report.specs.Printed.{Spells, digits_data};
+ghost use Rattle.col_report.specs.Printed.{PutsData, digits_data};
 
 use crate::cells::PrintCells;
-use crate::text::{push_hex, push_quoted};
+use col_print::{Out, put_hex, put_quoted};
 use col_terms::Dictionary;
-use std::alloc::{AllocError, Global};
 
 // Prints texts, by their ordinals.
 #[derive(Drop)]
@@ -21,10 +19,10 @@ impl<'a> PrintCells<u64> for TextCells<'a> {
 
     ghost cell = { λ s. term_cell s.dictionary.now };
 
-    fn push(&self, alloc: Global, value: u64, out: &mut Vec<u8>) -> Result<(), AllocError> {
+    fn put<O: Out>(&self, value: u64, out: &mut O) {
         match self.dictionary.term_at(value) {
-            Some(term) => push_text(alloc, out, term),
-            None => push_text(alloc, out, &[]),
+            Some(term) => put_text(out, term),
+            None => put_text(out, &[]),
         }
     }
 }
@@ -40,30 +38,30 @@ impl<'a> PrintCells<u64> for BytesCells<'a> {
 
     ghost cell = { λ s. term_cell s.dictionary.now };
 
-    fn push(&self, alloc: Global, value: u64, out: &mut Vec<u8>) -> Result<(), AllocError> {
+    #[tactic(auto, unfolding(crate::specs::Printed::PutsData))]
+    fn put<O: Out>(&self, value: u64, out: &mut O) {
         match self.dictionary.term_at(value) {
-            Some(term) => push_hex(alloc, out, term),
-            None => push_hex(alloc, out, &[]),
+            Some(term) => put_hex(out, term),
+            None => put_hex(out, &[]),
         }
     }
 }
 
-// Appends a text in quotes, or its digits in hexadecimal where it isn't UTF-8.
-pub(crate) fn push_text(alloc: Global, out: &mut Vec<u8>, term: &[u8]) -> Result<(), AllocError>
-    ensures { OnOk result (Spells out.old.items out.new.items (text_data term.now)) }
+// Puts a text in quotes, or its digits in hexadecimal where it isn't UTF-8.
+pub(crate) fn put_text<O: Out>(out: &mut O, term: &[u8])
+    ensures { PutsData (O.seen out.old) (O.seen out.new) (text_data term.now) }
 {
     match std::str::from_utf8(term) {
-        Ok(text) => push_quoted(alloc, out, text),
-        Err(_) => push_digits(alloc, out, term),
+        Ok(text) => put_quoted(out, text),
+        Err(_) => put_digits(out, term),
     }
 }
 
-// Appends the array of the word `hex` and of these digits.
-fn push_digits(alloc: Global, out: &mut Vec<u8>, term: &[u8]) -> Result<(), AllocError>
-    ensures { OnOk result (Spells out.old.items out.new.items (digits_data term.now)) }
+// Puts the array of the word `hex` and of these digits.
+fn put_digits<O: Out>(out: &mut O, term: &[u8])
+    ensures { PutsData (O.seen out.old) (O.seen out.new) (digits_data term.now) }
 {
-    out.extend_from_slice(b"[\"hex\",")?;
-    push_hex(alloc, out, term)?;
-    out.push(b']')?;
-    Ok(())
+    out.put(b"[\"hex\",");
+    put_hex(out, term);
+    out.put(b"]");
 }

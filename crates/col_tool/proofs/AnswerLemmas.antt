@@ -42,7 +42,7 @@ refused-leaves (Some fs) (Some bytes) output report e among h =
 pub delivered-leaves : (files : Option (List (List ℕ))) (told : Told) (output output' report report' : SeenSink)
     (made : FileAndReport) (status : ℕ)
     → IfSome files (λ fs. IfSome told (λ bytes. IsAnswer (script_answer fs bytes) (Ok made)))
-    → Delivers output output' report report' made.file made.report.items status
+    → Delivers output output' report report' made.file made.report status
     → IfSome files
     (λ fs. IfSome told (λ bytes. Leaves output output' report report' status (script_answer fs bytes)))
 delivered-leaves None told output output' report report' made status h d = tt

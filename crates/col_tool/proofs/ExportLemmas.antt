@@ -33,17 +33,17 @@ by-many t many is = ap (λ b. if b then refused 22 else done (as_text (csv_of t)
 
 -- the text of a table that is flat, and the report, are what it comes to
 flat-done : (made : Exchanged) (t : Table) → IsExport t made
-    → IsDone (exported (Some t)) (λ o lines. IsOutput o made.bytes × (made.report.items ≡ lines))
+    → IsDone (exported (Some t)) (λ o lines. IsOutput o made.bytes × (made.report ≡ lines))
 flat-done made t h =
-    subst (λ o. IsDone o (λ o lines. IsOutput o made.bytes × (made.report.items ≡ lines))) (sym (by-many t false h.0.0)) (h.0.1, h.1)
+    subst (λ o. IsDone o (λ o lines. IsOutput o made.bytes × (made.report ≡ lines))) (sym (by-many t false h.0.0)) (h.0.1, h.1)
 
 -- what a text and a report leave that were made
 pub export-delivered : (output output' report report' : SeenSink) (olds news : List SeenFile) (made : Exchanged) (status : ℕ)
-    → ExportsInput olds news (Ok made) → Delivers output output' report report' made.bytes made.report.items status
+    → ExportsInput olds news (Ok made) → Delivers output output' report report' made.bytes made.report status
     → IfSome (all_told olds) (λ files. Leaves output output' report report' status (outcome_of_export files))
 export-delivered output output' report report' olds news made status x d =
     input-delivered table_of exported outcome_of_export of-export olds x.old x.before IsExport made
-    output output' report report' made.bytes made.report.items status (flat-done made) x.exports.answer d
+    output output' report report' made.bytes made.report status (flat-done made) x.exports.answer d
 
 -- ---- refusals
 

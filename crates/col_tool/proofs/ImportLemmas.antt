@@ -58,7 +58,7 @@ import-refused (Some bytes) output report e among h =
 -- what a delivery leaves
 pub import-delivered : (told : Told) (output output' report report' : SeenSink) (made : FileAndReport) (status : ℕ)
     → IfSome told (λ bytes. IsAnswer (outcome_of_import bytes) (Ok made))
-    → Delivers output output' report report' made.file made.report.items status
+    → Delivers output output' report report' made.file made.report status
     → IfSome told (λ bytes. Leaves output output' report report' status (outcome_of_import bytes))
 import-delivered None output output' report report' made status h d = tt
 import-delivered (Some bytes) output output' report report' made status h d =

@@ -20,11 +20,11 @@ of-upgrade = record { one = λ bytes. refl; none = refl }
 
 -- what a file and a report leave that were made
 pub upgrade-delivered : (output output' report report' : SeenSink) (olds news : List SeenFile) (made : FileAndReport) (status : ℕ)
-    → UpgradesInput olds news (Ok made) → Delivers output output' report report' made.file made.report.items status
+    → UpgradesInput olds news (Ok made) → Delivers output output' report report' made.file made.report status
     → IfSome (all_told olds) (λ files. Leaves output output' report report' status (outcome_of_upgrade files))
 upgrade-delivered output output' report report' olds news made status u d =
     input-delivered table_of upgraded outcome_of_upgrade of-upgrade olds u.old u.before (IsMade true []) made
-    output output' report report' made.file made.report.items status (λ t h. h) u.upgrades.answer d
+    output output' report report' made.file made.report status (λ t h. h) u.upgrades.answer d
 
 -- an upgrade refuses as it may
 pub upgrade-refusal : (olds news : List SeenFile) (e : ColumnarError) → UpgradesInput olds news (Err e) → IsOfInput e

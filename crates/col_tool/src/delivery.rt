@@ -6,6 +6,7 @@ ghost use Rattle.col_tool.specs.Answer.{answer_status, KeepsOutputs, Delivers};
 use crate::refusal::Refusal;
 use col_common::{ColumnarError, HandleError, Sink};
 use col_outcome::FileAndReport;
+use std::alloc::Global;
 
 // Writes a report behind all that goes to the output.
 pub(crate) fn deliver_report<R: Sink>(made: &[u8], report: &mut R) -> Result<(), Refusal>
@@ -25,24 +26,29 @@ pub(crate) fn deliver_report<R: Sink>(made: &[u8], report: &mut R) -> Result<(),
 
 // Writes the file, and then the report.
 pub(crate) fn deliver<K: Sink, R: Sink>(
-    made: &FileAndReport,
+    alloc: Global,
+    made: FileAndReport,
     output: &mut K,
     report: &mut R,
 ) -> Result<(), Refusal>
     ensures delivers { Delivers (K.seen output.old) (K.seen output.new) (R.seen report.old)
-        (R.seen report.new) made.now.file made.now.report.items (answer_status result) }
+        (R.seen report.new) made.file made.report (answer_status result) }
     ensures keeps { KeepsOutputs (K.seen output.old) (K.seen output.new)
         (R.seen report.old) (R.seen report.new) (answer_status result) }
     ensures write_fault { answer_status result ≡ 5
         → Faulted (K.seen output.old) (K.seen output.new)
         ⊎ Faulted (R.seen report.old) (R.seen report.new) }
 {
-    match output.write_all(made.file.as_slice()) {
+    let FileAndReport {
+        file,
+        report: lines,
+    } = made;
+    match output.write_all(file.as_slice()) {
         Ok(()) => {}
         Err(HandleError::Failed) => return Err(Refusal::Store(ColumnarError::WriteFault)),
         Err(HandleError::Memory) => return Err(Refusal::Store(ColumnarError::OutOfMemory)),
     }
-    match report.write_all(&made.report) {
+    match lines.print(alloc, report) {
         Ok(()) => Ok(()),
         Err(HandleError::Failed) => Err(Refusal::Store(ColumnarError::WriteFault)),
         Err(HandleError::Memory) => Err(Refusal::Store(ColumnarError::OutOfMemory)),

@@ -49,7 +49,7 @@ pub(crate) fn answer_of_export<H: FileHandle, K: Sink, R: Sink>(
         file: made.bytes,
         report: made.report,
     };
-    deliver(&made, output, report)
+    deliver(alloc, made, output, report)
 }
 
 // Writes the table of the CSV on the source into the output as a file, and the report on it.
@@ -75,7 +75,7 @@ pub(crate) fn answer_of_import<S: Source, K: Sink, R: Sink>(
     ensures ended { EndsScript (answer_status result) (S.left source.new) }
 {
     let made = made_of_source(alloc, source)?;
-    deliver(&made, output, report)
+    deliver(alloc, made, output, report)
 }
 
 // Reads the CSV, and makes the file of its table.

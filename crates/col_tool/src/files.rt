@@ -64,5 +64,5 @@ pub(crate) fn answer_of_upgrade<H: FileHandle, K: Sink, R: Sink>(
         (map H.seen inputs.old.items) (map H.seen inputs.new.items) }
 {
     let made = upgrade_and_report(alloc, inputs)?;
-    deliver(&made, output, report)
+    deliver(alloc, made, output, report)
 }

@@ -51,7 +51,7 @@ pub(crate) fn answer<H: FileHandle, S: Source, K: Sink, R: Sink>(
         (answer_status result)) }
 {
     let made = made_of(alloc, inputs, script)?;
-    deliver(&made, output, report)
+    deliver(alloc, made, output, report)
 }
 
 // Reads the script, and makes what it and the inputs come to.
@@ -121,7 +121,7 @@ pub(crate) fn answer_of_number<K: Sink, R: Sink>(
     ensures among { Contains answers (answer_status result) }
 {
     let made = made_of_number(alloc, number)?;
-    deliver(&made, output, report)
+    deliver(alloc, made, output, report)
 }
 
 // Makes what the script of a number comes to.

@@ -1,7 +1,0 @@
-use Rattle.col_report.proofs.TextLemmas.{octets-spelled}
-use Rattle.col_report.proofs.cells.PlainCellsPrintCellsIpv6Addr.push.Goals as goal
-
-pub returns : goal.returns
-returns c =
-    octets-spelled c.push_hex.result _ _ c.to_be_bytes.result c.to_bits.result c.args.value c.to_bits.ensures
-    c.to_be_bytes.ensures c.push_hex.ensures
