@@ -6,6 +6,7 @@ pub mod VIntReadingLemmas
 pub mod VIntSpellingLemmas
 pub mod OctetLemmas
 pub mod FlagLemmas
+pub mod OnesLemmas
 pub mod MemberLemmas
 pub mod OrderingLemmas
 pub mod DecodingLemmas

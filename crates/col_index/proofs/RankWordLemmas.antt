@@ -1,10 +1,7 @@
 -- Ranks by the bits of words.
 use Rattle.std.proofs.Common.{◌≡◌, ℕ, zero, suc, ◌+◌, ◌-◌, ◌*◌, ◌/◌, ◌%◌, ◌^◌, ◌<◌, ◌≤◌, ◌||◌, Bool, true, false, cond, eqb, nat_eq, List, [], ◌∷◌, ◌++◌, length, get_or, set, take, replicate, bit_and, bit_or, count_ones, refl, sym, ap, ◌∙◌, arith, inl, inr, mod-eq_of_lt}
 use Rattle.std.specs.Int.{bit_at}
-use Rattle.std.specs.Int.Count.{ones_step}
-use Rattle.std.proofs.Math.Pow.{pow-lt}
 use Rattle.std.proofs.lemmas.Bool.{cases_eq, eq-eqb, ne_eqb}
-use Rattle.std.proofs.lemmas.Nat.{ones_cat, ones_le_self, and_mask, mod-pow-add, mod_below, pow_pos}
 use Rattle.std.proofs.lemmas.Nat.Bits.{bit_at-lt, bit_at-zero}
 use Rattle.std.proofs.lemmas.List.{get_or-set_same, get_or-set_other, get_or-replicate, get_or_read, get_or_default, take_more, length-set}
 use Rattle.std.proofs.lemmas.List.Folds.{list_any-append}
@@ -14,54 +11,10 @@ use Rattle.col_common.specs.Ascending.{is_rising}
 use Rattle.col_model.specs.Positions.{rank}
 use Rattle.col_common.specs.Flags.{flags_of}
 use Rattle.col_common.proofs.FlagLemmas.{length-flags, flag-is, flags_put}
+use Rattle.col_common.proofs.OnesLemmas.{no_ones, tested_bit, ones_more, below_mask}
 use Rattle.col_index.specs.Sets.{holds}
 use Rattle.col_index.specs.Ranks.{HasFlags, AreRanks, ones_below}
 use Rattle.col_index.proofs.HeldLaws.{rank-next}
-
--- ---- bits of a word
-
--- a number of one bit
-no_ones : count_ones 0 ≡ 0
-no_ones = omega (arith, ones_le_self 0)
-
-ones_of_bit : (b : ℕ) → b < 2 → count_ones b ≡ b
-ones_of_bit zero h = no_ones
-ones_of_bit (suc zero) h = omega (arith, ones_step 1, no_ones)
-ones_of_bit (suc (suc b)) h = absurd (omega arith)
-
-tested_bit : (b : ℕ) → b < 2 → cond (eqb b 1) 1 0 ≡ b
-tested_bit zero h = refl
-tested_bit (suc zero) h = refl
-tested_bit (suc (suc b)) h = absurd (omega arith)
-
--- one bit more
-ones_more : (n k : ℕ) → count_ones (n % 2 ^ (1 + k)) ≡ bit_at n k + count_ones (n % 2 ^ k)
-ones_more n k =
-    let split : n % 2 ^ (1 + k) ≡ bit_at n k * 2 ^ k + n % 2 ^ k = mod-pow-add n 1 k in
-    ap count_ones split
-    ∙ (ones_cat k (bit_at n k) (n % 2 ^ k) (mod_below n (2 ^ k) (pow_pos k))
-    ∙ ap (λ b. b + count_ones (n % 2 ^ k)) (ones_of_bit (bit_at n k) (bit_at-lt n k)))
-
--- no more bits are set than there are
-ones_below_few : (n k : ℕ) → count_ones (n % 2 ^ k) ≤ k
-ones_below_few n zero =
-    let none : n % 2 ^ 0 ≡ 0 = omega arith in
-    omega (arith, ap count_ones none, no_ones)
-ones_below_few n (suc k) =
-    let next : suc k ≡ 1 + k = omega arith in
-    omega (arith, ap (λ i. count_ones (n % 2 ^ i)) next, ones_more n k, bit_at-lt n k, ones_below_few n k)
-
--- of 64 bits at most 64 are set
-pub ones_few : (n : ℕ) → n < 2 ^ 64 → count_ones n ≤ 64
-ones_few n h = omega (arith, ap count_ones (mod-eq_of_lt h), ones_below_few n 64)
-
--- the code's mask
-pub below_mask : (n k : ℕ) → k < 64 → bit_and n (1 * 2 ^ k % 18446744073709551616 - 1) ≡ n % 2 ^ k
-below_mask n k h =
-    let small : 2 ^ k < 2 ^ 64 = pow-lt h in
-    let one : 1 * 2 ^ k ≡ 2 ^ k = omega arith in
-    ap (λ m. bit_and n (m % 18446744073709551616 - 1)) one
-    ∙ (ap (λ m. bit_and n (m - 1)) (mod-eq_of_lt small) ∙ and_mask n k)
 
 -- ---- ranks by bits
 

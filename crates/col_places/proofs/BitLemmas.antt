@@ -1,25 +1,14 @@
 -- Bits of words, and how many are set before one.
 use Rattle.std.proofs.Common.{◌≡◌, ◌≢◌, ℕ, zero, suc, ◌+◌, ◌-◌, ◌*◌, ◌/◌, ◌%◌, ◌^◌, ◌<◌, ◌≤◌, Bool, true, false, cond, eqb, List, length, get_or, set, bit_and, bit_or, count_ones, refl, sym, ap, ◌∙◌, arith, mod-eq_of_lt}
 use Rattle.std.specs.Int.{bit_at}
-use Rattle.std.specs.Int.Count.{ones_step}
-use Rattle.std.proofs.Math.Pow.{pow-lt}
-use Rattle.std.proofs.lemmas.Nat.{ones_cat, ones_le_self, and_mask, mod-pow-add, mod_below, pow_pos}
 use Rattle.std.proofs.lemmas.Nat.Bits.{bit_at-lt}
 use Rattle.std.proofs.lemmas.List.{get_or-set_same, get_or-set_other, get_or_default}
 use Rattle.col_common.specs.Flags.{flag_at, flags_of}
-use Rattle.col_common.proofs.FlagLemmas.{length-flags, flag-is, flag_read, flags_put}
+use Rattle.col_common.proofs.FlagLemmas.{length-flags, flag-is, flags_put}
+use Rattle.col_common.proofs.OnesLemmas.{no_ones, tested_bit, ones_more, below_mask}
 use Rattle.col_places.specs.Bits.{set_below}
 
 -- ---- one bit
-
--- a bit, as the code reads it
-pub bit-read : (words : List ℕ) (row : ℕ) → row < 64 * length words
-    → eqb (bit_and (get_or words (row / 64) 0 / 2 ^ (row % 64)) 1) 1 ≡ flag_at words row
-bit-read words row within =
-    let n : ℕ = 64 * length words in
-    let word : ℕ = get_or words (row / 64) 0 in
-    flag_read words n row word (flags_of words n) refl within (omega arith) (get_or_default words (row / 64) 0 word (omega arith))
-    ∙ flag-is words n row within
 
 -- the bits where one is set
 module _ (words : List ℕ) (row : ℕ) (within : row < 64 * length words) where
@@ -45,38 +34,6 @@ module _ (words : List ℕ) (row : ℕ) (within : row < 64 * length words) where
       sym (flag-is put (64 * length words) k inside) ∙ ap (λ fs. get_or fs k false) put_is
       ∙ get_or-set_other (flags_of words (64 * length words)) row k true false other
       ∙ flag-is words (64 * length words) k inside
-
--- ---- bits of a word
-
--- a number of one bit
-no_ones : count_ones 0 ≡ 0
-no_ones = omega (arith, ones_le_self 0)
-
-ones_of_bit : (b : ℕ) → b < 2 → count_ones b ≡ b
-ones_of_bit zero h = no_ones
-ones_of_bit (suc zero) h = omega (arith, ones_step 1, no_ones)
-ones_of_bit (suc (suc b)) h = absurd (omega arith)
-
-tested_bit : (b : ℕ) → b < 2 → cond (eqb b 1) 1 0 ≡ b
-tested_bit zero h = refl
-tested_bit (suc zero) h = refl
-tested_bit (suc (suc b)) h = absurd (omega arith)
-
--- one bit more
-ones_more : (n k : ℕ) → count_ones (n % 2 ^ (1 + k)) ≡ bit_at n k + count_ones (n % 2 ^ k)
-ones_more n k =
-    let split : n % 2 ^ (1 + k) ≡ bit_at n k * 2 ^ k + n % 2 ^ k = mod-pow-add n 1 k in
-    ap count_ones split
-    ∙ (ones_cat k (bit_at n k) (n % 2 ^ k) (mod_below n (2 ^ k) (pow_pos k))
-    ∙ ap (λ b. b + count_ones (n % 2 ^ k)) (ones_of_bit (bit_at n k) (bit_at-lt n k)))
-
--- the code's mask
-below_mask : (n k : ℕ) → k < 64 → bit_and n (1 * 2 ^ k % 18446744073709551616 - 1) ≡ n % 2 ^ k
-below_mask n k h =
-    let small : 2 ^ k < 2 ^ 64 = pow-lt h in
-    let one : 1 * 2 ^ k ≡ 2 ^ k = omega arith in
-    ap (λ m. bit_and n (m % 18446744073709551616 - 1)) one
-    ∙ (ap (λ m. bit_and n (m - 1)) (mod-eq_of_lt small) ∙ and_mask n k)
 
 -- ---- how many are set
 

@@ -69,10 +69,6 @@ pub record Drops (ids : List ℕ) (first : ℕ) (old : List ℕ) (row place left
   pub count : left ≡ length (clear_rows now row)
   pub same : (k : ℕ) → row ≤ k → k < 64 * length old → flag_at now k ≡ flag_at old k
 
--- none was looked at
-pub drops_none : (ids : List ℕ) (first : ℕ) (old : List ℕ) → Drops ids first old 0 first 0 old
-drops_none ids first old = record { long = refl; next = omega arith; rows = refl; count = refl; same = λ k le lt. refl }
-
 module _ (ids : List ℕ) (first : ℕ) (old : List ℕ) (row place left : ℕ) (now : List ℕ) (was : Drops ids first old row place left now)
     (within : row < 64 * length old) where
   is_old : (b : Bool) → flag_at now row ≡ b → flag_at old row ≡ b

@@ -3,7 +3,8 @@ use Rattle.col_common.specs.Ascending.{is_rising}
 use Rattle.col_model.specs.Positions.{rank}
 use Rattle.col_index.specs.Ranks.{AreCounts, HasFlags}
 use Rattle.col_index.proofs.SearchLemmas.{rank_of_zero}
-use Rattle.col_index.proofs.RankWordLemmas.{whole_word, ones_few}
+use Rattle.col_common.proofs.OnesLemmas.{ones_few}
+use Rattle.col_index.proofs.RankWordLemmas.{whole_word}
 use Rattle.col_index.proofs.PartLemmas.{table_none, table_more}
 use Rattle.col_index.proofs.rank_words.count_before.Goals as goal
 
