@@ -1,0 +1,20 @@
+//! Documents: objects in JSON as fields with their values. Contracts see what a line says by the
+//! definition.
+#![tactic(auto)]
+
+mod address;
+mod document;
+mod field;
+mod form;
+mod number;
+mod refusal;
+mod scalar;
+mod time;
+
+pub use document::read_document;
+pub use field::Field;
+pub use form::Form;
+pub use refusal::{DocumentError, Reason, Refusal};
+
+#[cfg(test)]
+mod tests;
