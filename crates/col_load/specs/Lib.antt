@@ -1,0 +1,4 @@
+pub mod Loads
+pub mod Rows
+pub mod Loading
+pub mod Files
