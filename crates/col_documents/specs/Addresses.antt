@@ -10,7 +10,8 @@ use Rattle.col_documents.specs.declared.refusal.Reason.TheVariants as reasons
 
 -- the address of eight segments of 16 bits
 abbrev pub address_of : List ℕ → Taken
-address_of segments = Ok (types.ip, cells.number (pos (number_from_digits 256 (octets_of segments))))
+address_of segments =
+    Ok (types.ip, cells.number (pos (number_from_digits 256 (octets_of segments))))
 
 -- the segments of ::ffff:a.b.c.d
 abbrev pub mapped : List ℕ → List ℕ

@@ -1,6 +1,6 @@
 //! Documents by examples.
 
-use crate::{DocumentError, Field, Form, Reason, read_document};
+use crate::{DocumentError, Field, Form, read_document};
 use json::Scratch;
 use std::alloc::Global;
 use std::test::Fail;
