@@ -1,5 +1,5 @@
 -- Files of documents.
-use Rattle.std.proofs.Common.{◌≡◌, Option, Some, None, Result, Ok, Err, refl, sym, ap, ◌∙◌, subst, inl, inr, ◌⊎◌}
+use Rattle.std.proofs.Common.{◌≡◌, Result, Ok, Err, refl, ap, ◌∙◌, subst, inl, inr}
 use Rattle.col_common.specs.Outside.{SeenSink}
 use Rattle.col_common.specs.declared.error.ColumnarError.{ColumnarError}
 use Rattle.col_common.specs.declared.error.ColumnarError.TheVariants as answers
@@ -7,7 +7,7 @@ use Rattle.col_model.specs.Refusal.{Refusal}
 use Rattle.col_model.specs.Refusal as refusals
 use Rattle.col_model.specs.Table.{Table}
 use Rattle.col_writer_columns.specs.Answers.{answer_of}
-use Rattle.col_writer_file.specs.Tables.{WritesFile, WritesTable}
+use Rattle.col_writer_file.specs.Tables.{WritesTable}
 use Rattle.col_load.specs.Files.{error_of, Tells, AddsFile, LoadsFile}
 use Rattle.col_load.specs.Loads.{Stop, no_table, or_no_table}
 use Rattle.col_load.specs.declared.load_error.LoadError.{LoadError}

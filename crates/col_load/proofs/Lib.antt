@@ -2,6 +2,8 @@ pub mod RecordLemmas
 pub mod RowLemmas
 pub mod LineLemmas
 pub mod TakenLemmas
+pub mod BlockLemmas
+pub mod ReadLemmas
 pub mod FileLemmas
-pub mod TextLemmas
 pub mod LoadedLemmas
+pub mod SourceLemmas

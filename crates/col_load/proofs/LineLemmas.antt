@@ -1,14 +1,12 @@
 -- Lines that are taken one behind another.
-use Rattle.std.proofs.Common.{◌≡◌, ◌+◌, ◌<◌, ◌≤◌, ◌^◌, ℕ, suc, Bool, true, false, List, [], ◌∷◌, ◌++◌, length, Result, Ok, Err, refl, sym, ap, ◌∙◌, subst, arith, append-nil, append_assoc, if◌then◌else◌}
+use Rattle.std.proofs.Common.{◌≡◌, ◌+◌, ◌<◌, ◌≤◌, ◌^◌, ℕ, suc, Bool, true, false, List, [], ◌∷◌, ◌++◌, length, Result, Ok, Err, refl, sym, ap, ◌∙◌, arith, append-nil, append_assoc, if◌then◌else◌, cond}
 use Rattle.std.specs.Prelude.{nat_le}
+use Rattle.std.specs.List.{count_by}
 use Rattle.std.proofs.lemmas.Bool.Decides.{nat_tests}
-use Rattle.std.proofs.lemmas.List.{length-append}
+use Rattle.std.proofs.lemmas.List.Sums.{sum_by_push}
 use Rattle.col_documents.specs.Documents.{Fields, Refusal, fields_of}
 use Rattle.col_documents.specs.Forms.{Forms}
-use Rattle.col_load.specs.Loads.{Document, Stop, bad_line, too_many, is_blank, document_in, line_documents, both, documents_from}
-use Rattle.col_load.specs.Loading.{HasTaken, TakesLine, forms_of, IsStop}
-use Rattle.col_load.specs.Rows.{HasDocuments}
-use Rattle.col_load.specs.declared.loader.Loader.{Loader}
+use Rattle.col_load.specs.Loads.{Document, Stop, bad_line, too_many, is_blank, is_bad, is_refused, document_in, line_documents, both, documents_from}
 
 -- ---- one line
 
@@ -43,7 +41,25 @@ bad_in skips number r is = ap (λ b. document_in b number (Err r)) is
 pub bad_out : (skips : Bool) (number : ℕ) (r : Refusal) → skips ≡ false → document_in skips number (Err r) ≡ Err (bad_line number r)
 bad_out skips number r is = ap (λ b. document_in b number (Err r)) is
 
+-- whether a line is bad
+pub bad_blank : (forms : Forms) (line : List ℕ) → is_blank line ≡ true → is_bad forms line ≡ false
+bad_blank forms line blank = ap (λ b. if b then false else is_refused (fields_of forms line)) blank
+
+pub bad_full : (forms : Forms) (line : List ℕ) (fields : Fields) → is_blank line ≡ false → fields_of forms line ≡ fields
+    → is_bad forms line ≡ is_refused fields
+bad_full forms line fields blank is =
+    ap (λ b. if b then false else is_refused (fields_of forms line)) blank ∙ ap is_refused is
+
 -- ---- lines behind others
+
+-- how many lines are bad, with a line more
+pub bad_more : (forms : Forms) (lines : List (List ℕ)) (line : List ℕ) (bad : Bool) → is_bad forms line ≡ bad
+    → count_by (is_bad forms) (lines ++ line ∷ []) ≡ (if bad then count_by (is_bad forms) lines + 1 else count_by (is_bad forms) lines)
+bad_more forms lines line true is =
+    sum_by_push (λ l. cond (is_bad forms l) 1 0) lines line ∙ ap (λ b. count_by (is_bad forms) lines + cond b 1 0) is
+bad_more forms lines line false is =
+    let none : count_by (is_bad forms) lines + 0 ≡ count_by (is_bad forms) lines = omega arith in
+    sum_by_push (λ l. cond (is_bad forms l) 1 0) lines line ∙ ap (λ b. count_by (is_bad forms) lines + cond b 1 0) is ∙ none
 
 both-both : (a b c : Result (List Document) Stop) → both a (both b c) ≡ both (both a b) c
 both-both (Ok ds) (Ok es) (Ok fs) = ap Ok (sym (append_assoc ds es fs))

@@ -1,13 +1,12 @@
 -- Texts that were loaded, or stopped.
-use Rattle.std.proofs.Common.{◌≡◌, ◌==◌, ℕ, Bool, List, [], Result, Ok, Err, refl, sym, ap, ◌∙◌, subst, inl}
-use Rattle.std.specs.List.{slice_split}
+use Rattle.std.proofs.Common.{◌≡◌, ℕ, Bool, List, [], Result, Ok, Err, refl, sym, ap, ◌∙◌, subst, inl}
 use Rattle.col_common.specs.Outside.{SeenSink}
 use Rattle.col_documents.specs.Documents.{Field}
 use Rattle.col_documents.specs.Forms.{Forms}
 use Rattle.col_documents.specs.Read.{refusal_read}
 use Rattle.col_model.specs.Table.{Table}
 use Rattle.col_load.specs.Files.{LoadsFile}
-use Rattle.col_load.specs.Loads.{Document, Stop, bad_line, too_many, documents_from, documents_of, table_of_documents, table_of_read, table_of_lines}
+use Rattle.col_load.specs.Loads.{Document, Stop, bad_line, too_many, lines_of, documents_from, documents_of, table_of_documents, table_of_read, table_of_lines}
 use Rattle.col_load.specs.Loading.{HasTaken, IsStop, forms_of}
 use Rattle.col_load.specs.Rows.{HasDocuments}
 use Rattle.col_load.specs.declared.load_error.LoadError.{LoadError}
@@ -41,11 +40,11 @@ module _ (forms : Forms) (skips : Bool) (text : List ℕ) where
 
   -- the documents of a loader that took all lines
   pub loaded : (a b : SeenSink) (result : Result (Unit {0}) LoadError) (loader : Loader) → forms_of loader ≡ forms → loader.skips ≡ skips
-      → HasTaken (slice_split (λ b. b == 10) text) loader
+      → HasTaken (lines_of text) loader
       → ((docs : List (List Field)) → HasDocuments docs loader.rows → LoadsFile a b result (table_of_documents docs))
       → LoadsFile a b result (table_of_lines forms skips text)
   loaded a b result loader same kept taken writes =
-      let lines = slice_split (λ b. b == 10) text in
+      let lines = lines_of text in
       subst (LoadsFile a b result) (sym (by-read (Ok taken.docs) (ap (λ fs. documents_from fs skips 1 lines) (sym same)
       ∙ ap (λ s. documents_from (forms_of loader) s 1 lines) (sym kept) ∙ taken.read)))
       (writes taken.docs taken.rows)

@@ -1,5 +1,5 @@
 -- Documents that are recorded one behind another.
-use Rattle.std.proofs.Common.{◌≡◌, ◌+◌, ◌<◌, ◌≤◌, ℕ, zero, suc, min, Bool, true, false, List, [], ◌∷◌, ◌++◌, map, length, Option, Some, None, Result, Ok, Err, refl, sym, ap, ◌∙◌, subst, arith, append-nil, append_assoc, ◌⊎◌, inl, inr}
+use Rattle.std.proofs.Common.{◌≡◌, ◌+◌, ◌<◌, ◌≤◌, ℕ, suc, true, false, List, [], ◌∷◌, ◌++◌, length, Option, Some, None, Result, Ok, Err, refl, sym, ap, ◌∙◌, subst, arith, append-nil, append_assoc, ◌⊎◌, inl, inr}
 use Rattle.std.specs.Prelude.{nat_lt, is_some}
 use Rattle.std.proofs.lemmas.Bool.{cases_lt}
 use Rattle.std.proofs.lemmas.Bool.Decides.{nat_tests}
@@ -8,8 +8,7 @@ use Rattle.col_common.specs.declared.error.ColumnarError.{ColumnarError}
 use Rattle.col_model.specs.Recording.{Call, content_after, content_after_all}
 use Rattle.col_model.specs.Refusal.{Refusal, ◌>>=◌}
 use Rattle.col_model.specs.Written.{Recorded}
-use Rattle.col_documents.specs.Documents.{Field}
-use Rattle.col_load.specs.Loads.{Document, call_at, calls_at, calls_from, max_documents}
+use Rattle.col_load.specs.Loads.{Document, calls_at, calls_from, max_documents}
 use Rattle.col_load.specs.Rows.{IsRecorded, HasDocuments}
 use Rattle.col_load.specs.declared.rows.Rows.{Rows}
 

@@ -1,6 +1,6 @@
 -- Documents in lines, and their table. States docs/RULES.md, Documents.
 use Rattle.std.specs.Prelude.{ℕ, ◌+◌, ◌^◌, ◌==◌, ◌||◌, nat_le, nat_lt, Bool, true, false, List, [], ◌∷◌, ◌++◌, map, length, None, Result, Ok, Err, if◌then◌else◌}
-use Rattle.std.specs.List.{list_all, slice_split}
+use Rattle.std.specs.List.{list_all, slice_split, count_by}
 use Rattle.col_documents.specs.Documents.{Field, Fields, Refusal, fields_of}
 use Rattle.col_documents.specs.Forms.{Forms}
 use Rattle.col_model.specs.Recording.{Call, recorded, content_after_all}
@@ -55,9 +55,26 @@ documents_from forms skips number [] = Ok []
 documents_from forms skips number (line ∷ lines) =
     both (line_documents forms skips number line) (documents_from forms skips (number + 1) lines)
 
+-- the lines of a text, between its line feeds
+abbrev pub lines_of : List ℕ → List (List ℕ)
+lines_of bytes = slice_split (λ b. b == 10) bytes
+
 -- the documents of a text
 abbrev pub documents_of : Forms → Bool → List ℕ → Result (List Document) Stop
-documents_of forms skips bytes = documents_from forms skips 1 (slice_split (λ b. b == 10) bytes)
+documents_of forms skips bytes = documents_from forms skips 1 (lines_of bytes)
+
+-- whether fields were refused
+abbrev pub is_refused : Fields → Bool
+is_refused (Ok fields) = false
+is_refused (Err refusal) = true
+
+-- whether the line is a bad one: not blank, and no document
+abbrev pub is_bad : Forms → List ℕ → Bool
+is_bad forms line = if is_blank line then false else is_refused (fields_of forms line)
+
+-- how many lines there are, and how many of them are bad: where there is a table, these are skipped
+abbrev pub counts_of_lines : Forms → List (List ℕ) → ℕ × ℕ
+counts_of_lines forms lines = (length lines, count_by (is_bad forms) lines)
 
 -- the record call of a field of document d
 abbrev pub call_at : ℕ → Field → Call

@@ -1,5 +1,5 @@
 -- What was recorded of documents.
-use Rattle.std.specs.Prelude.{◌≡◌, ℕ, ◌≤◌, min, nat_lt, Bool, false, List, [], length, Option, Some, None, Result, Ok, Err}
+use Rattle.std.specs.Prelude.{◌≡◌, ◌≤◌, min, nat_lt, List, [], length, Option, Some, None, Ok, Err}
 use Rattle.col_common.specs.declared.error.ColumnarError.{ColumnarError}
 use Rattle.col_model.specs.Recording.{Call, content_after_all}
 use Rattle.col_model.specs.Refusal.{Refusal}
