@@ -53,8 +53,8 @@ abbrev pub AddsNothing : SeenSink → SeenSink → Result (Unit {0}) LoadError �
 AddsNothing a b result = (b ≡ a) × (result ≡ Err (Columnar answers.ReadFault))
 
 -- The file of the lines of a source was added, and Ok tells how many lines there are and how many
--- of them are bad, which were skipped. The source was then read to its end. Faults of the source
--- and of the sink are told where their counts rose, and there alone.
+-- of them are bad, which were skipped. The source was then read to its end. A fault of the
+-- source or of the sink is told only where its count rose.
 pub record LoadsSource (left left' : Told) (before now : ℕ) (a b : SeenSink) (forms : Forms)
     (skips : Bool) (result : Result (ℕ × ℕ) LoadError) : Type 0 where
   pub file : IfSome left (λ text.

@@ -1,0 +1,11 @@
+pub mod FirstLemmas
+pub mod PlaceLemmas
+pub mod CutLemmas
+pub mod SumLemmas
+pub mod BarLemmas
+pub mod EndLemmas
+pub mod SeenLemmas
+pub mod TermLemmas
+pub mod NumberLemmas
+pub mod DrawnLemmas
+pub mod ValuedLemmas
