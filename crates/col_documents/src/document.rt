@@ -211,8 +211,8 @@ fn push_item(
     }
 }
 
-// Puts a field behind others, if its value was taken.
-fn push_field(
+/// Puts a field behind others, if its value was taken.
+pub fn push_field(
     path: String,
     taken: Result<TypedValue, ValueError>,
     fields: &mut Vec<Field>,

@@ -11,10 +11,11 @@ mod refusal;
 mod scalar;
 mod time;
 
-pub use document::read_document;
+pub use document::{push_field, read_document};
 pub use field::Field;
-pub use form::Form;
-pub use refusal::{DocumentError, Reason, Refusal};
+pub use form::{Form, form_of};
+pub use refusal::{DocumentError, Reason, Refusal, ValueError};
+pub use scalar::{number_in, text_in};
 
 #[cfg(test)]
 mod tests;

@@ -11,7 +11,7 @@ pub enum Reason {
     Json,
     /// The line is no object.
     Object,
-    /// The name has a zero byte.
+    /// The name has a zero byte, or isn't UTF-8.
     Name,
     /// The value stands in an array, and is an array or an object.
     Nested,
@@ -22,6 +22,10 @@ pub enum Reason {
     TooLarge,
     /// The value isn't of its form.
     Form,
+    /// The text isn't UTF-8.
+    Text,
+    /// The record has more or fewer fields than the first one.
+    Width,
 }
 
 /// The path of a field whose value isn't taken, with the reason; the path is empty where the line
@@ -57,7 +61,7 @@ impl<T: Drop> From<AllocFailed<T>> for DocumentError {
 
 /// Why a value isn't read.
 #[derive(Clone, Copy, Debug)]
-pub(crate) enum ValueError {
+pub enum ValueError {
     OutOfMemory,
     Refused(Reason),
 }

@@ -1,0 +1,11 @@
+mod PlaceLemmas
+mod ReaderLemmas
+mod HeaderLemmas
+mod RowLemmas
+mod SightLemmas
+mod RecordLemmas
+mod KindLemmas
+mod PartLemmas
+mod TakingLemmas
+mod LoadedLemmas
+mod ValueLemmas

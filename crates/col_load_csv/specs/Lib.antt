@@ -1,0 +1,9 @@
+pub mod Kinds
+pub mod Columns
+pub mod Documents
+pub mod Seen
+pub mod Sights
+pub mod Read
+pub mod Readers
+pub mod Taking
+pub mod Headed
