@@ -6,6 +6,7 @@ ghost use Rattle.col_common.specs.Causes.{HasCause, Rose};
 ghost use Rattle.col_common.specs.declared.outside.HandleError.TheVariants as HandleError;
 
 use crate::ending::Ending;
+use crate::progress::Progress;
 use col_common::{ColumnarError, HandleError, Source, StdSource};
 use std::alloc::Global;
 use std::rt::Stdin;
@@ -26,6 +27,7 @@ pub struct Inputs<'a> {
     // Each that was begun, with how many lines had ended before it.
     begun: Vec<(&'a str, u64)>,
     unread: Option<Ending>,
+    progress: Progress<'a>,
     faults: u64,
 }
 
@@ -46,8 +48,14 @@ impl<'a> Inputs<'a> {
             lines: 0,
             begun: Vec::new(rt.alloc()),
             unread: None,
+            progress: Progress::new(rt, names),
             faults: 0,
         }
+    }
+
+    /// Nothing more is read, and nothing more told of it.
+    pub fn end(&mut self) {
+        self.progress.end();
     }
 
     /// How many lines have ended.
@@ -151,6 +159,7 @@ impl<'a> Inputs<'a> {
     {
         let ended = bytes.iter().filter(|byte| **byte == b'\n').count();
         self.lines = self.lines.saturating_add(ended as u64);
+        self.progress.step(bytes.len(), self.lines);
     }
 
     // What is said where the last input that was begun can't be read.

@@ -89,7 +89,9 @@ fn load_from<K: Sink>(
     inputs: &mut Inputs<'_>,
     output: &mut K,
 ) -> Result<(u64, u64), Ending> {
-    match col_load::load(rt.alloc(), forms, skips, inputs, output) {
+    let loaded = col_load::load(rt.alloc(), forms, skips, inputs, output);
+    inputs.end();
+    match loaded {
         Ok(counts) => Ok((inputs.lines(), counts.skipped())),
         Err(error) => Err(ending_of(rt, forms, inputs, error)),
     }

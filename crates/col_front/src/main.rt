@@ -14,6 +14,7 @@ mod load;
 mod load_csv;
 mod look;
 mod page;
+mod progress;
 mod refusals;
 mod rows;
 mod shown;
