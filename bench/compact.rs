@@ -107,7 +107,7 @@ fn take_vint(data: &mut &[u8]) -> u128 {
 }
 
 // A list of codes, read in place, with its ranges.
-pub struct Codes { packed: Packed, ranges: Vec<Range>, count: usize }
+pub struct Codes { pub packed: Packed, pub ranges: Vec<Range>, pub count: usize }
 
 impl Codes {
     pub fn open(mut bytes: &'static [u8]) -> Codes {
