@@ -5,7 +5,7 @@ use crate::inputs::unread;
 use crate::refusals::refusal_text;
 use col_common::Sink;
 use col_documents::{Form, Reason, Refusal};
-use col_load::{LineCounts, LoadError};
+use col_load::LoadError;
 use csv::{ByteRecord, ReaderBuilder};
 use std::alloc::{AllocError, Global};
 use std::io::Read;

@@ -7,7 +7,7 @@ use Rattle.col_index.specs.RunPlaces.{Follow}
 use Rattle.col_index.specs.declared.row_by_row.RowByRow.{RowByRow}
 use Rattle.col_index.specs.declared.row_by_row.RowByRow.TheVariants.{Listed, ByOffsets}
 use Rattle.col_index.specs.declared.walked_rows.WalkedRows.{WalkedRows}
-use Rattle.col_index.specs.declared.walked_rows.WalkedRows.TheVariants.{OneByOne, OfRuns}
+use Rattle.col_index.specs.declared.walked_rows.WalkedRows.TheVariants.{OfListed, OfOffsets, OfRuns}
 
 -- the rows that are found one by one
 abbrev pub rows_found : RowByRow → List ℕ
@@ -16,7 +16,8 @@ rows_found (ByOffsets i) = rows_with_value (differences i.now)
 
 -- the rows that are walked
 abbrev pub rows_walked : WalkedRows → List ℕ
-rows_walked (OneByOne rows) = rows_found rows
+rows_walked (OfListed rows) = rows.now.rows
+rows_walked (OfOffsets i) = rows_with_value (differences i.now)
 rows_walked (OfRuns runs) = runs.now.rows
 
 -- so many of the rows stand before a number of 32 bits

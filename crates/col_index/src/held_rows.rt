@@ -74,6 +74,7 @@ impl HeldRows {
     }
 
     /// How many rows before a row have a value, out of line.
+    #[cold]
     #[inline(never)]
     pub fn far_rank(&self, row_id: RowId) -> RowId
         ensures { result ≡ rank (set_held self.now).rows row_id }

@@ -107,7 +107,7 @@ impl ListedRows {
     pub(crate) fn contains(&self, row_id: RowId) -> bool
         ensures { result ≡ holds self.now.rows row_id }
     {
-        self.holds_at(self.rank(row_id), row_id)
+        self.rank_if_exists(row_id).is_some()
     }
 
     /// How many rows before a row have a value.

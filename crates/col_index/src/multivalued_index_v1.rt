@@ -140,6 +140,7 @@ impl MultiValueIndexV1 {
     }
 
     /// The first row with a value from a row on, and where its values end.
+    #[inline(always)]
     pub(crate) fn next_run(&self, from: DocId) -> Option<(RowId, RowId)>
         ensures row { option_map (λ r. r.0) result
             ≡ slice_get (rows_with_value (differences self.now))
@@ -161,6 +162,7 @@ impl MultiValueIndexV1 {
 
     /// Where the values of the row with a rank end, and the row behind it. The row is looked for
     /// from a number on, unless that is 0.
+    #[inline(always)]
     pub(crate) fn end_at(&self, place: u64, from: DocId) -> Option<(DocId, RowId)>
         requires { IsHint32 (rows_with_value (differences self.now)) from place }
         ensures end { option_map (λ r. r.1) result
@@ -177,6 +179,7 @@ impl MultiValueIndexV1 {
     }
 
     // A row before which so many rows with a value stand, or all where there are fewer.
+    #[inline(never)]
     fn first_from(&self, place: u64, from: DocId) -> DocId
         requires { IsHint32 (rows_with_value (differences self.now)) from place }
         ensures { rank (rows_with_value (differences self.now)) result
@@ -196,7 +199,9 @@ impl MultiValueIndexV1 {
         behind
     }
 
-    /// The first row with a value that isn't before a target.
+    /// The first row with a value that isn't before a target. Out of line it writes no memory, so
+    /// that a loop that may call it needn't ask anew what it knows.
+    #[inline(never)]
     pub(crate) fn next_non_null_doc(&self, target: DocId) -> Option<DocId>
         ensures { result ≡ next_row (rows_with_value (differences self.now)) target }
     {

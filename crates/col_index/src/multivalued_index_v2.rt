@@ -207,7 +207,7 @@ impl MultiValueIndexV2 {
         ensures start { result.start ≡ (range_if_any (offset_counts self.now) doc_id).0 }
         ensures end { result.end ≡ (range_if_any (offset_counts self.now) doc_id).1 }
     {
-        match self.optional_index.rank_if_exists(doc_id) {
+        match self.optional_index.rank_by_bits(doc_id) {
             Some(rank) => self.range_at(rank),
             None => 0..0,
         }

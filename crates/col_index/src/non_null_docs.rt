@@ -35,7 +35,7 @@ impl<'a> NonNullDocs<'a> {
         ensures { result ≡ rows.now.rows }
     {
         NonNullDocs {
-            rows: WalkedRows::OneByOne(RowByRow::Listed(rows)),
+            rows: WalkedRows::OfListed(rows),
         }
     }
 
@@ -54,7 +54,7 @@ impl<'a> NonNullDocs<'a> {
         ensures { result ≡ rows_with_value (differences index.now) }
     {
         NonNullDocs {
-            rows: WalkedRows::OneByOne(RowByRow::ByOffsets(index)),
+            rows: WalkedRows::OfOffsets(index),
         }
     }
 }
@@ -76,7 +76,8 @@ impl Iterable<DocId> for NonNullDocs<'_> {
     #[inline(always)]
     fn next(&self, at: &mut Walk) -> Option<DocId> {
         match self.rows {
-            WalkedRows::OneByOne(rows) => rows.next_row(at),
+            WalkedRows::OfListed(rows) => RowByRow::Listed(rows).next_row(at),
+            WalkedRows::OfOffsets(index) => RowByRow::ByOffsets(index).next_row(at),
             WalkedRows::OfRuns(runs) => runs.next_row(at),
         }
     }

@@ -55,7 +55,7 @@ impl OptionalIndex {
 
 // Appends those of the documents that are rows with a value, and their ranks, as far as memory
 // reaches.
-#[inline(always)]
+#[inline(never)]
 fn push_ranks_by<R: RankNear>(
     rows: &R,
     docs: &[DocId],

@@ -44,8 +44,9 @@ impl RowRuns {
         self.enter_run(at)
     }
 
-    // Puts a walk into the run with the row of its rank, if there is one.
-    #[inline(never)]
+    // Puts a walk into the run with the row of its rank, if there is one. A call would hold walks in
+    // memory.
+    #[inline(always)]
     fn enter_run(&self, at: &mut Walk) -> bool
         requires { IsWalkOfRows self.now.rows at.old }
         ensures stands { IsWalkOfRows self.now.rows at.new }

@@ -1,10 +1,12 @@
 //! Indexes whose rows with a value are walked.
-use crate::row_by_row::RowByRow;
+use crate::listed_rows::ListedRows;
+use crate::multivalued_index_v1::MultiValueIndexV1;
 use crate::row_runs::RowRuns;
 
-/// Rows with a value that are found one by one, or in runs.
+/// Rows with a value in a list, by the start offsets of all rows, or in runs.
 #[derive(Clone, Copy)]
 pub(crate) enum WalkedRows<'a> {
-    OneByOne(RowByRow<'a>),
+    OfListed(&'a ListedRows),
+    OfOffsets(&'a MultiValueIndexV1),
     OfRuns(&'a RowRuns),
 }

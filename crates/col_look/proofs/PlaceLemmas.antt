@@ -1,10 +1,10 @@
 -- Places of ranges of one width.
 use Rattle.std.proofs.Common.{◌≡◌, ℕ, zero, suc, ◌+◌, ◌-◌, ◌*◌, ◌/◌, ◌<◌, ◌≤◌, ◌==◌, nat_le, Bool, true, false, ◌&&◌, List, [], ◌∷◌, take, drop, refl, sym, ap, arith}
 use Rattle.std.specs.List.{AllByRecursion}
-use Rattle.std.proofs.Math.Nat.{mul_comm, suc-mul, le-div_iff_mul-le, div-lt_iff_lt-mul}
+use Rattle.std.proofs.Math.Nat.{suc-mul, le-div_iff_mul-le, div-lt_iff_lt-mul}
 use Rattle.std.proofs.lemmas.Bool.{and_parts, and_from, leb-true, le-leb, eqb-true, eq-eqb}
-use Rattle.std.proofs.lemmas.Nat.{le-div, div_below, mul-le}
-use Rattle.col_look.specs.Bars.{bar_width, bar_start, bar_end}
+use Rattle.std.proofs.lemmas.Nat.{le-div, div_below}
+use Rattle.col_look.specs.Bars.{bar_start, bar_end}
 
 -- tests that imply each other are one
 same-test : (s t : Bool) → (s ≡ true → t ≡ true) → (t ≡ true → s ≡ true) → s ≡ t
@@ -43,20 +43,6 @@ pub quotients-rise : (e d w : ℕ) → 0 < w → e ≤ d → e / w < suc (d / w)
 quotients-rise e d w wide le =
     let most : d < suc (d / w) * w = (div-lt_iff_lt-mul wide).0 (omega arith) in
     div_below e w (suc (d / w)) wide (omega (arith, most, le))
-
--- so many bars at most have the least width with which they reach over a distance
-pub bars-few : (count d : ℕ) → 0 < count → d / bar_width count d < count
-bars-few count d some =
-    let far : d < suc (d / count) * count = (div-lt_iff_lt-mul some).0 (omega arith) in
-    div_below d (bar_width count d) count (omega arith) (omega (arith, far, turned count (suc (d / count))))
-  where
-    turned : (a b : ℕ) → a * b ≡ b * a
-    turned a b = mul_comm a b
-
--- where there are several bars, a distance leaves room for their width
-pub width-fits : (count d : ℕ) → 1 < count → 0 < d → d / count < d
-width-fits count d several some =
-    div_below d count d (omega (arith, several)) (omega (arith, some, several, mul-le d 2 d count (omega arith) several))
 
 -- ---- blocks
 
